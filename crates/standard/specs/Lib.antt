@@ -1,0 +1,7 @@
+pub mod Refusals
+pub mod Choice
+pub mod Bytes
+pub mod Bits
+pub mod Types
+pub mod Parts
+pub mod Serialize
