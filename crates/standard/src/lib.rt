@@ -92,6 +92,18 @@ impl Refusal {
     }
 }
 
+// A call that gives nothing but its refusal.
+pub enum Told {
+    Fine,
+    Refused(Refusal),
+}
+
+// A number that may be missing, as the port's stand-in for the source's optional ones.
+pub enum Maybe {
+    Just(usize),
+    Nothing,
+}
+
 // What stands for an item in the fixed portion of what holds it: so many bytes of its own, or an offset.
 pub enum Head {
     Fixed(usize),

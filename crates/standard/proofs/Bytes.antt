@@ -1,0 +1,101 @@
+-- Numbers in bytes: `le` and `num` undo one another, over any width. Assumes nothing.
+use mathlib.Core.Path.{_≡_, refl, sym, ap, _∙_}
+use mathlib.Core.List.{List, [], _∷_, _++_}
+use Prim.Native.Nat.{ℕ, zero, suc, _+_, _-_, _*_, _/_, _%_, _≤_, _<_, _^_}
+use native.Mathlib.Nat.{add-zero, pow-succ'}
+use native.Mathlib.Omega.{arith}
+use lib.ListN.{length, getD, take, drop, length-append, length-take, length-drop}
+use lib.Seq.{getD-drop, take-at}
+use Rattle.standard.specs.Bytes.{Bytes, le, num, numAt, four}
+
+-- Bytes of parts.
+pub bytes-drop : (p : ℕ) (b : List ℕ) → Bytes b → Bytes (drop p b)
+unfolding Bytes
+bytes-drop zero b h = h
+bytes-drop (suc p) [] h = tt
+bytes-drop (suc p) (x ∷ xs) h = bytes-drop p xs (h .1)
+
+pub bytes-take : (p : ℕ) (b : List ℕ) → Bytes b → Bytes (take p b)
+unfolding Bytes
+bytes-take zero b h = tt
+bytes-take (suc p) [] h = tt
+bytes-take (suc p) (x ∷ xs) h = (h .0, bytes-take p xs (h .1))
+
+pub bytes-append : (a b : List ℕ) → Bytes a → Bytes b → Bytes (a ++ b)
+unfolding Bytes
+bytes-append [] b h k = k
+bytes-append (x ∷ xs) b h k = (h .0, bytes-append xs b (h .1) k)
+
+-- Lengths and bounds.
+pub length-le : (w n : ℕ) → length (le w n) ≡ w
+unfolding le
+length-le zero n = refl
+length-le (suc w) n = ap suc (length-le w (n / 256))
+
+pub bytes-le : (w n : ℕ) → Bytes (le w n)
+unfolding le Bytes
+bytes-le zero n = tt
+bytes-le (suc w) n = (omega arith, bytes-le w (n / 256))
+
+pub num-bound : (l : List ℕ) → Bytes l → num l < 256 ^ length l
+unfolding num Bytes
+num-bound [] h = omega arith
+num-bound (x ∷ xs) h = rw (pow-succ' 256 (length xs)) (omega (arith, num-bound xs (h .1), h .0))
+
+-- There and back.
+low : (a m : ℕ) → a < 256 → (a + 256 * m) % 256 ≡ a
+low a m h = omega arith
+
+high : (a m : ℕ) → a < 256 → (a + 256 * m) / 256 ≡ m
+high a m h = omega arith
+
+pub le-num : (l : List ℕ) → Bytes l → le (length l) (num l) ≡ l
+unfolding Bytes num le
+le-num [] h = refl
+le-num (x ∷ xs) h = rw (low x (num xs) (h .0), high x (num xs) (h .0), le-num xs (h .1))
+
+pub num-le : (w n : ℕ) → n < 256 ^ w → num (le w n) ≡ n
+unfolding num le
+num-le zero n h = omega arith
+num-le (suc w) n h =
+    let k = rw (pow-succ' 256 w) at h in
+    let q : n / 256 < 256 ^ w = omega arith in
+    rw (num-le w (n / 256) q) (omega arith)
+
+-- Two lists of bytes of one length that say one number are equal.
+pub num-injective : (a b : List ℕ) → Bytes a → Bytes b → length a ≡ length b → num a ≡ num b → a ≡ b
+num-injective a b h k l e = sym (le-num a h) ∙ rw (l, e) (le-num b k)
+
+-- A number at a place.
+pub numAt-drop : (w : ℕ) (b : List ℕ) (p : ℕ) → numAt w (drop p b) 0 ≡ numAt w b p
+unfolding numAt
+numAt-drop w b p = refl
+
+pub le-numAt : (w : ℕ) (b : List ℕ) (p : ℕ) → Bytes b → p + w ≤ length b → le w (numAt w b p) ≡ take w (drop p b)
+unfolding numAt
+le-numAt w b p h k =
+    let l : length (take w (drop p b)) ≡ w = simp (length-take, length-drop) (omega arith) in
+    rw l at (le-num (take w (drop p b)) (bytes-take w (drop p b) (bytes-drop p b h)))
+
+pub numAt-le : (w n : ℕ) (xs : List ℕ) → n < 256 ^ w → numAt w (le w n ++ xs) 0 ≡ n
+unfolding numAt
+numAt-le w n xs h = rw (take-at (le w n) xs w (length-le w n)) (num-le w n h)
+
+pub numAt-bound : (w : ℕ) (b : List ℕ) (p : ℕ) → Bytes b → p + w ≤ length b → numAt w b p < 256 ^ w
+unfolding numAt
+numAt-bound w b p h k =
+    let l : length (take w (drop p b)) ≡ w = simp (length-take, length-drop) (omega arith) in
+    rw l at (num-bound (take w (drop p b)) (bytes-take w (drop p b) (bytes-drop p b h)))
+
+-- The four bytes of an offset, one by one; what is not there counts as 0.
+four-first : (b : List ℕ) → num (take 4 b) ≡ getD b 0 0 + 256 * getD b 1 0 + 65536 * getD b 2 0 + 16777216 * getD b 3 0
+unfolding num
+four-first [] = refl
+four-first (a ∷ []) = omega arith
+four-first (a ∷ b ∷ []) = omega arith
+four-first (a ∷ b ∷ c ∷ []) = omega arith
+four-first (a ∷ b ∷ c ∷ d ∷ xs) = omega arith
+
+pub four-bytes : (b : List ℕ) (p : ℕ) → four b p ≡ getD b p 0 + 256 * getD b (p + 1) 0 + 65536 * getD b (p + 2) 0 + 16777216 * getD b (p + 3) 0
+unfolding numAt
+four-bytes b p = four-first (drop p b) ∙ simp (getD-drop, add-zero)

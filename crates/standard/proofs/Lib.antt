@@ -1,0 +1,2 @@
+-- Laws on the definitions, that every crate above cites.
+pub mod Bytes
