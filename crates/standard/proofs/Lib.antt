@@ -1,3 +1,4 @@
 -- Laws on the definitions, that every crate above cites.
 pub mod Bytes
 pub mod Store
+pub mod Join
