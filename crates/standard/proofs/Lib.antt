@@ -1,2 +1,3 @@
 -- Laws on the definitions, that every crate above cites.
 pub mod Bytes
+pub mod Bits
