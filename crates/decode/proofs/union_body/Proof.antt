@@ -1,5 +1,5 @@
 -- The body is what follows the first byte; there is none in an empty slice. Assumes nothing.
-use Prim.Native.Nat.{ℕ}
+use Prim.Native.Nat.{ℕ, _-_}
 use native.Mathlib.Omega.{arith}
 use mathlib.Core.Path.{_≡_, refl}
 use mathlib.Core.List.{List, [], _∷_}
@@ -26,7 +26,9 @@ returns : tie.Need-returns
 returns c = drop-none _ (c .if1 .taken)
 
 returns-2 : tie.Need-returns-2
-returns-2 c = take-all _ _ (simp length-drop (omega arith))
+returns-2 c =
+    let b = c .before .before .args .bytes .now in
+    take-all (length b - 1) (drop 1 b) (simp length-drop (omega arith))
 
 pub union-body-spec : {M : Type 1} → statement M
 union-body-spec =
