@@ -1,2 +1,3 @@
 pub mod Offsets
 pub mod Unions
+pub mod Builder
