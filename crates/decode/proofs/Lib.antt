@@ -1,0 +1,2 @@
+-- Laws on registration, that the crates above cite.
+pub mod Register
