@@ -83,8 +83,9 @@ fn register_variable(x: Progress, bytes: &[u8]) -> Step
         OffsetResult::Offset(o) => {
             let known = x.first;
             let first = or_just(known, o);
+            let next = pos + 4;
             Step::Next(Progress {
-                pos: pos + 4,
+                pos: next,
                 first,
                 previous: Maybe::Just(o),
             })

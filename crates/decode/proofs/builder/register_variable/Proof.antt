@@ -28,8 +28,8 @@ enum-known-s c = search needs
 or-just-requires : tie.Need-or-just-requires
 or-just-requires c κs = search needs
 
-add-t17 : tie.Need-add-t17
-add-t17 c = search needs
+add-next : tie.Need-add-next
+add-next c = search needs
 
 enum-known-s-2 : tie.Need-enum-known-s-2
 enum-known-s-2 c = search needs
@@ -53,7 +53,7 @@ register-variable-spec =
     sanitize-offset-requires
     enum-known-s
     or-just-requires
-    add-t17
+    add-next
     enum-known-s-2
     returns-2
     returns-3)
