@@ -74,8 +74,9 @@ fn register_variable(x: Progress, bytes: &[u8]) -> Step
 {
     let pos = x.pos;
     let len = bytes.len();
-    if len - pos < 4 {
-        return Step::Refused(Refusal::InvalidLengthPrefix(len - pos, 4));
+    let left = len - pos;
+    if left < 4 {
+        return Step::Refused(Refusal::InvalidLengthPrefix(left, 4));
     }
     let previous = x.previous;
     let s = sanitize_offset(four_at(bytes, pos), previous, len, Maybe::Nothing);

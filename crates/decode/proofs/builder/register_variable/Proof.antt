@@ -6,11 +6,8 @@ use borrow.Author.Needs.{needs}
 use Rattle.decode.proofs.builder.register_variable.Statement.{statement}
 use Rattle.decode.proofs.builder.register_variable.Tie as tie
 
-sub-if1 : tie.Need-sub-if1
-sub-if1 c = search needs
-
-sub-t13 : tie.Need-sub-t13
-sub-t13 c = search needs
+sub-left : tie.Need-sub-left
+sub-left c = search needs
 
 returns : tie.Need-returns
 unfolding step
@@ -46,8 +43,7 @@ pub register-variable-spec : {M : Type 1} → statement M
 register-variable-spec =
     tie.close
     (tie.spec
-    sub-if1
-    sub-t13
+    sub-left
     returns
     four-at-requires
     sanitize-offset-requires
