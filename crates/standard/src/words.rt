@@ -1,9 +1,9 @@
 // Little-endian words in lent bytes, for every position: what is not there reads as 0, and is not stored.
 ghost use mathlib.Core.Path.{_≡_};
-ghost use Prim.Native.Nat.{_+_, _<_, _≤_};
+ghost use Prim.Native.Nat.{_+_, _<_, _≤_, _^_};
 ghost use lib.ListN.{length, getD, set};
 ghost use lib.Seq.{sets};
-ghost use Rattle.standard.specs.Bytes.{four, le};
+ghost use Rattle.standard.specs.Bytes.{four, wordAt, le};
 
 fn wide(x: u8) -> usize
     ensures { λ r. ⌜ (r ≡ x) × (r < 256) ⌝ }
@@ -20,7 +20,7 @@ fn byte_at(b: &[u8], p: usize) -> usize
 // The four bytes from p on, all there: one load.
 fn whole_at(b: &[u8], p: usize) -> usize
     requires { ⌜ p + 4 ≤ length (now b) ⌝ }
-    ensures { λ r. ⌜ r ≡ four (now (b .entry)) p ⌝ }
+    ensures { λ r. ⌜ (r ≡ four (now (b .entry)) p) × (r < 2 ^ 32) ⌝ }
 {
     wide(b[p]) + 256 * wide(b[p + 1]) + 65536 * wide(b[p + 2]) + 16777216 * wide(b[p + 3])
 }
@@ -28,7 +28,7 @@ fn whole_at(b: &[u8], p: usize) -> usize
 // The four bytes from p on, where some may be missing.
 fn short_at(b: &[u8], p: usize) -> usize
     requires { ⌜ p < length (now b) ⌝ }
-    ensures { λ r. ⌜ r ≡ four (now (b .entry)) p ⌝ }
+    ensures { λ r. ⌜ (r ≡ four (now (b .entry)) p) × (r < 2 ^ 32) ⌝ }
 {
     byte_at(b, p)
         + 256 * byte_at(b, p + 1)
@@ -38,7 +38,7 @@ fn short_at(b: &[u8], p: usize) -> usize
 
 // The number in the four bytes from p on.
 pub fn four_at(b: &[u8], p: usize) -> usize
-    ensures { λ r. ⌜ r ≡ four (now (b .entry)) p ⌝ }
+    ensures { λ r. ⌜ (r ≡ four (now (b .entry)) p) × (r < 2 ^ 32) ⌝ }
 {
     let len = b.len();
     if len <= p {
@@ -47,6 +47,20 @@ pub fn four_at(b: &[u8], p: usize) -> usize
         short_at(b, p)
     } else {
         whole_at(b, p)
+    }
+}
+
+// The i-th word of a table. A word that is there costs one comparison and one load.
+pub fn word_at(table: &[u8], i: usize) -> usize
+    ensures { λ r. ⌜ (r ≡ wordAt (now (table .entry)) i) × (r < 2 ^ 32) ⌝ }
+{
+    let whole = table.len() / 4;
+    if i < whole {
+        whole_at(table, 4 * i)
+    } else if i == whole {
+        four_at(table, 4 * i)
+    } else {
+        0
     }
 }
 

@@ -33,11 +33,11 @@ enum-known-s-2 c = search needs
 
 returns-2 : tie.Need-returns-2
 unfolding step
-returns-2 c = rw (le-ltb _ _ (c .before .before .before .before .before .before .if1 .left), ← c .before .before .before .before .before .four-at .ensures, ← c .before .before .before .before .sanitize-offset .ensures, c .before .before .s .given .1, c .or-just .ensures)
+returns-2 c = rw (le-ltb _ _ (c .before .before .before .before .before .before .if1 .left), ← c .before .before .before .before .before .four-at .ensures .0, ← c .before .before .before .before .sanitize-offset .ensures, c .before .before .s .given .1, c .or-just .ensures)
 
 returns-3 : tie.Need-returns-3
 unfolding step
-returns-3 c = rw (le-ltb _ _ (c .before .before .before .before .before .if1 .left), ← c .before .before .before .before .four-at .ensures, ← c .before .before .before .sanitize-offset .ensures, c .before .s2 .given .1)
+returns-3 c = rw (le-ltb _ _ (c .before .before .before .before .before .if1 .left), ← c .before .before .before .before .four-at .ensures .0, ← c .before .before .before .sanitize-offset .ensures, c .before .s2 .given .1)
 
 pub register-variable-spec : {M : Type 1} → statement M
 register-variable-spec =

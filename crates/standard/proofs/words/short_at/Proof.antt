@@ -47,7 +47,7 @@ add-result-3 c = search needs
 returns : tie.Need-returns
 returns c =
     let a = c .before .before .before .before .before .args in
-    rw (four-bytes (a .b .now) (a .p)) (omega arith)
+    (rw (four-bytes (a .b .now) (a .p)) (omega arith), omega arith)
 
 pub short-at-spec : {M : Type 1} → statement M
 short-at-spec =

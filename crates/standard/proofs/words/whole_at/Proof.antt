@@ -59,7 +59,7 @@ add-result-3 c = search needs
 returns : tie.Need-returns
 returns c =
     let a = c .before .before .before .before .before .before .before .before .before .args in
-    rw (four-bytes (a .b .now) (a .p)) (omega arith)
+    (rw (four-bytes (a .b .now) (a .p)) (omega arith), omega arith)
 
 pub whole-at-spec : {M : Type 1} → statement M
 whole-at-spec =
