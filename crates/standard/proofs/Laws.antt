@@ -12,7 +12,7 @@ use native.Mathlib.Omega.{arith}
 use lib.ListN.{length, length-append}
 use Rattle.standard.specs.Bytes.{Bytes, le, num}
 use Rattle.standard.specs.Bits.{bit, pack, marked}
-use Rattle.standard.specs.Types.{Ty, Tys, Opts, number, boolean, fixedBytes, freeBytes, bitVector, bitList, container, union, end, field, over, bare, body, head, headAll, heads, joined, Rising, LegalTy, LegalAll, LegalOptions}
+use Rattle.standard.specs.Types.{Ty, Tys, Opts, number, boolean, fixedBytes, freeBytes, bitVector, bitList, container, union, end, field, over, bare, body, head, headAll, heads, joined, isWidth, NoFields, Rising, LegalTy, LegalAll, LegalOptions}
 use Rattle.standard.specs.Parts.{Part, piece, fixedLengths, fronts, backs, join, partHeads}
 use Rattle.standard.specs.Serialize.{Val, Vals, Option, Ok, OkAll, OkOption, serialize, parts, selected}
 use Rattle.standard.specs.declared.Head.{Head}
@@ -37,20 +37,53 @@ unfolding together heads head
 together-all end = refl
 together-all (field t ts) = ap (joined (head t)) (together-all ts)
 
-joined-fixed : (k n : ℕ) (g : Head) → joined (Fixed k) g ≡ Fixed n → (m : ℕ) × (g ≡ Fixed m) × (k + m ≡ n)
+-- A joined head is fixed only if both are.
+pub joined-fixed : (g h : Head) (n : ℕ) → joined g h ≡ Fixed n → (k : ℕ) × (m : ℕ) × (g ≡ Fixed k) × (h ≡ Fixed m) × (k + m ≡ n)
 unfolding joined
-joined-fixed k n (Fixed m) e = (m, refl, cc)
-joined-fixed k n Variable e = let w : _≡_ {A = ℕ} 0 1 = cc in absurd (omega arith)
+joined-fixed (Fixed k) (Fixed m) n e = (k, m, refl, refl, cc)
+joined-fixed (Fixed k) Variable n e = let w : _≡_ {A = ℕ} 0 1 = cc in absurd (omega arith)
+joined-fixed Variable h n e = let w : _≡_ {A = ℕ} 0 1 = cc in absurd (omega arith)
+
+fixed-injective : (k m : ℕ) → Fixed k ≡ Fixed m → k ≡ m
+fixed-injective k m e = cc
+
+-- A fixed type of the standard takes at least one byte.
+width-some : (w : ℕ) → isWidth w ≡ true → 1 ≤ w
+width-some zero h = let w : _≡_ {A = ℕ} 0 1 = cc in absurd (omega arith)
+width-some (suc n) h = omega arith
+
+mutual
+  unfolding head LegalTy
+
+  pub fixed-some : (t : Ty) (n : ℕ) → LegalTy t → head t ≡ Fixed n → 1 ≤ n
+  fixed-some (number t w) n l e = rw (← fixed-injective w n e) (width-some w l)
+  fixed-some (boolean t) n l e = omega (arith, fixed-injective 1 n e)
+  fixed-some (fixedBytes t m) n l e = omega (arith, fixed-injective m n e)
+  fixed-some (freeBytes t limit) n l e = let w : _≡_ {A = ℕ} 0 1 = cc in absurd (omega arith)
+  fixed-some (bitVector t m) n l e = omega (arith, fixed-injective ((m + 7) / 8) n e)
+  fixed-some (bitList t limit) n l e = let w : _≡_ {A = ℕ} 0 1 = cc in absurd (omega arith)
+  fixed-some (container t ts) n l e = fields-some ts n l e
+  fixed-some (union t os) n l e = let w : _≡_ {A = ℕ} 0 1 = cc in absurd (omega arith)
+
+  fields-some : (ts : Tys) (n : ℕ) → (NoFields ts → ⊥) × LegalAll ts → headAll ts ≡ Fixed n → 1 ≤ n
+  fields-some end n l e = absurd (l .0 tt)
+  fields-some (field t ts) n l e =
+      let p = joined-fixed (head t) (headAll ts) n e in
+      omega (arith, fixed-some t (p .0) (l .1 .0) (p .2), p .4)
 
 -- Where all the parts are fixed, there are no backs, and the fronts are n bytes.
 flat : (xs : List Part) → Sized xs → (n : ℕ) → together (partHeads xs) ≡ Fixed n → (backs xs ≡ []) × (fixedLengths xs ≡ n)
 unfolding together partHeads backs fixedLengths Sized Size
 flat [] z n q = (refl, cc)
-flat (piece Variable s ∷ xs) z n q = let w : _≡_ {A = ℕ} 0 1 = unfold joined in cc in absurd (omega arith)
+flat (piece Variable s ∷ xs) z n q =
+    let p = joined-fixed Variable (together (partHeads xs)) n q .2 in
+    let w : _≡_ {A = ℕ} 0 1 = cc in
+    absurd (omega arith)
 flat (piece (Fixed k) s ∷ xs) z n q =
-    let p = joined-fixed k n (together (partHeads xs)) q in
-    let f = flat xs (z .1) (p .0) (p .1) in
-    (f .0, omega (arith, f .1, p .2, z .0))
+    let p = joined-fixed (Fixed k) (together (partHeads xs)) n q in
+    let f = flat xs (z .1) (p .1) (p .3) in
+    let w : k ≡ p .0 = fixed-injective k (p .0) (p .2) in
+    (f .0, omega (arith, f .1, p .4, z .0))
 
 size-join : (xs : List Part) (h : Head) → Sized xs → together (partHeads xs) ≡ h → Size h (join xs)
 unfolding Size join

@@ -1,0 +1,3 @@
+-- What the proofs of several functions use, and what the crates above cite of a legal table.
+pub mod Facts
+pub mod Trees
