@@ -6,11 +6,10 @@ use standard::words::word_at;
 ghost use mathlib.Core.Path.{_≡_};
 ghost use mathlib.Core.List.{[]};
 ghost use Prim.Native.Nat.{_+_, _≤_, _<_, _^_};
-ghost use lib.ListN.{length};
 ghost use Rattle.standard.specs.Bytes.{wordAt};
 ghost use Rattle.standard.specs.Types.{isWidth, width, portion, heads};
 ghost use Rattle.layout.specs.Tree.{nodeOf, fields, trees, headOf};
-ghost use Rattle.layout.specs.Table.{mayName, refs, many, containerEnd, leafWord, leafEnd, bodyEnd, typesEnd, tableOf, withLengths, toldOf};
+ghost use Rattle.layout.specs.Table.{count, mayName, refs, many, containerEnd, leafWord, leafEnd, bodyEnd, typesEnd, tableOf, withLengths, toldOf};
 ghost use Rattle.layout.specs.Legal.{Lower, Legal};
 ghost use Rattle.layout.specs.Steps.{Known, leafLen, Lengthened, Typed};
 
@@ -300,7 +299,7 @@ fn fixed_len(lens: &mut [usize], known: usize, layout: &[u8], t: usize) -> usize
 
 // Where the n types end, whose bodies follow the contents; their lengths go to `lens`.
 fn types_end(lens: &mut [usize], layout: &[u8], n: usize) -> Checked
-    requires { ⌜ Known (now lens) (now layout) 0 × (n ≤ 64) × (n < length (now layout)) ⌝ }
+    requires { ⌜ Known (now lens) (now layout) 0 × (n ≤ 64) × (n < count (now layout)) ⌝ }
     ensures { λ r. ⌜ Typed (now (layout .entry)) n r (now (lens .exit)) ⌝ }
 {
     let mut t = 0;

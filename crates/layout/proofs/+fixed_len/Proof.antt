@@ -1,3 +1,15 @@
+-- The cycle of calls of `fixed_len`: the type number falls. The loop keeps `Summing`. Assumes nothing.
+use lib.ListN.{length}
+use Rattle.layout.proofs.Lengths.{summing-kept}
+use mathlib.Core.Path.{_≡_, refl, sym, ap, _∙_}
+use native.Mathlib.Omega.{arith}
+use borrow.Author.Needs.{needs}
+use borrow.Author.Tests.{lt-ltb}
+use lib.ListN.{length-set}
+use Rattle.layout.proofs.Facts.{length-filled, legal-node, legal-below}
+use Rattle.layout.proofs.Trees.{leaf-length}
+use Rattle.layout.proofs.Tables.{known-len}
+use Rattle.layout.proofs.Lengths.{Summing, summing-start, summing-below, summing-fits, summing-next, summing-variable, summing-end, lengthened}
 use Prim.Native.Nat.{ℕ, _<_}
 use borrow.Fn.Kinds.{In}
 use borrow.Fn.PlainCycle.{Measures, is, falls, and}
@@ -11,7 +23,7 @@ use Rattle.layout.proofs.+fixed_len.{statement}
 use Rattle.layout.proofs.+fixed_len.Tie.{close}
 
 abbrev μ-fixed-len : Measures 2 fixed-len-kinds.ps ℕ
-μ-fixed-len κs a = ?
+μ-fixed-len κs a = a .1 .1 .1 .0
 
 abbrev fixed-len-at : ℕ → In 2 fixed-len-kinds.ps
 fixed-len-at t = and 2 fixed-len-kinds.ps (is 2 fixed-len-kinds.ps μ-fixed-len t) fixed-len.Pre
@@ -21,360 +33,97 @@ fixed-len-below t =
     and 2 fixed-len-kinds.ps (falls 2 fixed-len-kinds.ps _<_ μ-fixed-len t) fixed-len.Pre
 
 abbrev fixed-len-Inv-loop : fixed-len-lts.InvT-loop
-fixed-len-Inv-loop lens₀ known layout t left₀ a₀ sum₀ lens left a sum = ?
+fixed-len-Inv-loop lens₀ known layout t left₀ a₀ sum₀ lens left a sum = Summing layout t known lens left a sum
 
 abbrev fixed-len-μ-loop : fixed-len-lts.MeasureT-loop
-fixed-len-μ-loop lens₀ known layout t left₀ a₀ sum₀ lens left a sum = ?
+fixed-len-μ-loop lens₀ known layout t left₀ a₀ sum₀ lens left a sum = left
 
--- src/lib.rt:275:16
-fixed-len-mul-result : (t : ℕ) → fixed-len-lts.Need-mul-result (
-  look-reads.Asked,
-  look-reads.Learnt,
-  leaf-len-reads.Asked,
-  leaf-len-reads.Learnt,
-  word-at-reads.Asked,
-  word-at-reads.Learnt,
-  fixed-len-below t,
-  fixed-len.Post,
-) (fixed-len-at t) fixed-len.Post fixed-len-Inv-loop fixed-len-μ-loop
-fixed-len-mul-result t c = ?
+-- what `fixed_len` calls, at the measure t
+abbrev fixed-len-calls : ℕ → fixed-len-lts.Claims
+fixed-len-calls t = (look-reads.Asked, look-reads.Learnt, leaf-len-reads.Asked, leaf-len-reads.Learnt, word-at-reads.Asked, word-at-reads.Learnt, fixed-len-below t, fixed-len.Post)
 
--- src/lib.rt:275:16
-fixed-len-slice-read-result : (t : ℕ) → fixed-len-lts.Need-slice-read-result (
-  look-reads.Asked,
-  look-reads.Learnt,
-  leaf-len-reads.Asked,
-  leaf-len-reads.Learnt,
-  word-at-reads.Asked,
-  word-at-reads.Learnt,
-  fixed-len-below t,
-  fixed-len.Post,
-) (fixed-len-at t) fixed-len.Post fixed-len-Inv-loop fixed-len-μ-loop
-fixed-len-slice-read-result t c = ?
+fixed-len-mul-result : (t : ℕ) → fixed-len-lts.Need-mul-result (fixed-len-calls t) (fixed-len-at t) fixed-len.Post fixed-len-Inv-loop fixed-len-μ-loop
+fixed-len-mul-result t c = omega arith
 
--- src/lib.rt:275:9
-fixed-len-returns : (t : ℕ) → fixed-len-lts.Need-returns (
-  look-reads.Asked,
-  look-reads.Learnt,
-  leaf-len-reads.Asked,
-  leaf-len-reads.Learnt,
-  word-at-reads.Asked,
-  word-at-reads.Learnt,
-  fixed-len-below t,
-  fixed-len.Post,
-) (fixed-len-at t) fixed-len.Post fixed-len-Inv-loop fixed-len-μ-loop
-fixed-len-returns t c = ?
+fixed-len-slice-read-result : (t : ℕ) → fixed-len-lts.Need-slice-read-result (fixed-len-calls t) (fixed-len-at t) fixed-len.Post fixed-len-Inv-loop fixed-len-μ-loop
+fixed-len-slice-read-result t c = rw (c .before .before .before .before .pre .1 .0 .found) (omega (arith, length-filled (c .before .before .before .before .args .layout .now) (c .before .before .before .before .args .known) (c .before .before .before .before .pre .1 .0 .few)))
 
--- src/lib.rt:277:9
-fixed-len-look-requires : (t : ℕ) → fixed-len-lts.Need-look-requires (
-  look-reads.Asked,
-  look-reads.Learnt,
-  leaf-len-reads.Asked,
-  leaf-len-reads.Learnt,
-  word-at-reads.Asked,
-  word-at-reads.Learnt,
-  fixed-len-below t,
-  fixed-len.Post,
-) (fixed-len-at t) fixed-len.Post fixed-len-Inv-loop fixed-len-μ-loop
-fixed-len-look-requires t c κs = ?
+fixed-len-returns : (t : ℕ) → fixed-len-lts.Need-returns (fixed-len-calls t) (fixed-len-at t) fixed-len.Post fixed-len-Inv-loop fixed-len-μ-loop
+fixed-len-returns t c = record { gives = known-len _ _ _ (c .before .before .before .before .pre .1 .0) _ (c .before .if1 .taken); found = rw (lt-ltb _ _ (c .before .if1 .taken)) (c .before .before .before .before .pre .1 .0 .found) }
 
--- src/lib.rt:279:13
-fixed-len-leaf-len-requires : (t : ℕ) → fixed-len-lts.Need-leaf-len-requires (
-  look-reads.Asked,
-  look-reads.Learnt,
-  leaf-len-reads.Asked,
-  leaf-len-reads.Learnt,
-  word-at-reads.Asked,
-  word-at-reads.Learnt,
-  fixed-len-below t,
-  fixed-len.Post,
-) (fixed-len-at t) fixed-len.Post fixed-len-Inv-loop fixed-len-μ-loop
-fixed-len-leaf-len-requires t c κs = ?
+fixed-len-look-requires : (t : ℕ) → fixed-len-lts.Need-look-requires (fixed-len-calls t) (fixed-len-at t) fixed-len.Post fixed-len-Inv-loop fixed-len-μ-loop
+fixed-len-look-requires t c κs = search needs
 
--- src/lib.rt:280:9
-fixed-len-mul-lens : (t : ℕ) → fixed-len-lts.Need-mul-lens (
-  look-reads.Asked,
-  look-reads.Learnt,
-  leaf-len-reads.Asked,
-  leaf-len-reads.Learnt,
-  word-at-reads.Asked,
-  word-at-reads.Learnt,
-  fixed-len-below t,
-  fixed-len.Post,
-) (fixed-len-at t) fixed-len.Post fixed-len-Inv-loop fixed-len-μ-loop
-fixed-len-mul-lens t c = ?
+fixed-len-leaf-len-requires : (t : ℕ) → fixed-len-lts.Need-leaf-len-requires (fixed-len-calls t) (fixed-len-at t) fixed-len.Post fixed-len-Inv-loop fixed-len-μ-loop
+fixed-len-leaf-len-requires t c κs = legal-node _ _ _ (c .before .before .look .ensures) (c .before .before .before .before .before .before .pre .1 .1) .small
 
--- src/lib.rt:280:9
-fixed-len-slice-write-lens : (t : ℕ) → fixed-len-lts.Need-slice-write-lens (
-  look-reads.Asked,
-  look-reads.Learnt,
-  leaf-len-reads.Asked,
-  leaf-len-reads.Learnt,
-  word-at-reads.Asked,
-  word-at-reads.Learnt,
-  fixed-len-below t,
-  fixed-len.Post,
-) (fixed-len-at t) fixed-len.Post fixed-len-Inv-loop fixed-len-μ-loop
-fixed-len-slice-write-lens t c = ?
+fixed-len-mul-lens : (t : ℕ) → fixed-len-lts.Need-mul-lens (fixed-len-calls t) (fixed-len-at t) fixed-len.Post fixed-len-Inv-loop fixed-len-μ-loop
+fixed-len-mul-lens t c = omega arith
 
--- src/lib.rt:281:9
-fixed-len-same-length : (t : ℕ) → fixed-len-lts.Need-same-length (
-  look-reads.Asked,
-  look-reads.Learnt,
-  leaf-len-reads.Asked,
-  leaf-len-reads.Learnt,
-  word-at-reads.Asked,
-  word-at-reads.Learnt,
-  fixed-len-below t,
-  fixed-len.Post,
-) (fixed-len-at t) fixed-len.Post fixed-len-Inv-loop fixed-len-μ-loop
-fixed-len-same-length t c = ?
+fixed-len-slice-write-lens : (t : ℕ) → fixed-len-lts.Need-slice-write-lens (fixed-len-calls t) (fixed-len-at t) fixed-len.Post fixed-len-Inv-loop fixed-len-μ-loop
+fixed-len-slice-write-lens t c = rw (c .before .before .before .before .before .before .before .pre .1 .0 .found) (omega (arith, length-filled (c .before .before .before .before .before .before .before .args .layout .now) (c .before .before .before .before .before .before .before .args .known) (c .before .before .before .before .before .before .before .pre .1 .0 .few)))
 
--- src/lib.rt:281:9
-fixed-len-returns-2 : (t : ℕ) → fixed-len-lts.Need-returns-2 (
-  look-reads.Asked,
-  look-reads.Learnt,
-  leaf-len-reads.Asked,
-  leaf-len-reads.Learnt,
-  word-at-reads.Asked,
-  word-at-reads.Learnt,
-  fixed-len-below t,
-  fixed-len.Post,
-) (fixed-len-at t) fixed-len.Post fixed-len-Inv-loop fixed-len-μ-loop
-fixed-len-returns-2 t c = ?
+fixed-len-same-length : (t : ℕ) → fixed-len-lts.Need-same-length (fixed-len-calls t) (fixed-len-at t) fixed-len.Post fixed-len-Inv-loop fixed-len-μ-loop
+fixed-len-same-length t c = simp length-set
 
--- src/lib.rt:284:17
-fixed-len-add-a : (t : ℕ) → fixed-len-lts.Need-add-a (
-  look-reads.Asked,
-  look-reads.Learnt,
-  leaf-len-reads.Asked,
-  leaf-len-reads.Learnt,
-  word-at-reads.Asked,
-  word-at-reads.Learnt,
-  fixed-len-below t,
-  fixed-len.Post,
-) (fixed-len-at t) fixed-len.Post fixed-len-Inv-loop fixed-len-μ-loop
-fixed-len-add-a t c = ?
+fixed-len-returns-2 : (t : ℕ) → fixed-len-lts.Need-returns-2 (fixed-len-calls t) (fixed-len-at t) fixed-len.Post fixed-len-Inv-loop fixed-len-μ-loop
+fixed-len-returns-2 t c = lengthened _ _ _ _ _ (c .before .before .before .before .before .before .before .pre .1 .0 .found) (c .before .before .before .before .before .before .before .pre .1 .2) (c .before .before .before .before .if1 .left) (c .before .before .before .before .before .before .before .pre .1 .3) (c .leaf-len .ensures ∙ leaf-length _ _ _ (c .before .before .before .look .ensures) (c .before .if2 .taken))
 
--- src/lib.rt:286:5
-fixed-len-loop-holds : (t : ℕ) → fixed-len-lts.Need-loop-holds (
-  look-reads.Asked,
-  look-reads.Learnt,
-  leaf-len-reads.Asked,
-  leaf-len-reads.Learnt,
-  word-at-reads.Asked,
-  word-at-reads.Learnt,
-  fixed-len-below t,
-  fixed-len.Post,
-) (fixed-len-at t) fixed-len.Post fixed-len-Inv-loop fixed-len-μ-loop
-fixed-len-loop-holds t c = ?
+fixed-len-add-a : (t : ℕ) → fixed-len-lts.Need-add-a (fixed-len-calls t) (fixed-len-at t) fixed-len.Post fixed-len-Inv-loop fixed-len-μ-loop
+fixed-len-add-a t c = omega (arith, legal-node _ _ _ (c .before .before .before .look .ensures) (c .before .before .before .before .before .before .before .pre .1 .1) .near)
 
--- src/lib.rt:287:13
-fixed-len-word-at-requires : (t : ℕ) → fixed-len-lts.Need-word-at-requires (
-  look-reads.Asked,
-  look-reads.Learnt,
-  leaf-len-reads.Asked,
-  leaf-len-reads.Learnt,
-  word-at-reads.Asked,
-  word-at-reads.Learnt,
-  fixed-len-below t,
-  fixed-len.Post,
-) (fixed-len-at t) fixed-len.Post fixed-len-Inv-loop fixed-len-μ-loop
-fixed-len-word-at-requires t c κs = ?
+fixed-len-loop-holds : (t : ℕ) → fixed-len-lts.Need-loop-holds (fixed-len-calls t) (fixed-len-at t) fixed-len.Post fixed-len-Inv-loop fixed-len-μ-loop
+fixed-len-loop-holds t c = summing-start _ _ _ _ _ (c .before .before .before .look .ensures) (c .before .before .before .before .before .before .before .pre .1 .1) (c .before .before .before .before .before .before .before .pre .1 .0 .found) (c .before .if2 .left)
 
--- src/lib.rt:288:13
-fixed-len-fixed-len-requires : (t : ℕ) → fixed-len-lts.Need-fixed-len-requires (
-  look-reads.Asked,
-  look-reads.Learnt,
-  leaf-len-reads.Asked,
-  leaf-len-reads.Learnt,
-  word-at-reads.Asked,
-  word-at-reads.Learnt,
-  fixed-len-below t,
-  fixed-len.Post,
-) (fixed-len-at t) fixed-len.Post fixed-len-Inv-loop fixed-len-μ-loop
-fixed-len-fixed-len-requires t c κs = ?
+fixed-len-word-at-requires : (t : ℕ) → fixed-len-lts.Need-word-at-requires (fixed-len-calls t) (fixed-len-at t) fixed-len.Post fixed-len-Inv-loop fixed-len-μ-loop
+fixed-len-word-at-requires t c κs = search needs
 
--- src/lib.rt:290:13
-fixed-len-mul-lens-2 : (t : ℕ) → fixed-len-lts.Need-mul-lens-2 (
-  look-reads.Asked,
-  look-reads.Learnt,
-  leaf-len-reads.Asked,
-  leaf-len-reads.Learnt,
-  word-at-reads.Asked,
-  word-at-reads.Learnt,
-  fixed-len-below t,
-  fixed-len.Post,
-) (fixed-len-at t) fixed-len.Post fixed-len-Inv-loop fixed-len-μ-loop
-fixed-len-mul-lens-2 t c = ?
+fixed-len-fixed-len-requires : (t : ℕ) → fixed-len-lts.Need-fixed-len-requires (fixed-len-calls t) (fixed-len-at t) fixed-len.Post fixed-len-Inv-loop fixed-len-μ-loop
+fixed-len-fixed-len-requires t c κs =
+    let h = summing-below _ _ _ _ _ _ _ _ (c .before .before .before .loop .inv) (c .before .before .loop-test .taken) (c .before .word-at .ensures .0) in
+    (rw (← c .before .before .before .before .before .before .before .before .before .before .before .pre .0) h, (record { found = c .before .before .before .loop .inv .found; legal = c .before .before .before .before .before .before .before .before .before .before .before .pre .1 .0 .legal; few = c .before .before .before .before .before .before .before .before .before .before .before .pre .1 .0 .few }, legal-below _ _ _ (omega arith) (c .before .before .before .before .before .before .before .before .before .before .before .pre .1 .1), omega (arith, c .before .before .before .before .before .before .before .before .before .before .before .pre .1 .2), omega (arith, c .before .before .before .before .before .before .before .before .before .before .before .pre .1 .3)))
 
--- src/lib.rt:290:13
-fixed-len-slice-write-lens-2 : (t : ℕ) → fixed-len-lts.Need-slice-write-lens-2 (
-  look-reads.Asked,
-  look-reads.Learnt,
-  leaf-len-reads.Asked,
-  leaf-len-reads.Learnt,
-  word-at-reads.Asked,
-  word-at-reads.Learnt,
-  fixed-len-below t,
-  fixed-len.Post,
-) (fixed-len-at t) fixed-len.Post fixed-len-Inv-loop fixed-len-μ-loop
-fixed-len-slice-write-lens-2 t c = ?
+fixed-len-mul-lens-2 : (t : ℕ) → fixed-len-lts.Need-mul-lens-2 (fixed-len-calls t) (fixed-len-at t) fixed-len.Post fixed-len-Inv-loop fixed-len-μ-loop
+fixed-len-mul-lens-2 t c = omega arith
 
--- src/lib.rt:291:13
-fixed-len-same-length-2 : (t : ℕ) → fixed-len-lts.Need-same-length-2 (
-  look-reads.Asked,
-  look-reads.Learnt,
-  leaf-len-reads.Asked,
-  leaf-len-reads.Learnt,
-  word-at-reads.Asked,
-  word-at-reads.Learnt,
-  fixed-len-below t,
-  fixed-len.Post,
-) (fixed-len-at t) fixed-len.Post fixed-len-Inv-loop fixed-len-μ-loop
-fixed-len-same-length-2 t c = ?
+fixed-len-slice-write-lens-2 : (t : ℕ) → fixed-len-lts.Need-slice-write-lens-2 (fixed-len-calls t) (fixed-len-at t) fixed-len.Post fixed-len-Inv-loop fixed-len-μ-loop
+fixed-len-slice-write-lens-2 t c = rw (summing-kept _ _ _ _ _ _ _ _ (c .before .before .before .before .before .before .before .loop .inv) (c .before .before .before .before .before .before .loop-test .taken) (c .before .before .before .before .before .word-at .ensures .0) _ (c .before .before .before .fixed-len .ensures .found) (c .before .before .before .before .before .before .before .before .before .before .before .before .before .before .before .pre .1 .2)) (omega (arith, length-filled (c .before .before .before .before .before .before .before .before .before .before .before .before .before .before .before .args .layout .now) (c .before .before .before .before .before .before .before .before .before .before .before .before .before .before .before .args .known) (c .before .before .before .before .before .before .before .before .before .before .before .before .before .before .before .pre .1 .0 .few)))
 
--- src/lib.rt:291:13
-fixed-len-returns-3 : (t : ℕ) → fixed-len-lts.Need-returns-3 (
-  look-reads.Asked,
-  look-reads.Learnt,
-  leaf-len-reads.Asked,
-  leaf-len-reads.Learnt,
-  word-at-reads.Asked,
-  word-at-reads.Learnt,
-  fixed-len-below t,
-  fixed-len.Post,
-) (fixed-len-at t) fixed-len.Post fixed-len-Inv-loop fixed-len-μ-loop
-fixed-len-returns-3 t c = ?
+fixed-len-same-length-2 : (t : ℕ) → fixed-len-lts.Need-same-length-2 (fixed-len-calls t) (fixed-len-at t) fixed-len.Post fixed-len-Inv-loop fixed-len-μ-loop
+fixed-len-same-length-2 t c = simp length-set (ap length (summing-kept _ _ _ _ _ _ _ _ (c .before .before .before .before .before .before .before .loop .inv) (c .before .before .before .before .before .before .loop-test .taken) (c .before .before .before .before .before .word-at .ensures .0) _ (c .before .before .before .fixed-len .ensures .found) (c .before .before .before .before .before .before .before .before .before .before .before .before .before .before .before .pre .1 .2) ∙ sym (c .before .before .before .before .before .before .before .before .before .before .before .before .before .before .before .pre .1 .0 .found)))
 
--- src/lib.rt:293:9
-fixed-len-add-sum : (t : ℕ) → fixed-len-lts.Need-add-sum (
-  look-reads.Asked,
-  look-reads.Learnt,
-  leaf-len-reads.Asked,
-  leaf-len-reads.Learnt,
-  word-at-reads.Asked,
-  word-at-reads.Learnt,
-  fixed-len-below t,
-  fixed-len.Post,
-) (fixed-len-at t) fixed-len.Post fixed-len-Inv-loop fixed-len-μ-loop
-fixed-len-add-sum t c = ?
+fixed-len-returns-3 : (t : ℕ) → fixed-len-lts.Need-returns-3 (fixed-len-calls t) (fixed-len-at t) fixed-len.Post fixed-len-Inv-loop fixed-len-μ-loop
+fixed-len-returns-3 t c = lengthened _ _ _ _ _ (summing-kept _ _ _ _ _ _ _ _ (c .before .before .before .before .before .before .before .loop .inv) (c .before .before .before .before .before .before .loop-test .taken) (c .before .before .before .before .before .word-at .ensures .0) _ (c .before .before .before .fixed-len .ensures .found) (c .before .before .before .before .before .before .before .before .before .before .before .before .before .before .before .pre .1 .2)) (c .before .before .before .before .before .before .before .before .before .before .before .before .before .before .before .pre .1 .2) (c .before .before .before .before .before .before .before .before .before .before .before .before .if1 .left) (c .before .before .before .before .before .before .before .before .before .before .before .before .before .before .before .pre .1 .3) (summing-variable _ _ _ _ _ _ _ _ (c .before .before .before .before .before .before .before .loop .inv) (c .before .before .before .before .before .before .loop-test .taken) (c .before .before .before .before .before .word-at .ensures .0) _ (c .before .before .before .before .before .before .before .before .before .before .before .before .before .before .before .pre .1 .1) (c .before .before .before .fixed-len .ensures .gives) (c .if3 .taken))
 
--- src/lib.rt:294:9
-fixed-len-add-a-2 : (t : ℕ) → fixed-len-lts.Need-add-a-2 (
-  look-reads.Asked,
-  look-reads.Learnt,
-  leaf-len-reads.Asked,
-  leaf-len-reads.Learnt,
-  word-at-reads.Asked,
-  word-at-reads.Learnt,
-  fixed-len-below t,
-  fixed-len.Post,
-) (fixed-len-at t) fixed-len.Post fixed-len-Inv-loop fixed-len-μ-loop
-fixed-len-add-a-2 t c = ?
+fixed-len-add-sum : (t : ℕ) → fixed-len-lts.Need-add-sum (fixed-len-calls t) (fixed-len-at t) fixed-len.Post fixed-len-Inv-loop fixed-len-μ-loop
+fixed-len-add-sum t c = omega (arith, summing-fits _ _ _ _ _ _ _ _ (c .before .before .before .before .before .before .before .loop .inv) (c .before .before .before .before .before .before .loop-test .taken) (c .before .before .before .before .before .word-at .ensures .0) _ (c .before .before .before .before .before .before .before .before .before .before .before .before .before .before .before .pre .1 .1) (c .before .before .before .fixed-len .ensures .gives) (c .if3 .left))
 
--- src/lib.rt:295:9
-fixed-len-sub-left : (t : ℕ) → fixed-len-lts.Need-sub-left (
-  look-reads.Asked,
-  look-reads.Learnt,
-  leaf-len-reads.Asked,
-  leaf-len-reads.Learnt,
-  word-at-reads.Asked,
-  word-at-reads.Learnt,
-  fixed-len-below t,
-  fixed-len.Post,
-) (fixed-len-at t) fixed-len.Post fixed-len-Inv-loop fixed-len-μ-loop
-fixed-len-sub-left t c = ?
+fixed-len-add-a-2 : (t : ℕ) → fixed-len-lts.Need-add-a-2 (fixed-len-calls t) (fixed-len-at t) fixed-len.Post fixed-len-Inv-loop fixed-len-μ-loop
+fixed-len-add-a-2 t c = omega (arith, c .before .before .before .before .before .before .before .loop .inv .place)
 
--- src/lib.rt:286:5
-fixed-len-loop-less : (t : ℕ) → fixed-len-lts.Need-loop-less (
-  look-reads.Asked,
-  look-reads.Learnt,
-  leaf-len-reads.Asked,
-  leaf-len-reads.Learnt,
-  word-at-reads.Asked,
-  word-at-reads.Learnt,
-  fixed-len-below t,
-  fixed-len.Post,
-) (fixed-len-at t) fixed-len.Post fixed-len-Inv-loop fixed-len-μ-loop
-fixed-len-loop-less t c = ?
+fixed-len-sub-left : (t : ℕ) → fixed-len-lts.Need-sub-left (fixed-len-calls t) (fixed-len-at t) fixed-len.Post fixed-len-Inv-loop fixed-len-μ-loop
+fixed-len-sub-left t c = omega arith
 
--- src/lib.rt:286:5
-fixed-len-loop-again : (t : ℕ) → fixed-len-lts.Need-loop-again (
-  look-reads.Asked,
-  look-reads.Learnt,
-  leaf-len-reads.Asked,
-  leaf-len-reads.Learnt,
-  word-at-reads.Asked,
-  word-at-reads.Learnt,
-  fixed-len-below t,
-  fixed-len.Post,
-) (fixed-len-at t) fixed-len.Post fixed-len-Inv-loop fixed-len-μ-loop
-fixed-len-loop-again t c = ?
+fixed-len-loop-less : (t : ℕ) → fixed-len-lts.Need-loop-less (fixed-len-calls t) (fixed-len-at t) fixed-len.Post fixed-len-Inv-loop fixed-len-μ-loop
+fixed-len-loop-less t c = omega arith
 
--- src/lib.rt:297:5
-fixed-len-mul-lens-3 : (t : ℕ) → fixed-len-lts.Need-mul-lens-3 (
-  look-reads.Asked,
-  look-reads.Learnt,
-  leaf-len-reads.Asked,
-  leaf-len-reads.Learnt,
-  word-at-reads.Asked,
-  word-at-reads.Learnt,
-  fixed-len-below t,
-  fixed-len.Post,
-) (fixed-len-at t) fixed-len.Post fixed-len-Inv-loop fixed-len-μ-loop
-fixed-len-mul-lens-3 t c = ?
+fixed-len-loop-again : (t : ℕ) → fixed-len-lts.Need-loop-again (fixed-len-calls t) (fixed-len-at t) fixed-len.Post fixed-len-Inv-loop fixed-len-μ-loop
+fixed-len-loop-again t c = summing-next _ _ _ _ _ _ _ _ (c .before .before .before .before .before .before .before .loop .inv) (c .before .before .before .before .before .before .loop-test .taken) (c .before .before .before .before .before .word-at .ensures .0) _ (c .before .before .before .before .before .before .before .before .before .before .before .before .before .before .before .pre .1 .1) (c .before .before .before .fixed-len .ensures .gives) _ (c .if3 .left) (c .before .before .before .fixed-len .ensures .found) (c .before .before .before .before .before .before .before .before .before .before .before .before .before .before .before .pre .1 .2)
 
--- src/lib.rt:297:5
-fixed-len-slice-write-lens-3 : (t : ℕ) → fixed-len-lts.Need-slice-write-lens-3 (
-  look-reads.Asked,
-  look-reads.Learnt,
-  leaf-len-reads.Asked,
-  leaf-len-reads.Learnt,
-  word-at-reads.Asked,
-  word-at-reads.Learnt,
-  fixed-len-below t,
-  fixed-len.Post,
-) (fixed-len-at t) fixed-len.Post fixed-len-Inv-loop fixed-len-μ-loop
-fixed-len-slice-write-lens-3 t c = ?
+fixed-len-mul-lens-3 : (t : ℕ) → fixed-len-lts.Need-mul-lens-3 (fixed-len-calls t) (fixed-len-at t) fixed-len.Post fixed-len-Inv-loop fixed-len-μ-loop
+fixed-len-mul-lens-3 t c = omega arith
 
--- src/lib.rt:270:1
-fixed-len-same-length-3 : (t : ℕ) → fixed-len-lts.Need-same-length-3 (
-  look-reads.Asked,
-  look-reads.Learnt,
-  leaf-len-reads.Asked,
-  leaf-len-reads.Learnt,
-  word-at-reads.Asked,
-  word-at-reads.Learnt,
-  fixed-len-below t,
-  fixed-len.Post,
-) (fixed-len-at t) fixed-len.Post fixed-len-Inv-loop fixed-len-μ-loop
-fixed-len-same-length-3 t c = ?
+fixed-len-slice-write-lens-3 : (t : ℕ) → fixed-len-lts.Need-slice-write-lens-3 (fixed-len-calls t) (fixed-len-at t) fixed-len.Post fixed-len-Inv-loop fixed-len-μ-loop
+fixed-len-slice-write-lens-3 t c = rw (c .before .loop .inv .found) (omega (arith, length-filled (c .before .before .before .before .before .before .before .before .before .args .layout .now) (c .before .before .before .before .before .before .before .before .before .args .known) (c .before .before .before .before .before .before .before .before .before .pre .1 .0 .few)))
 
--- src/lib.rt:270:1
-fixed-len-returns-4 : (t : ℕ) → fixed-len-lts.Need-returns-4 (
-  look-reads.Asked,
-  look-reads.Learnt,
-  leaf-len-reads.Asked,
-  leaf-len-reads.Learnt,
-  word-at-reads.Asked,
-  word-at-reads.Learnt,
-  fixed-len-below t,
-  fixed-len.Post,
-) (fixed-len-at t) fixed-len.Post fixed-len-Inv-loop fixed-len-μ-loop
-fixed-len-returns-4 t c = ?
+fixed-len-same-length-3 : (t : ℕ) → fixed-len-lts.Need-same-length-3 (fixed-len-calls t) (fixed-len-at t) fixed-len.Post fixed-len-Inv-loop fixed-len-μ-loop
+fixed-len-same-length-3 t c = simp length-set (ap length (c .before .loop .inv .found ∙ sym (c .before .before .before .before .before .before .before .before .before .pre .1 .0 .found)))
+
+fixed-len-returns-4 : (t : ℕ) → fixed-len-lts.Need-returns-4 (fixed-len-calls t) (fixed-len-at t) fixed-len.Post fixed-len-Inv-loop fixed-len-μ-loop
+fixed-len-returns-4 t c = lengthened _ _ _ _ _ (c .before .loop .inv .found) (c .before .before .before .before .before .before .before .before .before .pre .1 .2) (c .before .before .before .before .before .before .if1 .left) (c .before .before .before .before .before .before .before .before .before .pre .1 .3) (summing-end _ _ _ _ _ _ _ (c .before .loop .inv) (c .loop-test .left))
 
 pub +fixed-len-spec : {M : Type 1} → statement M
-+fixed-len-spec = close μ-fixed-len λ t. fixed-len-lts.spec (
-  look-reads.Asked,
-  look-reads.Learnt,
-  leaf-len-reads.Asked,
-  leaf-len-reads.Learnt,
-  word-at-reads.Asked,
-  word-at-reads.Learnt,
-  fixed-len-below t,
-  fixed-len.Post,
-)
++fixed-len-spec = close μ-fixed-len λ t. fixed-len-lts.spec (fixed-len-calls t)
     (fixed-len-at t)
     fixed-len.Post
     fixed-len-Inv-loop

@@ -1,42 +1,36 @@
+-- By the tests, in the order of the definition. Assumes nothing.
+use borrow.Author.Tests.{lt-ltb, le-ltb}
+use Rattle.layout.specs.Table.{count, leafEnd}
 use borrow.Author.Needs.{needs}
 use Rattle.layout.proofs.leaf_end.Statement.{statement}
 use Rattle.layout.proofs.leaf_end.Tie as tie
-use Rattle.layout.proofs.leaf_end.Reads as reads
-use Rattle.layout.proofs.leaf_end.Lts as lts
-use Rattle.layout.proofs.leaf_ok.Reads as leaf-ok-reads
-use Rattle.standard.proofs.words.word_at.Reads as word-at-reads
 
--- src/lib.rt:209:16
 add-next : tie.Need-add-next
 add-next c = search needs
 
--- src/lib.rt:211:9
 returns : tie.Need-returns
-returns c = ?
+unfolding leafEnd count
+returns c = rw (le-ltb _ _ (c .if1 .taken))
 
--- src/lib.rt:213:9
 word-at-requires : tie.Need-word-at-requires
 word-at-requires c κs = search needs
 
--- src/lib.rt:214:9
 word-at-requires-2 : tie.Need-word-at-requires-2
 word-at-requires-2 c κs = search needs
 
--- src/lib.rt:215:9
 leaf-ok-requires : tie.Need-leaf-ok-requires
 leaf-ok-requires c κs = search needs
 
--- src/lib.rt:217:23
 add-t11 : tie.Need-add-t11
 add-t11 c = search needs
 
--- src/lib.rt:204:1
 returns-2 : tie.Need-returns-2
-returns-2 c = ?
+unfolding leafEnd count
+returns-2 c = rw (lt-ltb _ _ (c .before .before .before .before .if1 .left), ← c .before .before .before .word-at .ensures .0, ← c .before .before .word-at2 .ensures .0, ← c .before .leaf-ok .ensures, c .if2 .taken)
 
--- src/lib.rt:204:1
 returns-3 : tie.Need-returns-3
-returns-3 c = ?
+unfolding leafEnd count
+returns-3 c = rw (lt-ltb _ _ (c .before .before .before .before .if1 .left), ← c .before .before .before .word-at .ensures .0, ← c .before .before .word-at2 .ensures .0, ← c .before .leaf-ok .ensures, c .if2 .left)
 
 pub leaf-end-spec : {M : Type 1} → statement M
 leaf-end-spec =

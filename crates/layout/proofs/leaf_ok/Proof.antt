@@ -1,29 +1,23 @@
+-- By the kind. Assumes nothing.
+use borrow.Author.Tests.{ne-eqb}
 use borrow.Author.Needs.{needs}
 use Rattle.layout.proofs.leaf_ok.Statement.{statement}
 use Rattle.layout.proofs.leaf_ok.Tie as tie
-use Rattle.layout.proofs.leaf_ok.Reads as reads
-use Rattle.layout.proofs.leaf_ok.Lts as lts
-use Rattle.layout.proofs.width_ok.Reads as width-ok-reads
 
--- src/lib.rt:192:9
 width-ok-requires : tie.Need-width-ok-requires
 width-ok-requires c κs = search needs
 
--- src/lib.rt:192:9
 returns : tie.Need-returns
-returns c = ?
+returns c = rw (c .before .if1 .taken) (c .width-ok .ensures)
 
--- src/lib.rt:195:9
 returns-2 : tie.Need-returns-2
-returns-2 c = ?
+returns-2 c = rw (c .if2 .taken)
 
--- src/lib.rt:198:9
 returns-3 : tie.Need-returns-3
-returns-3 c = ?
+returns-3 c = rw (c .if3 .taken)
 
--- src/lib.rt:188:1
 returns-4 : tie.Need-returns-4
-returns-4 c = ?
+returns-4 c = rw (ne-eqb _ _ (c .before .before .if1 .left), ne-eqb _ _ (c .before .if2 .left), ne-eqb _ _ (c .if3 .left))
 
 pub leaf-ok-spec : {M : Type 1} → statement M
 leaf-ok-spec = tie.close (tie.spec width-ok-requires returns returns-2 returns-3 returns-4)

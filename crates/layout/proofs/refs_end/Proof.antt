@@ -1,55 +1,52 @@
+-- The loop keeps that what is left gives the whole. Assumes nothing.
+use mathlib.Core.Path.{_≡_, refl, sym, ap, _∙_}
+use native.Mathlib.Omega.{arith}
+use borrow.Author.Tests.{not-true, not-false}
+use borrow.Author.Needs.{needs}
+use Rattle.layout.specs.Table.{count, refs}
+use Rattle.layout.proofs.Tables.{refs-missing, refs-wrong, refs-next, refs-none}
 use Rattle.layout.proofs.refs_end.Statement.{statement}
 use Rattle.layout.proofs.refs_end.Tie as tie
-use Rattle.layout.proofs.refs_end.Reads as reads
-use Rattle.layout.proofs.refs_end.Lts as lts
-use Rattle.layout.proofs.may_name.Reads as may-name-reads
-use Rattle.standard.proofs.words.word_at.Reads as word-at-reads
 
 abbrev Inv-loop : tie.InvT-loop
-Inv-loop layout t none a0 n words a₀ left₀ a left = ?
+Inv-loop layout t none a0 n words a₀ left₀ a left = (words ≡ count layout) × (refs layout t none a left ≡ refs layout t none a0 n)
 
 abbrev μ-loop : tie.MeasureT-loop
-μ-loop layout t none a0 n words a₀ left₀ a left = ?
+μ-loop layout t none a0 n words a₀ left₀ a left = left
 
--- src/lib.rt:79:5
 loop-holds : tie.Need-loop-holds Inv-loop μ-loop
-loop-holds c = ?
+unfolding count
+loop-holds c = (refl, refl)
 
--- src/lib.rt:81:13
 returns : tie.Need-returns Inv-loop μ-loop
-returns c = ?
+unfolding count
+returns c = refs-missing _ _ _ _ _ _ (c .before .loop-test .taken) (c .before .before .loop .inv .1) (c .if1 .taken)
 
--- src/lib.rt:83:13
 word-at-requires : tie.Need-word-at-requires Inv-loop μ-loop
-word-at-requires c κs = ?
+word-at-requires c κs = search needs
 
--- src/lib.rt:84:13
 may-name-requires : tie.Need-may-name-requires Inv-loop μ-loop
-may-name-requires c κs = ?
+may-name-requires c κs = search needs
 
--- src/lib.rt:86:13
 returns-2 : tie.Need-returns-2 Inv-loop μ-loop
-returns-2 c = ?
+unfolding count
+returns-2 c = refs-wrong _ _ _ _ _ _ (c .before .before .before .before .loop-test .taken) (c .before .before .before .before .before .loop .inv .1) _ _ (c .before .before .before .if1 .left) (c .before .before .word-at .ensures .0) (c .before .may-name .ensures) (not-true _ (c .if2 .taken))
 
--- src/lib.rt:88:9
 add-a : tie.Need-add-a Inv-loop μ-loop
-add-a c = ?
+add-a c = omega arith
 
--- src/lib.rt:89:9
 sub-left : tie.Need-sub-left Inv-loop μ-loop
-sub-left c = ?
+sub-left c = omega arith
 
--- src/lib.rt:79:5
 loop-less : tie.Need-loop-less Inv-loop μ-loop
-loop-less c = ?
+loop-less c = omega arith
 
--- src/lib.rt:79:5
 loop-again : tie.Need-loop-again Inv-loop μ-loop
-loop-again c = ?
+unfolding count
+loop-again c = (refl, refs-next _ _ _ _ _ _ (c .before .before .before .before .loop-test .taken) (c .before .before .before .before .before .loop .inv .1) _ _ (c .before .before .before .if1 .left) (c .before .before .word-at .ensures .0) (c .before .may-name .ensures) (not-false _ (c .if2 .left)))
 
--- src/lib.rt:73:1
 returns-3 : tie.Need-returns-3 Inv-loop μ-loop
-returns-3 c = ?
+returns-3 c = sym (refs-none _ _ _ _ _ (c .loop-test .left)) ∙ c .before .loop .inv .1
 
 pub refs-end-spec : {M : Type 1} → statement M
 refs-end-spec =
