@@ -83,7 +83,7 @@ module _ (l : List ℕ) (q r : ℕ) (b : Bytes l) (h : q ≤ length l) where
       let p = pow-add 2 (8 * q) r in
       omega arith
 
-bits-of : (n : ℕ) → 8 * (n / 8) + n % 8 ≡ n
+pub bits-of : (n : ℕ) → 8 * (n / 8) + n % 8 ≡ n
 bits-of n = omega arith
 
 -- Bytes that end before bit n have nothing there.

@@ -2,3 +2,8 @@
 pub mod Tops
 pub mod Bodies
 pub mod Standard
+pub mod Bools
+pub mod Numbers
+pub mod Places
+pub mod Loops
+pub mod Clean

@@ -1,5 +1,6 @@
 // Bitfields: bit lists and bit vectors, held by value and as bodies of a message, as bitfield.rs of ethereum_ssz 0.10.4 has them.
 pub mod body;
+mod raw;
 
 use standard::Refusal;
 
