@@ -28,7 +28,7 @@ bitNum-split zero bs = omega arith
 bitNum-split (suc k) [] = omega arith
 bitNum-split (suc k) (x ∷ xs) = let r = bitNum-split k xs in rw (pow-succ' 2 k) (omega arith)
 
-bit-bound : (x : Bool) → bit x < 2
+pub bit-bound : (x : Bool) → bit x < 2
 bit-bound true = omega arith
 bit-bound false = omega arith
 
@@ -104,11 +104,11 @@ bitNum-low (suc k) n =
 pub bitNum-bitsOf : (k n : ℕ) → n < 2 ^ k → bitNum (bitsOf k n) ≡ n
 bitNum-bitsOf k n h = bitNum-low k n ∙ mod-eq-of-lt h
 
-odd-bit : (x : Bool) (m : ℕ) → eqb ((bit x + 2 * m) % 2) 1 ≡ x
+pub odd-bit : (x : Bool) (m : ℕ) → eqb ((bit x + 2 * m) % 2) 1 ≡ x
 odd-bit true m = let e : (1 + 2 * m) % 2 ≡ 1 = omega arith in rw e
 odd-bit false m = let e : (0 + 2 * m) % 2 ≡ 0 = omega arith in rw e
 
-half-bit : (x : Bool) (m : ℕ) → (bit x + 2 * m) / 2 ≡ m
+pub half-bit : (x : Bool) (m : ℕ) → (bit x + 2 * m) / 2 ≡ m
 half-bit true m = omega arith
 half-bit false m = omega arith
 

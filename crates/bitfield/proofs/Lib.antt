@@ -1,0 +1,9 @@
+-- Laws on bits and bytes, and what the definitions say of the standard.
+pub mod Tops
+pub mod Bodies
+pub mod Standard
+pub mod Bools
+pub mod Numbers
+pub mod Places
+pub mod Loops
+pub mod Clean

@@ -1,0 +1,234 @@
+-- One turn of each loop over raw bytes, and what is there after the last. Assumes nothing.
+use mathlib.Core.Path.{_≡_, refl, sym, ap, _∙_}
+use mathlib.Core.List.{List, [], _∷_, _++_, append-assoc}
+use Prim.Native.Nat.{ℕ, zero, suc, _+_, _-_, _*_, _/_, _%_, _^_, _<_, _≤_, min}
+use native.Mathlib.Nat.{pow-succ', mul-le-mul-left, mul-le-mul-right, one-le-pow}
+use native.Mathlib.Numerals.{add-one}
+use native.Mathlib.Omega.{arith}
+use borrow.Author.Tests.{eq-eqb, ne-eqb}
+use lib.Arith.{digits-mod}
+use lib.Bits.{bitOr, and-le-l, and-le-r, or-add-and}
+use lib.Count.{ones, onesIn, ones-cat}
+use lib.Dec.{eqb}
+use lib.Pow.{pow-pos, pow-add}
+use lib.ListN.{length, getD, set, take, drop, replicate, take-append-drop}
+use lib.Seq.{take-suc, drop-cons, append-snoc, set-at, length-take-le, drop-length}
+use Rattle.standard.specs.Bytes.{Bytes, le, num}
+use Rattle.standard.proofs.Bytes.{num-bound, bytes-take}
+use Rattle.standard.proofs.Bits.{pow-bytes, num-append}
+use Rattle.bitfield.specs.Raw.{zipped, firsts, Raw}
+use Rattle.bitfield.proofs.Tops.{byte-at}
+use Rattle.bitfield.proofs.Numbers.{raw-le}
+use Rattle.bitfield.proofs.Places.{num-at, num-set, raw-set, first-bound}
+
+-- Two lists put together, byte by byte
+length-zipped : (f : ℕ → ℕ → ℕ) (xs ys : List ℕ) → length xs ≡ length ys → length (zipped f xs ys) ≡ length xs
+unfolding zipped
+length-zipped f [] ys h = refl
+length-zipped f (x ∷ xs) [] h = sym h
+length-zipped f (x ∷ xs) (y ∷ ys) h = ap suc (length-zipped f xs ys (omega arith))
+
+zipped-snoc : (f : ℕ → ℕ → ℕ) (xs ys : List ℕ) (x y : ℕ) → length xs ≡ length ys
+    → zipped f (xs ++ (x ∷ [])) (ys ++ (y ∷ [])) ≡ zipped f xs ys ++ (f x y ∷ [])
+unfolding zipped
+zipped-snoc f [] [] x y h = refl
+zipped-snoc f [] (b ∷ ys) x y h = absurd (omega arith)
+zipped-snoc f (a ∷ xs) [] x y h = absurd (omega arith)
+zipped-snoc f (a ∷ xs) (b ∷ ys) x y h = ap (λ (l : List ℕ). f a b ∷ l) (zipped-snoc f xs ys x y (omega arith))
+
+pub firsts-next : (f : ℕ → ℕ → ℕ) (i : ℕ) (a b : List ℕ) → i < 256 → i < length a → i < length b
+    → set (firsts f i a b) i (f (getD a i 0) (getD b i 0)) ≡ firsts f (i + 1) a b
+unfolding firsts
+firsts-next f i a b h p q =
+    let la = length-take-le i a (omega arith) in
+    let lb = length-take-le i b (omega arith) in
+    let z = zipped f (take i a) (take i b) in
+    let lz : length z ≡ i = length-zipped f (take i a) (take i b) (la ∙ sym lb) ∙ la in
+    let e : 256 - i ≡ suc (256 - (i + 1)) = omega arith in
+    let s = zipped-snoc f (take i a) (take i b) (getD a i 0) (getD b i 0) (la ∙ sym lb) in
+    rw (e, set-at z 0 (replicate (256 - (i + 1)) 0) (f (getD a i 0) (getD b i 0)) i lz, add-one i, take-suc a i 0 p, take-suc b i 0 q, s, append-assoc)
+
+-- The bytes of a buffer that were put there, and the rest
+pub put-next : (o b l : List ℕ) (i : ℕ) → l ≡ take i b ++ drop i o → i < length b → i < length o
+    → set l i (getD b i 0) ≡ take (i + 1) b ++ drop (i + 1) o
+put-next o b l i e p q =
+    let lb = length-take-le i b (omega arith) in
+    rw (e, drop-cons o i 0 q, set-at (take i b) (getD o i 0) (drop (suc i) o) (getD b i 0) i lb, add-one i, take-suc b i 0 p, append-assoc)
+
+-- "Or" of two numbers is zero exactly if both are.
+or-none : (a b : ℕ) → bitOr a b ≡ 0 → (a ≡ 0) × (b ≡ 0)
+or-none a b e =
+    let s = or-add-and a b in
+    let l = and-le-l a b in
+    let r = and-le-r a b in
+    (omega arith, omega arith)
+
+-- What a loop that gathers by "or" knows at i: nothing was set exactly if nothing is set in all.
+pub record Gathered (l : List ℕ) (from acc i : ℕ) : Type 0 where
+  pub all : acc ≡ 0 → num (drop i l) ≡ 0 → num (drop from l) ≡ 0
+  pub none : num (drop from l) ≡ 0 → (acc ≡ 0) × (num (drop i l) ≡ 0)
+
+pub gathered-start : (l : List ℕ) (from : ℕ) → Gathered l from 0 from
+gathered-start l from = record { all = λ a z. z; none = λ z. (refl, z) }
+
+pub gathered-next : (l : List ℕ) (from acc i : ℕ) → i < length l → Gathered l from acc i → Gathered l from (bitOr acc (getD l i 0)) (i + 1)
+unfolding num
+gathered-next l from acc i h g =
+    let e : num (drop i l) ≡ getD l i 0 + 256 * num (drop (i + 1) l) = rw (add-one i, drop-cons l i 0 h) in
+    record {
+      all = λ (a : bitOr acc (getD l i 0) ≡ 0) (z : num (drop (i + 1) l) ≡ 0).
+          let o = or-none acc (getD l i 0) a in
+          g .all (o .0) (omega arith);
+      none = λ (z : num (drop from l) ≡ 0).
+          let k = g .none z in
+          let x : getD l i 0 ≡ 0 = omega arith in
+          (ors (k .0) x, omega arith);
+    }
+  where
+    ors : acc ≡ 0 → getD l i 0 ≡ 0 → bitOr acc (getD l i 0) ≡ 0
+    ors a x = let s = or-add-and acc (getD l i 0) in omega arith
+
+pub gathered-end : (l : List ℕ) (from acc : ℕ) → Gathered l from acc (length l) → eqb acc 0 ≡ eqb (num (drop from l)) 0
+unfolding num
+gathered-end l from acc g = cases acc g
+  where
+    ends : num (drop (length l) l) ≡ 0
+    ends = ap num (drop-length l)
+
+    cases : (a : ℕ) → Gathered l from a (length l) → eqb a 0 ≡ eqb (num (drop from l)) 0
+    cases zero g = sym (eq-eqb (num (drop from l)) 0 (g .all refl ends))
+    cases (suc a) g =
+        ne-eqb (suc a) 0 (λ (e : suc a ≡ 0). omega arith)
+        ∙ sym (ne-eqb (num (drop from l)) 0 (λ (e : num (drop from l) ≡ 0). let k = g .none e .0 in omega arith))
+
+-- The first bytes as a number, with one more
+pub num-more : (l : List ℕ) (i : ℕ) → i < length l → num (take (i + 1) l) ≡ num (take i l) + 256 ^ i * getD l i 0
+unfolding num
+num-more l i h =
+    rw (add-one i, take-suc l i 0 h, num-append (take i l) (getD l i 0 ∷ []), length-take-le i l (omega arith)) (omega arith)
+
+pub ones-more : (l : List ℕ) (i : ℕ) → Bytes l → i < length l → ones (num (take (i + 1) l)) ≡ ones (num (take i l)) + ones (getD l i 0)
+ones-more l i b h =
+    let f = first-bound l i b (omega arith) in
+    let p = pow-bytes i in
+    let e : num (take (i + 1) l) ≡ getD l i 0 * 2 ^ (8 * i) + num (take i l) = rw (← p) (num-more l i h ∙ omega arith) in
+    let c = ones-cat (8 * i) (getD l i 0) (num (take i l)) (omega arith) in
+    rw (e, c) (omega arith)
+
+-- Bytes moved up by s bytes and some bits, with what the last one lost at its top
+pub record Shifting (a : List ℕ) (s p : ℕ) (out : List ℕ) (carry i : ℕ) : Type 0 where
+  pub raw : Raw out
+  pub from : s ≤ i
+  pub room : carry < 2 ^ p
+  pub small : num out < 256 ^ i
+  pub number : num out + 256 ^ i * carry ≡ 256 ^ s * 2 ^ p * num (take (i - s) a)
+
+zeros-raw : Raw (replicate 256 0)
+unfolding Bytes
+zeros-raw = record { long = refl; bytes = all 256 }
+  where
+    all : (n : ℕ) → Bytes (replicate n 0)
+    all zero = tt
+    all (suc n) = (omega arith, all n)
+
+pub num-zeros : (n : ℕ) → num (replicate n 0) ≡ 0
+unfolding num
+num-zeros zero = refl
+num-zeros (suc n) = rw (num-zeros n)
+
+pub shifting-start : (a : List ℕ) (s p : ℕ) → Shifting a s p (replicate 256 0) 0 s
+shifting-start a s p =
+    let z = num-zeros 256 in
+    let e : s - s ≡ 0 = omega arith in
+    record {
+      raw = zeros-raw;
+      from = omega arith;
+      room = pow-pos p;
+      small = rw z (one-le-pow s 256 (omega arith));
+      number = rw (e, z, num-zeros 0) (omega arith);
+    }
+
+-- A byte behind all that the number uses is zero.
+zero-at : (l : List ℕ) (i : ℕ) → i < length l → num l < 256 ^ i → getD l i 0 ≡ 0
+zero-at l i h k = small (getD l i 0) (num-at l i h)
+  where
+    small : (x : ℕ) → num l ≡ num (take i l) + 256 ^ i * (x + 256 * num (drop (suc i) l)) → x ≡ 0
+    small zero e = refl
+    small (suc x) e = absurd (omega arith)
+
+turn : (n n′ S Q T carry t x m lo hi : ℕ) → t ≡ x * T + carry → t ≡ lo + 256 * hi → n′ ≡ n + S * Q * lo
+    → n + S * Q * carry ≡ S * T * m → n′ + 256 * (S * Q) * hi ≡ S * T * (m + Q * x)
+turn n n′ S Q T carry t x m lo hi e f g h =
+    let e′ : S * Q * t ≡ S * Q * (x * T + carry) = ap (λ (z : ℕ). S * Q * z) e in
+    let f′ : S * Q * t ≡ S * Q * (lo + 256 * hi) = ap (λ (z : ℕ). S * Q * z) f in
+    omega arith
+
+module _ (a : List ℕ) (s p : ℕ) (out : List ℕ) (carry i t : ℕ) (r : Raw a) (h : i < 256) (g : Shifting a s p out carry i)
+    (e : t ≡ getD a (i - s) 0 * 2 ^ p + carry) where
+  below : t < 256 * 2 ^ p
+  below =
+      let b = byte-at a (i - s) (r .bytes) in
+      let m = mul-le-mul-right {m = getD a (i - s) 0} {n = 255} (2 ^ p) (omega arith) in
+      let c = g .room in
+      omega arith
+
+  stored : num (set out i (t % 256)) ≡ num out + 256 ^ i * (t % 256)
+  stored =
+      let l : i < length out = rw (g .raw .long) h in
+      let z = zero-at out i l (g .small) in
+      let n = rw z at (num-set out i (t % 256) l) in
+      omega arith
+
+  next-small : num (set out i (t % 256)) < 256 ^ (i + 1)
+  next-small =
+      let n = stored in
+      let k = g .small in
+      let m = mul-le-mul-left {m = t % 256} {n = 255} (256 ^ i) (omega arith) in
+      rw (add-one i, pow-succ' 256 i) (omega arith)
+
+  next-number : num (set out i (t % 256)) + 256 ^ (i + 1) * (t / 256) ≡ 256 ^ s * 2 ^ p * num (take (i + 1 - s) a)
+  next-number =
+      let f = g .from in
+      let q : i + 1 - s ≡ i - s + 1 = omega arith in
+      let w : 256 ^ i ≡ 256 ^ s * 256 ^ (i - s) = rw (← pow-add 256 s (i - s)) (ap (λ (k : ℕ). 256 ^ k) (omega arith)) in
+      let m = num-more a (i - s) (rw (r .long) (omega arith)) in
+      let n = stored in
+      let o = g .number in
+      rw (q, m, add-one i, pow-succ' 256 i, w)
+      (turn (num out) _ (256 ^ s) (256 ^ (i - s)) (2 ^ p) carry t (getD a (i - s) 0) (num (take (i - s) a)) (t % 256) (t / 256) e (omega arith) (rw w at n) (rw w at o))
+
+  pub shifting-next : Shifting a s p (set out i (t % 256)) (t / 256) (i + 1)
+  shifting-next =
+      let b = below in
+      let f = g .from in
+      record {
+        raw = raw-set out i (t % 256) (g .raw) (omega arith);
+        from = omega arith;
+        room = omega arith;
+        small = next-small;
+        number = next-number;
+      }
+
+whole : (o S Q T carry m R x : ℕ) → o + S * Q * carry ≡ S * T * m → x ≡ m + Q * R → x * (S * T) ≡ (R * T + carry) * (S * Q) + o
+whole o S Q T carry m R x e f =
+    let f′ : x * (S * T) ≡ (m + Q * R) * (S * T) = ap (λ (z : ℕ). z * (S * T)) f in
+    omega arith
+
+pub shifting-end : (a : List ℕ) (n : ℕ) (out : List ℕ) (carry used : ℕ) → Raw a → used ≤ 256
+    → Shifting a (n / 8) (n % 8) out carry used → out ≡ le 256 ((num a * 2 ^ n) % 256 ^ used)
+shifting-end a n out carry used r h g =
+    let s = n / 8 in
+    let f = g .from in
+    let k : used - s ≤ length a = rw (r .long) (omega arith) in
+    let split = num-append (take (used - s) a) (drop (used - s) a) in
+    let parts = rw (take-append-drop (used - s) a, length-take-le (used - s) a k) at split in
+    let w : 256 ^ used ≡ 256 ^ s * 256 ^ (used - s) = rw (← pow-add 256 s (used - s)) (ap (λ (m : ℕ). 256 ^ m) (omega arith)) in
+    let two : 2 ^ n ≡ 256 ^ s * 2 ^ (n % 8) = rw (pow-bytes s, ← pow-add 2 (8 * s) (n % 8)) (ap (λ (m : ℕ). 2 ^ m) (omega arith)) in
+    let all = whole (num out) (256 ^ s) (256 ^ (used - s)) (2 ^ (n % 8)) carry _ (num (drop (used - s) a)) (num a) (rw w at (g .number)) parts in
+    let e : (num a * 2 ^ n) % 256 ^ used ≡ num out =
+    rw (two, w, all) (digits-mod (num (drop (used - s) a) * 2 ^ (n % 8) + carry) (rw w at (g .small))) in
+    rw e (raw-le out (g .raw))
+
+pub ones-start : (l : List ℕ) → 0 ≡ ones (num (take 0 l))
+unfolding num ones onesIn
+ones-start l = refl

@@ -1,0 +1,57 @@
+-- `bitfield::raw::is_clean` meets its contract: the byte that holds the end, and then those behind it. Assumes nothing.
+use mathlib.Core.Path.{_∙_}
+use borrow.Author.Tests.{lt-leb}
+use borrow.Author.Needs.{needs}
+use Rattle.bitfield.specs.Raw.{clean}
+use Rattle.bitfield.proofs.Clean.{clean-full, clean-not, clean-rest}
+use Rattle.bitfield.proofs.raw.is_clean.Statement.{statement}
+use Rattle.bitfield.proofs.raw.is_clean.Tie as tie
+
+returns : tie.Need-returns
+unfolding clean
+returns c = rw (lt-leb _ 2048 (c .if1 .taken))
+
+returns-2 : tie.Need-returns-2
+returns-2 c =
+    let s = c .before .before in
+    clean-full _ (s .args .len) (s .pre) (c .before .if1 .left) (c .if2 .taken)
+
+element-copy-out-if3 : tie.Need-element-copy-out-if3
+element-copy-out-if3 c = search needs
+
+cast-if3 : tie.Need-cast-if3
+cast-if3 c = search needs
+
+shr-if3 : tie.Need-shr-if3
+shr-if3 c = search needs
+
+returns-3 : tie.Need-returns-3
+returns-3 c =
+    let s = c .before .before .before .before in
+    clean-not _ (s .args .len) (s .pre) (c .before .before .before .if1 .left) (c .before .before .if2 .left) (c .if3 .taken)
+
+add-none-from : tie.Need-add-none-from
+add-none-from c = search needs
+
+none-from-requires : tie.Need-none-from-requires
+none-from-requires c κs = search needs
+
+returns-4 : tie.Need-returns-4
+returns-4 c =
+    let s = c .before .before .before .before .before in
+    let tests = clean-rest _ (s .args .len) (s .pre) (c .before .before .before .before .if1 .left) (c .before .before .before .if2 .left) in
+    c .none-from .ensures ∙ tests (c .before .if3 .left)
+
+pub is-clean-spec : {M : Type 1} → statement M
+is-clean-spec =
+    tie.close
+    (tie.spec
+    returns
+    returns-2
+    element-copy-out-if3
+    cast-if3
+    shr-if3
+    returns-3
+    add-none-from
+    none-from-requires
+    returns-4)

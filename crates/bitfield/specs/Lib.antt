@@ -1,0 +1,4 @@
+pub mod Body
+pub mod Bools
+pub mod Raw
+pub mod Facts

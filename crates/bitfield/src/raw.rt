@@ -1,0 +1,209 @@
+// Raw bytes of a held bitfield: 256 of them, of which the first ones are in use. Loops go byte by byte over those in use.
+use super::body::bytes_for;
+ghost use mathlib.Core.Path.{_≡_};
+ghost use mathlib.Core.List.{_++_};
+ghost use Prim.Native.Nat.{_+_, _*_, _/_, _%_, _^_, _<_, _≤_};
+ghost use lib.Count.{ones};
+ghost use lib.Dec.{eqb};
+ghost use lib.ListN.{length, take, drop};
+ghost use Rattle.standard.specs.Bytes.{Bytes, num, le};
+ghost use Rattle.standard.specs.Bits.{bit};
+ghost use Rattle.bitfield.specs.Body.{bytesFor};
+ghost use Rattle.bitfield.specs.Raw.{Raw, opOf, keep, firsts, clean, maskOf};
+ghost use Rattle.bitfield.specs.Facts.{Put};
+
+// What is done with two bytes; the last one looks at the first byte alone.
+pub(crate) enum Op {
+    And,
+    Or,
+    AndNot,
+    Not,
+}
+
+fn byte_op(op: Op, x: u8, y: u8) -> u8
+    ensures { λ r. ⌜ r ≡ opOf op x y ⌝ }
+{
+    match op {
+        Op::And => x & y,
+        Op::Or => x | y,
+        Op::AndNot => x & !y,
+        Op::Not => !x,
+    }
+}
+
+// The first bytes of a and b, put together one by one; zero behind them.
+pub(crate) fn combine(op: Op, a: &[u8; 256], b: &[u8; 256], used: usize) -> [u8; 256]
+    requires { ⌜ (used ≤ 256) × Raw (now a) × Raw (now b) ⌝ }
+    ensures { λ r. ⌜ r ≡ firsts (opOf op) used (now (a .entry)) (now (b .entry)) ⌝ }
+{
+    let mut out = [0u8; 256];
+    let mut i = 0;
+    while i < used {
+        out[i] = byte_op(op, a[i], b[i]);
+        i += 1;
+    }
+    out
+}
+
+// The first bytes of a slice, zero behind them.
+pub(crate) fn copy_of(bytes: &[u8], used: usize) -> [u8; 256]
+    requires { ⌜ (used ≤ 256) × (used ≤ length (now bytes)) ⌝ }
+    ensures { λ r. ⌜ r ≡ firsts keep used (now (bytes .entry)) (now (bytes .entry)) ⌝ }
+{
+    let mut out = [0u8; 256];
+    let mut i = 0;
+    while i < used {
+        out[i] = bytes[i];
+        i += 1;
+    }
+    out
+}
+
+// Whether the bytes from a place on are all zero.
+pub(crate) fn none_from(bytes: &[u8; 256], from: usize) -> bool
+    requires { ⌜ (from ≤ 256) × Raw (now bytes) ⌝ }
+    ensures { λ r. ⌜ r ≡ eqb (num (drop from (now (bytes .entry)))) 0 ⌝ }
+{
+    let mut acc = 0u8;
+    let mut i = from;
+    while i < 256 {
+        acc |= bytes[i];
+        i += 1;
+    }
+    acc == 0
+}
+
+// At most 2,048 bits, and nothing set behind them.
+pub(crate) fn is_clean(bytes: &[u8; 256], len: usize) -> bool
+    requires { ⌜ Raw (now bytes) ⌝ }
+    ensures { λ r. ⌜ r ≡ clean (now (bytes .entry)) len ⌝ }
+{
+    if len > 2048 {
+        return false;
+    }
+    let q = len / 8;
+    if q == 256 {
+        return true;
+    }
+    if bytes[q] >> (len % 8) != 0 {
+        return false;
+    }
+    none_from(bytes, q + 1)
+}
+
+// The bits of the last byte that len bits use: all eight at lengths 8, 16 and so on, none at length 0.
+fn last_byte_mask(len: usize) -> u8
+    ensures { λ r. ⌜ r ≡ maskOf len ⌝ }
+{
+    if len == 0 {
+        return 0;
+    }
+    255u8 >> ((8 - len % 8) % 8)
+}
+
+// Clears what the last byte in use has behind len bits.
+pub(crate) fn cut(bytes: &mut [u8; 256], len: usize)
+    requires { ⌜ (len ≤ 2048) × Raw (now bytes) × (num (now bytes) < 2 ^ (8 * bytesFor len)) ⌝ }
+    ensures { λ r. ⌜ now (bytes .exit) ≡ le 256 (num (now (bytes .entry)) % 2 ^ len) ⌝ }
+{
+    let used = bytes_for(len);
+    if used == 0 {
+        return;
+    }
+    let last = used - 1;
+    let x = bytes[last];
+    bytes[last] = x & last_byte_mask(len);
+}
+
+// A byte, some places up.
+fn spread(x: u8, places: usize) -> usize
+    requires { ⌜ places < 8 ⌝ }
+    ensures { λ r. ⌜ (r ≡ x * 2 ^ places) × (r ≤ 255 * 2 ^ places) × (2 ^ places ≤ 128) ⌝ }
+{
+    (x as usize) << places
+}
+
+fn low_byte(t: usize) -> u8
+    ensures { λ r. ⌜ r ≡ t % 256 ⌝ }
+{
+    (t & 255) as u8
+}
+
+// The bytes n bits up, as far as they are in use: each byte takes what the one before it lost at its top.
+pub(crate) fn shifted(a: &[u8; 256], n: usize, used: usize) -> [u8; 256]
+    requires { ⌜ (used ≤ 256) × (n ≤ 8 * used) × Raw (now a) ⌝ }
+    ensures { λ r. ⌜ r ≡ le 256 ((num (now (a .entry)) * 2 ^ n) % 256 ^ used) ⌝ }
+{
+    let s = n / 8;
+    let places = n % 8;
+    let mut out = [0u8; 256];
+    let mut carry = 0usize;
+    let mut i = s;
+    while i < used {
+        let t = spread(a[i - s], places) + carry;
+        out[i] = low_byte(t);
+        carry = t / 256;
+        i += 1;
+    }
+    out
+}
+
+fn ones_of(x: u8) -> usize
+    ensures { λ r. ⌜ (r ≡ ones x) × (r ≤ 8) ⌝ }
+{
+    u8::count_ones(x) as usize
+}
+
+// How many bits of the first bytes are set.
+pub(crate) fn ones_in(bytes: &[u8; 256], used: usize) -> usize
+    requires { ⌜ (used ≤ 256) × Raw (now bytes) ⌝ }
+    ensures { λ r. ⌜ r ≡ ones (num (take used (now (bytes .entry)))) ⌝ }
+{
+    let mut sum = 0usize;
+    let mut i = 0;
+    while i < used {
+        sum += ones_of(bytes[i]);
+        i += 1;
+    }
+    sum
+}
+
+// Bit i: bit i mod 8 of byte i/8.
+pub(crate) fn bit_at(bytes: &[u8; 256], i: usize) -> bool
+    requires { ⌜ (i < 2048) × Raw (now bytes) ⌝ }
+    ensures { λ r. ⌜ r ≡ eqb (num (now (bytes .entry)) / 2 ^ i % 2) 1 ⌝ }
+{
+    let x = bytes[i / 8];
+    (x >> (i % 8)) & 1 == 1
+}
+
+// A byte with its bit j made v.
+fn with_bit(x: u8, j: usize, v: bool) -> u8
+    requires { ⌜ j < 8 ⌝ }
+    ensures { λ r. ⌜ r + 2 ^ j * (x / 2 ^ j % 2) ≡ x + 2 ^ j * bit v ⌝ }
+{
+    let m = 1u8 << j;
+    if v { x | m } else { x & !m }
+}
+
+// Makes bit i v.
+pub(crate) fn put_bit(bytes: &mut [u8; 256], i: usize, v: bool)
+    requires { ⌜ (i < 2048) × Raw (now bytes) ⌝ }
+    ensures { λ r. ⌜ Put (now (bytes .entry)) i v (now (bytes .exit)) ⌝ }
+{
+    let q = i / 8;
+    let x = bytes[q];
+    bytes[q] = with_bit(x, i % 8, v);
+}
+
+// Puts the first bytes of a bitfield into a buffer, which keeps the rest.
+pub(crate) fn put_raw(out: &mut [u8], bytes: &[u8; 256], used: usize)
+    requires { ⌜ (used ≤ 256) × (used ≤ length (now out)) × Raw (now bytes) ⌝ }
+    ensures { λ r. ⌜ now (out .exit) ≡ take used (now (bytes .entry)) ++ drop used (now (out .entry)) ⌝ }
+{
+    let mut i = 0;
+    while i < used {
+        out[i] = bytes[i];
+        i += 1;
+    }
+}
