@@ -1,1 +1,3 @@
 pub mod Lengths
+pub mod Encoder
+pub mod Finish

@@ -1,0 +1,3 @@
+-- Laws of the encoder.
+pub mod Tests
+pub mod Copy

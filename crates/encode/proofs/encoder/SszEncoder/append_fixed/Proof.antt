@@ -1,0 +1,53 @@
+-- The definition goes by the same tests; the copy's own promise says the buffer. Assumes nothing.
+use mathlib.Core.Path.{refl}
+use borrow.Author.Tests.{le-leb, lt-leb}
+use Rattle.encode.specs.Encoder.{appendFixed}
+use Rattle.encode.proofs.Tests.{room, no-room}
+use borrow.Author.Needs.{needs}
+use Rattle.encode.proofs.encoder.SszEncoder.append_fixed.Statement.{statement}
+use Rattle.encode.proofs.encoder.SszEncoder.append_fixed.Tie as tie
+
+returns : tie.Need-returns
+unfolding appendFixed
+returns c = rw (lt-leb _ _ (c .if1 .taken)) (refl, refl)
+
+returns-2 : tie.Need-returns-2
+unfolding appendFixed
+returns-2 c = rw (le-leb _ _ (c .before .if1 .left), lt-leb _ _ (c .if2 .taken)) (refl, refl)
+
+sub-if3 : tie.Need-sub-if3
+sub-if3 c = search needs
+
+add-t14 : tie.Need-add-t14
+add-t14 c = search needs
+
+returns-3 : tie.Need-returns-3
+unfolding appendFixed
+returns-3 c = rw (le-leb _ _ (c .before .before .if1 .left), le-leb _ _ (c .before .if2 .left), no-room _ _ _ (c .before .before .if1 .left) (c .if3 .taken)) (refl, refl)
+
+copy-into-requires : tie.Need-copy-into-requires
+copy-into-requires c κs = search needs
+
+add-t11 : tie.Need-add-t11
+add-t11 c = search needs
+
+same-length : tie.Need-same-length
+same-length c = search needs
+
+returns-4 : tie.Need-returns-4
+unfolding appendFixed
+returns-4 c = rw (le-leb _ _ (c .before .before .before .before .before .before .if1 .left), le-leb _ _ (c .before .before .before .before .before .if2 .left), room _ _ _ (c .before .before .before .before .before .before .if1 .left) (c .before .before .before .before .if3 .left)) (refl, c .before .before .copy-into .ensures)
+
+pub append-fixed-spec : {M : Type 1} → statement M
+append-fixed-spec =
+    tie.close
+    (tie.spec
+    returns
+    returns-2
+    sub-if3
+    add-t14
+    returns-3
+    copy-into-requires
+    add-t11
+    same-length
+    returns-4)
