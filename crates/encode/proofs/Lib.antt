@@ -1,3 +1,4 @@
 -- Laws of the encoder.
 pub mod Tests
 pub mod Copy
+pub mod Container

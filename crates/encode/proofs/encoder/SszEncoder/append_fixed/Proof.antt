@@ -13,7 +13,10 @@ returns c = rw (lt-leb _ _ (c .if1 .taken)) (refl, refl)
 
 returns-2 : tie.Need-returns-2
 unfolding appendFixed
-returns-2 c = rw (le-leb _ _ (c .before .if1 .left), lt-leb _ _ (c .if2 .taken)) (refl, refl)
+returns-2 c =
+    let front = c .before .if1 .left in
+    let short = c .if2 .taken in
+    rw (le-leb _ _ front, lt-leb _ _ short) (refl, refl)
 
 sub-if3 : tie.Need-sub-if3
 sub-if3 c = search needs
@@ -23,7 +26,11 @@ add-t14 c = search needs
 
 returns-3 : tie.Need-returns-3
 unfolding appendFixed
-returns-3 c = rw (le-leb _ _ (c .before .before .if1 .left), le-leb _ _ (c .before .if2 .left), no-room _ _ _ (c .before .before .if1 .left) (c .if3 .taken)) (refl, refl)
+returns-3 c =
+    let front = c .before .before .if1 .left in
+    let back = c .before .if2 .left in
+    let full = c .if3 .taken in
+    rw (le-leb _ _ front, le-leb _ _ back, no-room _ _ _ front full) (refl, refl)
 
 copy-into-requires : tie.Need-copy-into-requires
 copy-into-requires c κs = search needs
@@ -36,7 +43,11 @@ same-length c = search needs
 
 returns-4 : tie.Need-returns-4
 unfolding appendFixed
-returns-4 c = rw (le-leb _ _ (c .before .before .before .before .before .before .if1 .left), le-leb _ _ (c .before .before .before .before .before .if2 .left), room _ _ _ (c .before .before .before .before .before .before .if1 .left) (c .before .before .before .before .if3 .left)) (refl, c .before .before .copy-into .ensures)
+returns-4 c =
+    let front = c .before .before .before .before .before .before .if1 .left in
+    let back = c .before .before .before .before .before .if2 .left in
+    let free = c .before .before .before .before .if3 .left in
+    rw (le-leb _ _ front, le-leb _ _ back, room _ _ _ front free) (refl, c .before .before .copy-into .ensures)
 
 pub append-fixed-spec : {M : Type 1} → statement M
 append-fixed-spec =

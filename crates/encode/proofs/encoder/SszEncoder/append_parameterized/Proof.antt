@@ -17,7 +17,10 @@ same-length-2 : tie.Need-same-length-2
 same-length-2 c = search needs
 
 returns : tie.Need-returns
-returns c = rw (c .before .before .before .before .before .if1 .taken) (c .before .before .append-fixed .ensures .0, (c .before .before .append-fixed .ensures .1, appended-none (c .before .before .append-fixed .result) _ (c .before .before .before .before .before .before .before .before .before .args .self .«variable_used»)))
+returns c =
+    let r = c .before .before .append-fixed in
+    rw (c .before .before .before .before .before .if1 .taken)
+    (r .ensures .0, (r .ensures .1, appended-none (r .result) _ (c .before .before .before .before .before .before .before .before .before .args .self .«variable_used»)))
 
 same-length-3 : tie.Need-same-length-3
 same-length-3 c = search needs

@@ -15,14 +15,21 @@ returns c = rw (lt-leb _ _ (c .if1 .taken)) (refl, (refl, refl))
 
 returns-2 : tie.Need-returns-2
 unfolding appendVariable
-returns-2 c = rw (le-leb _ _ (c .before .if1 .left), lt-leb _ _ (c .if2 .taken)) (refl, (refl, refl))
+returns-2 c =
+    let front = c .before .if1 .left in
+    let short = c .if2 .taken in
+    rw (le-leb _ _ front, lt-leb _ _ short) (refl, (refl, refl))
 
 is-offset-requires : tie.Need-is-offset-requires
 is-offset-requires c κs = search needs
 
 returns-3 : tie.Need-returns-3
 unfolding appendVariable
-returns-3 c = rw (le-leb _ _ (c .before .before .before .if1 .left), le-leb _ _ (c .before .before .if2 .left), sym (c .before .is-offset .ensures) ∙ not-true _ (c .if3 .taken)) (refl, (refl, refl))
+returns-3 c =
+    let front = c .before .before .before .if1 .left in
+    let back = c .before .before .if2 .left in
+    let large = sym (c .before .is-offset .ensures) ∙ not-true _ (c .if3 .taken) in
+    rw (le-leb _ _ front, le-leb _ _ back, large) (refl, (refl, refl))
 
 sub-if4 : tie.Need-sub-if4
 sub-if4 c = search needs
@@ -32,7 +39,12 @@ add-t14 c = search needs
 
 returns-4 : tie.Need-returns-4
 unfolding appendVariable
-returns-4 c = rw (le-leb _ _ (c .before .before .before .before .if1 .left), le-leb _ _ (c .before .before .before .if2 .left), sym (c .before .before .is-offset .ensures) ∙ not-false _ (c .before .if3 .left), no-room _ _ _ (c .before .before .before .before .if1 .left) (c .if4 .taken)) (refl, (refl, refl))
+returns-4 c =
+    let front = c .before .before .before .before .if1 .left in
+    let back = c .before .before .before .if2 .left in
+    let small = sym (c .before .before .is-offset .ensures) ∙ not-false _ (c .before .if3 .left) in
+    let full = c .if4 .taken in
+    rw (le-leb _ _ front, le-leb _ _ back, small, no-room _ _ _ front full) (refl, (refl, refl))
 
 sub-if5 : tie.Need-sub-if5
 sub-if5 c = search needs
@@ -42,10 +54,19 @@ add-t19 c = search needs
 
 returns-5 : tie.Need-returns-5
 unfolding appendVariable
-returns-5 c = rw (le-leb _ _ (c .before .before .before .before .before .if1 .left), le-leb _ _ (c .before .before .before .before .if2 .left), sym (c .before .before .before .is-offset .ensures) ∙ not-false _ (c .before .before .if3 .left), room _ _ _ (c .before .before .before .before .before .if1 .left) (c .before .if4 .left), no-room _ _ _ (c .before .before .before .before .if2 .left) (c .if5 .taken)) (refl, (refl, refl))
+returns-5 c =
+    let front = c .before .before .before .before .before .if1 .left in
+    let back = c .before .before .before .before .if2 .left in
+    let small = sym (c .before .before .before .is-offset .ensures) ∙ not-false _ (c .before .before .if3 .left) in
+    let free = c .before .if4 .left in
+    let full = c .if5 .taken in
+    rw (le-leb _ _ front, le-leb _ _ back, small, room _ _ _ front free, no-room _ _ _ back full) (refl, (refl, refl))
 
 add-put-four : tie.Need-add-put-four
-add-put-four c = omega (arith, leb-true (c .before .before .before .before .before .before .before .before .before .before .before .args .self .offset + c .before .before .before .before .before .before .before .before .before .before .before .args .self .«variable_used») 4294967295 (sym (c .before .before .before .before .before .is-offset .ensures) ∙ not-false _ (c .before .before .before .before .if3 .left)))
+add-put-four c =
+    let x = c .before .before .before .before .before .before .before .before .before .before .before .args .self in
+    let small = sym (c .before .before .before .before .before .is-offset .ensures) ∙ not-false _ (c .before .before .before .before .if3 .left) in
+    omega (arith, leb-true (x .offset + x .«variable_used») 4294967295 small)
 
 put-four-requires : tie.Need-put-four-requires
 put-four-requires c κs = search needs
@@ -67,7 +88,14 @@ same-length-2 c = search needs
 
 returns-6 : tie.Need-returns-6
 unfolding appendVariable
-returns-6 c = rw (le-leb _ _ (c .before .before .before .before .before .before .before .before .before .before .before .before .before .before .if1 .left), le-leb _ _ (c .before .before .before .before .before .before .before .before .before .before .before .before .before .if2 .left), sym (c .before .before .before .before .before .before .before .before .before .before .before .before .is-offset .ensures) ∙ not-false _ (c .before .before .before .before .before .before .before .before .before .before .before .if3 .left), room _ _ _ (c .before .before .before .before .before .before .before .before .before .before .before .before .before .before .if1 .left) (c .before .before .before .before .before .before .before .before .before .before .if4 .left), room _ _ _ (c .before .before .before .before .before .before .before .before .before .before .before .before .before .if2 .left) (c .before .before .before .before .before .before .before .before .before .if5 .left)) (refl, (c .before .before .before .before .before .before .put-four .ensures, c .before .before .copy-into .ensures))
+returns-6 c =
+    let front = c .before .before .before .before .before .before .before .before .before .before .before .before .before .before .if1 .left in
+    let back = c .before .before .before .before .before .before .before .before .before .before .before .before .before .if2 .left in
+    let small = sym (c .before .before .before .before .before .before .before .before .before .before .before .before .is-offset .ensures) ∙ not-false _ (c .before .before .before .before .before .before .before .before .before .before .before .if3 .left) in
+    let free = c .before .before .before .before .before .before .before .before .before .before .if4 .left in
+    let open-end = c .before .before .before .before .before .before .before .before .before .if5 .left in
+    rw (le-leb _ _ front, le-leb _ _ back, small, room _ _ _ front free, room _ _ _ back open-end)
+    (refl, (c .before .before .before .before .before .before .put-four .ensures, c .before .before .copy-into .ensures))
 
 pub append-variable-spec : {M : Type 1} → statement M
 append-variable-spec =
