@@ -1,2 +1,3 @@
 -- Laws on registration, that the crates above cite.
 pub mod Register
+pub mod Walk

@@ -1,3 +1,4 @@
 pub mod Offsets
 pub mod Unions
 pub mod Builder
+pub mod Held
