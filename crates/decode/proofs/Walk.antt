@@ -15,19 +15,21 @@ use Rattle.decode.specs.declared.builder.Step.{Step}
 use Rattle.decode.specs.Builder.{fresh, follow}
 use Rattle.decode.specs.Held.{zeros, recall, walk}
 
--- All entries from a place on are zero: one entry, and the rest.
-module _ (a : List ℕ) (i : ℕ) where
-  pub zeros-more : i < length a → getD a i 0 ≡ 0 → zeros (drop (i + 1) a) ≡ zeros (drop i a)
+-- All entries of a record from a place on are zero: one entry, and the rest.
+module _ (a : List ℕ) (i : ℕ) (long : length a ≡ 64) where
+  pub zeros-more : i < 64 → getD a i 0 ≡ 0 → zeros (drop (i + 1) a) ≡ zeros (drop i a)
   unfolding zeros
-  zeros-more h e = rw (add-one, drop-cons a i 0 h, eq-eqb _ _ e)
+  zeros-more h e = rw (add-one, drop-cons a i 0 (omega arith), eq-eqb _ _ e)
 
-  pub zeros-not : i < length a → (getD a i 0 ≡ 0 → ⊥) → zeros (drop i a) ≡ false
+  pub zeros-stop : i < 64 → (getD a i 0 ≡ 0 → ⊥) → false ≡ zeros (drop i a)
   unfolding zeros
-  zeros-not h e = rw (drop-cons a i 0 h, ne-eqb _ _ e)
+  zeros-stop h e = rw (drop-cons a i 0 (omega arith), ne-eqb _ _ e)
 
-  pub zeros-end : length a ≤ i → zeros (drop i a) ≡ true
+  pub zeros-end : 64 ≤ i → true ≡ zeros (drop i a)
   unfolding zeros
-  zeros-end h = rw (drop-of-length-le a h)
+  zeros-end h =
+      let k : length a ≤ i = omega arith in
+      rw (drop-of-length-le a k)
 
 -- The first i of n items are walked, which has come to x.
 pub record Walking (ss es : List ℕ) (n : ℕ) (b : List ℕ) (x : Progress) (i : ℕ) : Type 0 where

@@ -1,6 +1,6 @@
 -- The loop keeps: what is left is zero just if the whole is. Assumes nothing.
 use mathlib.Core.Path.{_≡_, refl, sym, _∙_}
-use Rattle.decode.proofs.Walk.{zeros-more, zeros-not, zeros-end}
+use Rattle.decode.proofs.Walk.{zeros-more, zeros-stop, zeros-end}
 use lib.ListN.{length, drop}
 use mathlib.Core.Path.{_≡_}
 use Prim.Native.Nat.{_-_}
@@ -31,7 +31,7 @@ array-read-if1 c = omega arith
 
 -- src/decoder.rt:55:13
 returns : tie.Need-returns Inv-loop μ-loop
-returns c = sym (zeros-not _ _ (omega (arith, c .before .before .before .good .0 .1 .0 .1)) (c .if1 .taken)) ∙ c .before .before .loop .inv
+returns c = zeros-stop _ _ (c .before .before .before .good .0 .1 .0 .1) (c .before .loop-test .taken) (c .if1 .taken) ∙ c .before .before .loop .inv
 
 -- src/decoder.rt:57:9
 add-i : tie.Need-add-i Inv-loop μ-loop
@@ -43,11 +43,11 @@ loop-less c = omega arith
 
 -- src/decoder.rt:53:5
 loop-again : tie.Need-loop-again Inv-loop μ-loop
-loop-again c = zeros-more _ _ (omega (arith, c .before .before .before .good .0 .1 .0 .1)) (c .if1 .left) ∙ c .before .before .loop .inv
+loop-again c = zeros-more _ _ (c .before .before .before .good .0 .1 .0 .1) (c .before .loop-test .taken) (c .if1 .left) ∙ c .before .before .loop .inv
 
 -- src/decoder.rt:49:1
 returns-2 : tie.Need-returns-2 Inv-loop μ-loop
-returns-2 c = sym (zeros-end _ _ (omega (arith, c .before .before .good .0 .1 .0 .1))) ∙ c .before .loop .inv
+returns-2 c = zeros-end _ _ (c .before .before .good .0 .1 .0 .1) (c .loop-test .left) ∙ c .before .loop .inv
 
 pub is-zero-from-spec : {M : Type 1} → statement M
 is-zero-from-spec =

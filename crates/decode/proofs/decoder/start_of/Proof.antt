@@ -24,7 +24,7 @@ returns c = search needs
 
 -- src/decoder.rt:104:1
 returns-2 : tie.Need-returns-2
-returns-2 c = rw (c .before .enum-told2 .given) (c .four-at .ensures)
+returns-2 c = rw (c .before .enum-told2 .given .1) (c .four-at .ensures)
 
 pub start-of-spec : {M : Type 1} → statement M
 start-of-spec = tie.close (tie.spec enum-told enum-told-2 four-at-requires returns returns-2)
