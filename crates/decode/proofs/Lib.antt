@@ -1,3 +1,5 @@
 -- Laws on registration, that the crates above cite.
 pub mod Register
 pub mod Walk
+pub mod Close
+pub mod Items

@@ -2,7 +2,7 @@
 use mathlib.Core.Path.{_≡_}
 use mathlib.Core.List.{List, [], _∷_}
 use mathlib.Core.Bool.{Bool, true, false}
-use Prim.Native.Nat.{ℕ, zero, suc, _+_, _-_, _<_, _^_}
+use Prim.Native.Nat.{ℕ, zero, suc, _+_, _-_, _≤_, _<_, _^_}
 use lib.ListN.{length, replicate, set, drop}
 use lib.Dec.{eqb, ltb, leb}
 use Rattle.standard.specs.Choice.{pick, andAlso}
@@ -85,6 +85,11 @@ recalled x b =
     bad)
     bad)
     bad
+
+-- A progress has come as far as the state, within the bytes.
+pub record Come (p : Progress) (x : SszDecoderBuilder) (b : List ℕ) : Type 0 where
+  pub same : p .pos ≡ x .pos
+  pub within : p .pos ≤ length b
 
 -- One registration: 23 for a state that no run reaches, 21, 26, then the rules of reading. "refusals return the old state"
 abbrev pub old : SszDecoderBuilder → Refusal → Registered

@@ -2,3 +2,4 @@ pub mod Offsets
 pub mod Unions
 pub mod Builder
 pub mod Held
+pub mod Reader

@@ -8,8 +8,6 @@ use Rattle.decode.specs.Held.{zeros}
 use native.Mathlib.Omega.{arith}
 use Rattle.decode.proofs.decoder.is_zero_from.Statement.{statement}
 use Rattle.decode.proofs.decoder.is_zero_from.Tie as tie
-use Rattle.decode.proofs.decoder.is_zero_from.Reads as reads
-use Rattle.decode.proofs.decoder.is_zero_from.Lts as lts
 
 abbrev Inv-loop : tie.InvT-loop
 Inv-loop from a i₀ i = zeros (drop i a) ≡ zeros (drop from a)
@@ -17,35 +15,27 @@ Inv-loop from a i₀ i = zeros (drop i a) ≡ zeros (drop from a)
 abbrev μ-loop : tie.MeasureT-loop
 μ-loop from a i₀ i = 64 - i
 
--- src/decoder.rt:53:5
 loop-holds : tie.Need-loop-holds Inv-loop μ-loop
 loop-holds c = refl
 
--- src/decoder.rt:54:12
 mul-if1 : tie.Need-mul-if1 Inv-loop μ-loop
 mul-if1 c = omega arith
 
--- src/decoder.rt:54:12
 array-read-if1 : tie.Need-array-read-if1 Inv-loop μ-loop
 array-read-if1 c = omega arith
 
--- src/decoder.rt:55:13
 returns : tie.Need-returns Inv-loop μ-loop
 returns c = zeros-stop _ _ (c .before .before .before .good .0 .1 .0 .1) (c .before .loop-test .taken) (c .if1 .taken) ∙ c .before .before .loop .inv
 
--- src/decoder.rt:57:9
 add-i : tie.Need-add-i Inv-loop μ-loop
 add-i c = omega arith
 
--- src/decoder.rt:53:5
 loop-less : tie.Need-loop-less Inv-loop μ-loop
 loop-less c = omega arith
 
--- src/decoder.rt:53:5
 loop-again : tie.Need-loop-again Inv-loop μ-loop
 loop-again c = zeros-more _ _ (c .before .before .before .good .0 .1 .0 .1) (c .before .loop-test .taken) (c .if1 .left) ∙ c .before .before .loop .inv
 
--- src/decoder.rt:49:1
 returns-2 : tie.Need-returns-2 Inv-loop μ-loop
 returns-2 c = zeros-end _ _ (c .before .before .good .0 .1 .0 .1) (c .loop-test .left) ∙ c .before .loop .inv
 

@@ -5,44 +5,32 @@ use Rattle.decode.specs.Held.{recall}
 use borrow.Author.Needs.{needs}
 use Rattle.decode.proofs.decoder.recall_item.Statement.{statement}
 use Rattle.decode.proofs.decoder.recall_item.Tie as tie
-use Rattle.decode.proofs.decoder.recall_item.Reads as reads
-use Rattle.decode.proofs.decoder.recall_item.Lts as lts
-use Rattle.decode.proofs.builder.register_head.Reads as register-head-reads
-use Rattle.standard.proofs.words.four_at.Reads as four-at-reads
 
--- src/decoder.rt:68:21
 four-at-requires : tie.Need-four-at-requires
 four-at-requires c κs = search needs
 
--- src/decoder.rt:69:13
 register-head-requires : tie.Need-register-head-requires
 register-head-requires c κs = search needs
 
--- src/decoder.rt:69:13
 returns : tie.Need-returns
 unfolding recall
 returns c = rw (eq-eqb _ _ (c .before .before .before .if1 .taken), eq-eqb _ _ (c .before .if2 .taken ∙ c .before .before .four-at .ensures)) (c .register-head .ensures)
 
--- src/decoder.rt:71:9
 returns-2 : tie.Need-returns-2
 unfolding recall
 returns-2 c = rw (eq-eqb _ _ (c .before .before .if1 .taken), ← c .before .four-at .ensures, ne-eqb _ _ (c .if2 .left))
 
--- src/decoder.rt:74:9
 returns-3 : tie.Need-returns-3
 unfolding recall
 returns-3 c = rw (ne-eqb _ _ (c .before .if1 .left), ne-eqb _ _ (c .if3 .taken))
 
--- src/decoder.rt:77:9
 returns-4 : tie.Need-returns-4
 unfolding recall
 returns-4 c = rw (ne-eqb _ _ (c .before .before .if1 .left), eq-eqb _ _ (c .before .if3 .left), lt-ltb _ _ (c .if4 .taken))
 
--- src/decoder.rt:79:5
 register-head-requires-2 : tie.Need-register-head-requires-2
 register-head-requires-2 c κs = search needs
 
--- src/decoder.rt:63:1
 returns-5 : tie.Need-returns-5
 unfolding recall
 returns-5 c = rw (ne-eqb _ _ (c .before .before .before .if1 .left), eq-eqb _ _ (c .before .before .if3 .left), le-ltb _ _ (c .before .if4 .left)) (c .register-head2 .ensures)

@@ -6,10 +6,6 @@ use borrow.Author.Needs.{needs}
 use Rattle.decode.proofs.Walk.{Walking, walking-none, walking-more, walking-bad, walking-all}
 use Rattle.decode.proofs.decoder.recall_items.Statement.{statement}
 use Rattle.decode.proofs.decoder.recall_items.Tie as tie
-use Rattle.decode.proofs.decoder.recall_items.Reads as reads
-use Rattle.decode.proofs.decoder.recall_items.Lts as lts
-use Rattle.decode.proofs.builder.Progress.new.Reads as new-reads
-use Rattle.decode.proofs.decoder.recall_item.Reads as recall-item-reads
 
 abbrev Inv-loop : tie.InvT-loop
 Inv-loop count bytes starts ends x₀ i₀ x i = Walking starts ends count bytes x i
@@ -17,59 +13,45 @@ Inv-loop count bytes starts ends x₀ i₀ x i = Walking starts ends count bytes
 abbrev μ-loop : tie.MeasureT-loop
 μ-loop count bytes starts ends x₀ i₀ x i = count - i
 
--- src/decoder.rt:87:9
 new-requires : tie.Need-new-requires Inv-loop μ-loop
 new-requires c κs = search needs
 
--- src/decoder.rt:89:5
 loop-holds : tie.Need-loop-holds Inv-loop μ-loop
 loop-holds c = walking-none _ _ _ _ _ (c .new .ensures)
 
--- src/decoder.rt:90:32
 mul-recall-item : tie.Need-mul-recall-item Inv-loop μ-loop
 mul-recall-item c = omega arith
 
--- src/decoder.rt:90:32
 array-read-recall-item : tie.Need-array-read-recall-item Inv-loop μ-loop
 array-read-recall-item c = omega arith
 
--- src/decoder.rt:90:43
 mul-recall-item-2 : tie.Need-mul-recall-item-2 Inv-loop μ-loop
 mul-recall-item-2 c = omega arith
 
--- src/decoder.rt:90:43
 array-read-recall-item-2 : tie.Need-array-read-recall-item-2 Inv-loop μ-loop
 array-read-recall-item-2 c = omega arith
 
--- src/decoder.rt:90:13
 recall-item-requires : tie.Need-recall-item-requires Inv-loop μ-loop
 recall-item-requires c κs = search needs
 
--- src/decoder.rt:92:24
 enum-known-s : tie.Need-enum-known-s Inv-loop μ-loop
 enum-known-s c = search needs
 
--- src/decoder.rt:95:27
 enum-known-s-2 : tie.Need-enum-known-s-2 Inv-loop μ-loop
 enum-known-s-2 c = search needs
 
--- src/decoder.rt:96:17
 returns : tie.Need-returns Inv-loop μ-loop
 returns c = walking-bad _ _ _ _ _ _ (c .before .before .before .before .before .loop .inv) (c .before .before .before .before .loop-test .taken) (c .before .before .before .before .before .before .before .before .good .0 .1 .0 .1) (c .before .before .before .before .before .before .before .before .good .1 .0 .1 .0 .1) (c .before .before .before .before .before .before .before .before .pre) _ (sym (c .before .s2 .given .1) ∙ c .before .before .before .recall-item .ensures)
 
--- src/decoder.rt:99:9
 add-i : tie.Need-add-i Inv-loop μ-loop
 add-i c = omega arith
 
--- src/decoder.rt:89:5
 loop-less : tie.Need-loop-less Inv-loop μ-loop
 loop-less c = omega arith
 
--- src/decoder.rt:89:5
 loop-again : tie.Need-loop-again Inv-loop μ-loop
 loop-again c = walking-more _ _ _ _ _ _ (c .before .before .before .before .before .loop .inv) (c .before .before .before .before .loop-test .taken) (c .before .before .before .before .before .before .before .before .good .0 .1 .0 .1) (c .before .before .before .before .before .before .before .before .good .1 .0 .1 .0 .1) (c .before .before .before .before .before .before .before .before .pre) _ (sym (c .before .s .given .1) ∙ c .before .before .before .recall-item .ensures)
 
--- src/decoder.rt:83:1
 returns-2 : tie.Need-returns-2 Inv-loop μ-loop
 returns-2 c = walking-all _ _ _ _ _ _ (c .before .loop .inv) (c .loop-test .left)
 
