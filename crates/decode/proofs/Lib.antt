@@ -1,5 +1,7 @@
 -- Laws on registration, that the crates above cite.
 pub mod Register
 pub mod Walk
+pub mod Reached
+pub mod BadState
 pub mod Close
 pub mod Items

@@ -14,11 +14,11 @@ register-head-requires c κs = search needs
 
 returns : tie.Need-returns
 unfolding recall
-returns c = rw (eq-eqb _ _ (c .before .before .before .if1 .taken), eq-eqb _ _ (c .before .if2 .taken ∙ c .before .before .four-at .ensures)) (c .register-head .ensures)
+returns c = rw (eq-eqb _ _ (c .before .before .before .if1 .taken), eq-eqb _ _ (c .before .if2 .taken ∙ c .before .before .four-at .ensures .0)) (c .register-head .ensures)
 
 returns-2 : tie.Need-returns-2
 unfolding recall
-returns-2 c = rw (eq-eqb _ _ (c .before .before .if1 .taken), ← c .before .four-at .ensures, ne-eqb _ _ (c .if2 .left))
+returns-2 c = rw (eq-eqb _ _ (c .before .before .if1 .taken), ← c .before .four-at .ensures .0, ne-eqb _ _ (c .if2 .left))
 
 returns-3 : tie.Need-returns-3
 unfolding recall

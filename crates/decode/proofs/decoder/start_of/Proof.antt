@@ -16,7 +16,7 @@ returns : tie.Need-returns
 returns c = search needs
 
 returns-2 : tie.Need-returns-2
-returns-2 c = rw (c .before .enum-told2 .given .1) (c .four-at .ensures)
+returns-2 c = rw (c .before .enum-told2 .given .1) (c .four-at .ensures .0)
 
 pub start-of-spec : {M : Type 1} → statement M
 start-of-spec = tie.close (tie.spec enum-told enum-told-2 four-at-requires returns returns-2)
