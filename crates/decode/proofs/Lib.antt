@@ -3,5 +3,6 @@ pub mod Register
 pub mod Walk
 pub mod Reached
 pub mod BadState
+pub mod Heads
 pub mod Close
 pub mod Items

@@ -197,3 +197,6 @@ reached-iff b p x l = (
   λ e. run-of b (x .count) (x .pos) (x .starts) (x .ends) p (l .starts-long) (l .ends-long) (recalled-says x b p e),
   λ r. recalled-tested x b p (run-tested r),
 )
+
+pub run-recalled : {b : List ℕ} {p : Progress} {x : SszDecoderBuilder} → Run b p x → recalled x b ≡ Step.Next p
+run-recalled {b} {p} {x} r = recalled-tested x b p (run-tested r)

@@ -45,7 +45,7 @@ pub follow-next : (s : Step) (k : Progress → Step) (y : Progress) → follow s
 follow-next (Step.Next z) k y e = (z, refl, e)
 follow-next (Step.Refused r) k y e = refused-next r y e
 
-ended-fine : (s : Step) (k : Progress → Told) → ended s k ≡ Told.Fine → (z : Progress) × (s ≡ Step.Next z) × (k z ≡ Told.Fine)
+pub ended-fine : (s : Step) (k : Progress → Told) → ended s k ≡ Told.Fine → (z : Progress) × (s ≡ Step.Next z) × (k z ≡ Told.Fine)
 ended-fine (Step.Next z) k e = (z, refl, e)
 ended-fine (Step.Refused r) k e = refused-fine r e
 

@@ -3,3 +3,4 @@ pub mod Unions
 pub mod Builder
 pub mod Held
 pub mod Reader
+pub mod Heads
