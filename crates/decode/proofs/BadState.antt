@@ -111,8 +111,8 @@ module _ (b : List ℕ) (x : SszDecoderBuilder) (l : Long x) where
   unfolding registerItem NoRun
   register-bad-iff h = (
     λ e p r.
-      let k = rw (reached-iff b p x l .1 r) at e in
-      not-fair (allowed p h b x .told) (allowed-fair h b x p) (ap (λ (y : Registered). y .told) k),
+        let k = rw (reached-iff b p x l .1 r) at e in
+        not-fair (allowed p h b x .told) (allowed-fair h b x p) (ap (λ (y : Registered). y .told) k),
     λ none-runs. rw (unreached none-runs .1),
   )
 
@@ -120,7 +120,7 @@ module _ (b : List ℕ) (x : SszDecoderBuilder) (l : Long x) where
   unfolding buildItems NoRun
   build-bad-iff = (
     λ e p r.
-      let k = rw (reached-iff b p x l .1 r) at e in
-      not-fair (closable p b x .told) (closable-fair p b x) (ap (λ (y : Built). y .told) k),
+        let k = rw (reached-iff b p x l .1 r) at e in
+        not-fair (closable p b x .told) (closable-fair p b x) (ap (λ (y : Built). y .told) k),
     λ none-runs. rw (unreached none-runs .1),
   )

@@ -5,4 +5,5 @@ pub mod Reached
 pub mod BadState
 pub mod Heads
 pub mod Close
+pub mod Spans
 pub mod Items
