@@ -2,3 +2,4 @@
 pub mod Tests
 pub mod Copy
 pub mod Container
+pub mod Round
