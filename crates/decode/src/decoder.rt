@@ -231,8 +231,9 @@ impl SszDecoderBuilder {
         starts[count] = start;
         let mut ends = self.ends;
         ends[count] = end;
+        let more = count + 1;
         SszDecoderBuilder {
-            count: count + 1,
+            count: more,
             pos: next,
             starts,
             ends,

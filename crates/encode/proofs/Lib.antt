@@ -1,5 +1,4 @@
 -- Laws of the encoder.
-pub mod Tests
 pub mod Copy
 pub mod Container
 pub mod Round

@@ -80,13 +80,14 @@ impl SszEncoder {
         if held > variable.len() {
             return Appended::Refused(Refusal::BadState);
         }
-        if item.len() > fixed.len() - used {
-            return Appended::Refused(Refusal::NoRoom(used + item.len(), fixed.len()));
+        let end = used + item.len();
+        if end > fixed.len() {
+            return Appended::Refused(Refusal::NoRoom(end, fixed.len()));
         }
         copy_into(fixed, used, item);
         Appended::Next(SszEncoder {
             offset: self.offset,
-            fixed_used: used + item.len(),
+            fixed_used: end,
             variable_used: held,
         })
     }
@@ -109,21 +110,20 @@ impl SszEncoder {
         if !small {
             return Appended::Refused(Refusal::TooLarge);
         }
-        if fixed.len() - used < super::BYTES_PER_LENGTH_OFFSET {
-            return Appended::Refused(Refusal::NoRoom(
-                used + super::BYTES_PER_LENGTH_OFFSET,
-                fixed.len(),
-            ));
+        let front = used + super::BYTES_PER_LENGTH_OFFSET;
+        if front > fixed.len() {
+            return Appended::Refused(Refusal::NoRoom(front, fixed.len()));
         }
-        if item.len() > variable.len() - held {
-            return Appended::Refused(Refusal::NoRoom(held + item.len(), variable.len()));
+        let back = held + item.len();
+        if back > variable.len() {
+            return Appended::Refused(Refusal::NoRoom(back, variable.len()));
         }
         put_four(fixed, used, self.offset + held);
         copy_into(variable, held, item);
         Appended::Next(SszEncoder {
             offset: self.offset,
-            fixed_used: used + super::BYTES_PER_LENGTH_OFFSET,
-            variable_used: held + item.len(),
+            fixed_used: front,
+            variable_used: back,
         })
     }
 
@@ -159,10 +159,11 @@ impl SszEncoder {
         if held > variable.len() {
             return Finalized::Refused(Refusal::BadState);
         }
-        if held > fixed.len() - used {
-            return Finalized::Refused(Refusal::NoRoom(used + held, fixed.len()));
+        let end = used + held;
+        if end > fixed.len() {
+            return Finalized::Refused(Refusal::NoRoom(end, fixed.len()));
         }
         copy_into(fixed, used, &variable[..held]);
-        Finalized::Length(used + held)
+        Finalized::Length(end)
     }
 }

@@ -21,8 +21,8 @@ mul-ends c = search needs
 array-write-ends : tie.Need-array-write-ends
 array-write-ends c = search needs
 
-add-t10 : tie.Need-add-t10
-add-t10 c = search needs
+add-more : tie.Need-add-more
+add-more c = search needs
 
 returns : tie.Need-returns
 returns c = rw (c .before .before .before .start-of .ensures, c .before .before .end-of .ensures, c .before .before .before .before .before .pre .1)
@@ -37,5 +37,5 @@ put-spec =
     array-write-starts
     mul-ends
     array-write-ends
-    add-t10
+    add-more
     returns)

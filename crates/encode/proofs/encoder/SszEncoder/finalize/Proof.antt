@@ -1,10 +1,9 @@
 -- The definition goes by the same tests; the copy's own promise says the buffer. Assumes nothing.
+use borrow.Author.Tests.{le-leb, lt-leb}
+use Rattle.encode.specs.Finish.{finalize}
 use mathlib.Core.Path.{refl, sym}
 use native.Mathlib.Omega.{arith}
-use borrow.Author.Tests.{le-leb, lt-leb}
 use lib.Seq.{length-take-le}
-use Rattle.encode.specs.Finish.{finalize}
-use Rattle.encode.proofs.Tests.{room, no-room}
 use borrow.Author.Needs.{needs}
 use Rattle.encode.proofs.encoder.SszEncoder.finalize.Statement.{statement}
 use Rattle.encode.proofs.encoder.SszEncoder.finalize.Tie as tie
@@ -15,33 +14,20 @@ returns c = rw (lt-leb _ _ (c .if1 .taken)) (refl, refl)
 
 returns-2 : tie.Need-returns-2
 unfolding finalize
-returns-2 c =
-    let front = c .before .if1 .left in
-    let short = c .if2 .taken in
-    rw (le-leb _ _ front, lt-leb _ _ short) (refl, refl)
+returns-2 c = rw (le-leb _ _ (c .before .if1 .left), lt-leb _ _ (c .if2 .taken)) (refl, refl)
 
-sub-if3 : tie.Need-sub-if3
-sub-if3 c = search needs
-
-add-t11 : tie.Need-add-t11
-add-t11 c = search needs
+add-end : tie.Need-add-end
+add-end c = search needs
 
 returns-3 : tie.Need-returns-3
 unfolding finalize
-returns-3 c =
-    let front = c .before .before .if1 .left in
-    let back = c .before .if2 .left in
-    let full = c .if3 .taken in
-    rw (le-leb _ _ front, le-leb _ _ back, no-room _ _ _ front full) (refl, refl)
+returns-3 c = rw (le-leb _ _ (c .before .before .if1 .left), le-leb _ _ (c .before .if2 .left), lt-leb _ _ (c .if3 .taken)) (refl, refl)
 
 slice-aggregate-copy-into : tie.Need-slice-aggregate-copy-into
 slice-aggregate-copy-into c = sym (length-take-le _ _ (c .before .before .before .if2 .left))
 
 copy-into-requires : tie.Need-copy-into-requires
 copy-into-requires c κs = rw (length-take-le _ _ (c .before .before .before .if2 .left)) (omega arith)
-
-add-t6 : tie.Need-add-t6
-add-t6 c = search needs
 
 same-length : tie.Need-same-length
 same-length c = search needs
@@ -51,8 +37,8 @@ unfolding finalize
 returns-4 c =
     let front = c .before .before .before .before .before .before .before .if1 .left in
     let back = c .before .before .before .before .before .before .if2 .left in
-    let free = c .before .before .before .before .before .if3 .left in
-    rw (le-leb _ _ front, le-leb _ _ back, room _ _ _ front free) (refl, c .before .before .copy-into .ensures)
+    let room = c .before .before .before .before .before .if3 .left in
+    rw (le-leb _ _ front, le-leb _ _ back, le-leb _ _ room) (refl, c .before .before .copy-into .ensures)
 
 pub finalize-spec : {M : Type 1} → statement M
 finalize-spec =
@@ -60,11 +46,9 @@ finalize-spec =
     (tie.spec
     returns
     returns-2
-    sub-if3
-    add-t11
+    add-end
     returns-3
     slice-aggregate-copy-into
     copy-into-requires
-    add-t6
     same-length
     returns-4)
