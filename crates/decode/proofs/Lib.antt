@@ -1,2 +1,9 @@
 -- Laws on registration, that the crates above cite.
 pub mod Register
+pub mod Walk
+pub mod Reached
+pub mod BadState
+pub mod Heads
+pub mod Close
+pub mod Spans
+pub mod Items

@@ -33,7 +33,7 @@ refused-next r y e = let z : _≡_ {A = ℕ} 0 1 = cc in absurd (omega arith)
 pub refused-fine : {A : Type 0} (r : Refusal) → Told.Refused r ≡ Told.Fine → A
 refused-fine r e = let z : _≡_ {A = ℕ} 0 1 = cc in absurd (omega arith)
 
-past : (c : Bool) (r : Refusal) (u : Step) (y : Progress) → pick c (Step.Refused r) u ≡ Step.Next y → (c ≡ false) × (u ≡ Step.Next y)
+pub past : (c : Bool) (r : Refusal) (u : Step) (y : Progress) → pick c (Step.Refused r) u ≡ Step.Next y → (c ≡ false) × (u ≡ Step.Next y)
 past true r u y e = refused-next r y e
 past false r u y e = (refl, e)
 
@@ -41,11 +41,11 @@ pub past-fine : (c : Bool) (r : Refusal) (u : Told) → pick c (Told.Refused r) 
 past-fine true r u e = refused-fine r e
 past-fine false r u e = (refl, e)
 
-follow-next : (s : Step) (k : Progress → Step) (y : Progress) → follow s k ≡ Step.Next y → (z : Progress) × (s ≡ Step.Next z) × (k z ≡ Step.Next y)
+pub follow-next : (s : Step) (k : Progress → Step) (y : Progress) → follow s k ≡ Step.Next y → (z : Progress) × (s ≡ Step.Next z) × (k z ≡ Step.Next y)
 follow-next (Step.Next z) k y e = (z, refl, e)
 follow-next (Step.Refused r) k y e = refused-next r y e
 
-ended-fine : (s : Step) (k : Progress → Told) → ended s k ≡ Told.Fine → (z : Progress) × (s ≡ Step.Next z) × (k z ≡ Told.Fine)
+pub ended-fine : (s : Step) (k : Progress → Told) → ended s k ≡ Told.Fine → (z : Progress) × (s ≡ Step.Next z) × (k z ≡ Told.Fine)
 ended-fine (Step.Next z) k e = (z, refl, e)
 ended-fine (Step.Refused r) k e = refused-fine r e
 

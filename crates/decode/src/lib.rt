@@ -1,5 +1,6 @@
 // Decoding: offsets and the split of a union's bytes, as decode.rs of ethereum_ssz 0.10.4 has them.
 pub mod builder;
+pub mod decoder;
 pub mod union_selector;
 
 use standard::Maybe;

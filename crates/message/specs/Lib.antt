@@ -1,0 +1,3 @@
+pub mod Read
+pub mod Listing
+pub mod Check
