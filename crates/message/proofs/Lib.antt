@@ -1,0 +1,3 @@
+-- What the proofs of several functions use, and the theorems on reading.
+pub mod Rows
+pub mod Bodies
