@@ -1,0 +1,2 @@
+-- Laws on reading, that the proofs of the functions cite.
+pub mod Answers
