@@ -38,11 +38,20 @@ pub pick-right : {A : Type 0} (q : Bool) (x y z : A) → (x ≡ z → ⊥) → p
 pick-right true x y z n e = absurd (n e)
 pick-right false x y z n e = (refl, e)
 
+pub pick-cases : {A B : Type 0} (q : Bool) (x y z : A) → (q ≡ true → x ≡ z → B) → (q ≡ false → y ≡ z → B) → pick q x y ≡ z → B
+pick-cases true x y z f g e = f refl e
+pick-cases false x y z f g e = g refl e
+
 pub left-accepted : (q : Bool) (x : Answer) (r : Refusal) (t s : ℕ) (c : Counts) → pick q x (Refused r t s) ≡ Accepted c → (q ≡ true) × (x ≡ Accepted c)
 left-accepted q x r t s c = pick-left q x (Refused r t s) (Accepted c) (not-accepted r t s c)
 
 pub right-accepted : (q : Bool) (x : Answer) (r : Refusal) (t s : ℕ) (c : Counts) → pick q (Refused r t s) x ≡ Accepted c → (q ≡ false) × (x ≡ Accepted c)
 right-accepted q x r t s c = pick-right q (Refused r t s) x (Accepted c) (not-accepted r t s c)
+
+pub leaf-accepted : (q : Bool) (w n : ℕ) (r : Refusal) (t s : ℕ) (c : Counts) → pick q (one w n) (Refused r t s) ≡ Accepted c → (q ≡ true) × (c ≡ single w n)
+leaf-accepted q w n r t s c e =
+    let p = left-accepted q (one w n) r t s c e in
+    (p .0, sym (accepted-same (single w n) c (p .1)))
 
 -- One answer behind another.
 pub then-accepted : (x y : Answer) (c : Counts) → andThen x y ≡ Accepted c → (a : Counts) × (b : Counts) × (x ≡ Accepted a) × (y ≡ Accepted b) × (c ≡ plus a b)

@@ -1,2 +1,3 @@
 -- Laws on reading, that the proofs of the functions cite.
 pub mod Answers
+pub mod Bounds
