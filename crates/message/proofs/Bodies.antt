@@ -32,7 +32,8 @@ use Rattle.message.specs.declared.Counts.{Counts}
 use Rattle.message.specs.declared.Answer.{Answer}
 use Rattle.message.specs.declared.Answer.the-variants.{Accepted, Refused}
 use Rattle.message.specs.declared.items.Choice.{Choice}
-use Rattle.message.proofs.Rows.{row-below, row-next, span-ok}
+use Rattle.message.proofs.Bounds.{counts-small}
+use Rattle.message.proofs.Rows.{under-below, row-next, span-ok}
 
 -- Counts add up in any grouping.
 plus-assoc : (a b c : Counts) → plus a (plus b c) ≡ plus (plus a b) c
@@ -88,10 +89,24 @@ pub reading-end : (lens l : List ℕ) (t a₀ n : ℕ) (b : List ℕ) (s : ℕ) 
 unfolding readItem
 reading-end lens l t a₀ n b s sum a left p g h = sym (ap Accepted (plus-zero sum)) ∙ rw (fields-none l (trees l t) a left h) at (g .same)
 
+-- What an item counts.
+pub item-small : (lens l : List ℕ) (f : ℕ) (b : List ℕ) (s : ℕ) (c : Counts) → Under lens l (f + 1) → length b < 2 ^ 32 → Accepted c ≡ readItem (treeOf l f) b s → Small c (2 ^ 40)
+item-small lens l f b s c g k e =
+    let q = counts-small l f b s c (g .legal) (omega (arith, g .few)) k (sym e) in
+    record { records = omega (arith, q .0); words = omega (arith, q .1); bytes = omega (arith, q .2) }
+
+pub small-more : (c : Counts) → Small c (2 ^ 40) → Small c (2 ^ 50)
+small-more c g = record { records = omega (arith, g .records); words = omega (arith, g .words); bytes = omega (arith, g .bytes) }
+
 -- A container.
 module _ (lens l : List ℕ) (t : ℕ) (n : Node) (e : n ≡ nodeOf l t) (g : Under lens l (t + 1)) where
   pub node-ok : LegalNode l t n
   node-ok = legal-node l t n e (g .legal)
+
+  pub container-row : n .kind ≡ 6 → Row lens l t (n .at + 2) (n .second)
+  container-row k =
+      let m = node-ok in
+      record { under = under-below lens l (t + 1) t (omega arith) g; near = omega (arith, m .near, m .few k); lower = m .lower k }
 
   module _ (k : n .kind ≡ 6) (b : List ℕ) (s : ℕ) where
     container-read : readItem (treeOf l t) b s ≡ built (layOut (headsOf l t (n .at + 2) (n .second)) b) t s (andThen (one 0 0) (readFields (rowOf l t (n .at + 2) (n .second)) b 0 s))

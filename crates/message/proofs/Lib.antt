@@ -1,6 +1,5 @@
 -- What the proofs of several functions use, and the theorems on reading.
 pub mod Answers
-pub mod Records
 pub mod Bounds
 pub mod Rows
 pub mod Bodies
