@@ -47,7 +47,8 @@ fair-pick true u v h k = h
 fair-pick false u v h k = k
 
 -- The rules of reading and of building.
-tests-sound : (c d : Bool) (o : ℕ) (p : Progress) → Sound (behindOffset (pick c (OffsetResult.Refused (OffsetOutOfBounds o)) (pick d (OffsetResult.Refused (OffsetsAreDecreasing o)) (OffsetResult.Offset o))) p)
+tests-sound : (c d : Bool) (o : ℕ) (p : Progress)
+    → Sound (behindOffset (pick c (OffsetResult.Refused (OffsetOutOfBounds o)) (pick d (OffsetResult.Refused (OffsetsAreDecreasing o)) (OffsetResult.Offset o))) p)
 tests-sound true d o p = omega arith
 tests-sound false true o p = omega arith
 tests-sound false false o p = tt

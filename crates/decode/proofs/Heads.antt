@@ -27,17 +27,21 @@ use Rattle.decode.proofs.Register.{follow-next, ended-fine, layout-rang
 use Rattle.decode.proofs.Reached.{run-recalled}
 
 -- One registration, in a state that a run reaches.
-item-registered : (h : Head) (b : List ℕ) (p : Progress) (x : SszDecoderBuilder) → Run b p x → length b < 2 ^ 32 → x .count < 64 → registerItem h b x ≡ taken (step h b p) h b x
+item-registered : (h : Head) (b : List ℕ) (p : Progress) (x : SszDecoderBuilder) → Run b p x → length b < 2 ^ 32 → x .count < 64
+    → registerItem h b x ≡ taken (step h b p) h b x
 unfolding registerItem
 item-registered h b p x r small few = rw (run-recalled r, le-ltb 4294967295 (length b) (omega arith), lt-ltb _ _ few)
 
 -- All of them: what is told,
-told-next : (s : Step) (h : Head) (hs : List Head) (b : List ℕ) (x : SszDecoderBuilder) → ((y : Progress) → s ≡ Step.Next y → registerAll hs b (put h b x) .told ≡ toldBy (register hs b y)) → ifFine (taken s h b x .told) (registerAll hs b (taken s h b x .state)) (taken s h b x) .told ≡ toldBy (follow s (register hs b))
+told-next : (s : Step) (h : Head) (hs : List Head) (b : List ℕ) (x : SszDecoderBuilder)
+    → ((y : Progress) → s ≡ Step.Next y → registerAll hs b (put h b x) .told ≡ toldBy (register hs b y))
+    → ifFine (taken s h b x .told) (registerAll hs b (taken s h b x .state)) (taken s h b x) .told ≡ toldBy (follow s (register hs b))
 told-next (Step.Next y) h hs b x k = k y refl
 told-next (Step.Refused r) h hs b x k = refl
 
 module _ (b : List ℕ) (small : length b < 2 ^ 32) where
-  pub registers-told : (hs : List Head) (p : Progress) (x : SszDecoderBuilder) → Run b p x → x .count + length hs ≤ 64 → registerAll hs b x .told ≡ toldBy (register hs b p)
+  pub registers-told : (hs : List Head) (p : Progress) (x : SszDecoderBuilder) → Run b p x → x .count + length hs ≤ 64
+      → registerAll hs b x .told ≡ toldBy (register hs b p)
   unfolding registerAll register
   registers-told [] p x r few = refl
   registers-told (h ∷ hs) p x r few =
@@ -47,7 +51,8 @@ module _ (b : List ℕ) (small : length b < 2 ^ 32) where
       (λ (y : Progress) (e : step h b p ≡ Step.Next y). registers-told hs y (put h b x) (more h r small one e) (omega arith)))
 
   -- and the state that they reach, where all are accepted.
-  pub registers-state : (hs : List Head) (p q : Progress) (x : SszDecoderBuilder) → Run b p x → x .count + length hs ≤ 64 → register hs b p ≡ Step.Next q → (registerAll hs b x ≡ record { state = putAll hs b x; told = Told.Fine }) × Run b q (putAll hs b x)
+  pub registers-state : (hs : List Head) (p q : Progress) (x : SszDecoderBuilder) → Run b p x → x .count + length hs ≤ 64
+      → register hs b p ≡ Step.Next q → (registerAll hs b x ≡ record { state = putAll hs b x; told = Told.Fine }) × Run b q (putAll hs b x)
   unfolding registerAll register putAll
   registers-state [] p q x r few e = let s : p ≡ q = cc in (refl, rw s at r)
   registers-state (h ∷ hs) p q x r few e =

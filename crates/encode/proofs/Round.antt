@@ -41,7 +41,8 @@ module _ (xs : List Part) (f v : List ℕ) (g : Fitting xs f v) (z : Sized xs) (
   split-back = rw (written-joined xs f v g) (split-join xs z (g .small))
 
   -- So each item that is read is the part's bytes.
-  pub item-back : (i : ℕ) → i < length xs → itemOf (ranges (stateOf (partHeads xs) (written xs f v)) (length (written xs f v))) i (written xs f v) ≡ getD (pieces xs) i []
+  pub item-back : (i : ℕ) → i < length xs
+      → itemOf (ranges (stateOf (partHeads xs) (written xs f v)) (length (written xs f v))) i (written xs f v) ≡ getD (pieces xs) i []
   item-back i h =
       let l = length-heads xs in
       let r = read-back .items i (omega arith) .1 in
