@@ -60,3 +60,34 @@ module _ (b : List ℕ) (small : length b < 2 ^ 32) where
       let f = follow-next _ _ _ e in
       let s = registers-state hs (f .0) q (put h b x) (more h r small one (f .1)) (omega arith) (f .2) in
       (rw (item-registered h b p x r small one, f .1) (s .0), s .1)
+
+-- One head more, at the end of a row.
+put-last : (hs : List Head) (h : Head) (b : List ℕ) (x : SszDecoderBuilder) → putAll (hs ++ (h ∷ [])) b x ≡ put h b (putAll hs b x)
+unfolding putAll
+put-last [] h b x = refl
+put-last (k ∷ hs) h b x = put-last hs h b (put k b x)
+
+register-last : (hs : List Head) (h : Head) (b : List ℕ) (p q r : Progress) → register hs b p ≡ Step.Next q → step h b q ≡ Step.Next r
+    → register (hs ++ (h ∷ [])) b p ≡ Step.Next r
+unfolding register
+register-last [] h b p q r e f = let s : p ≡ q = cc in rw (s, f)
+register-last (k ∷ hs) h b p q r e f =
+    let g = follow-next (step k b p) (register hs b) q e in
+    rw (g .1) (register-last hs h b (g .0) q r (g .2) f)
+
+-- A state that a run reaches is the one that a fresh run over some heads gives, and has come as far as their fold.
+pub record Fresh (b : List ℕ) (p : Progress) (x : SszDecoderBuilder) : Type 0 where
+  pub heads : List Head
+  pub state-is : x ≡ stateOf heads b
+  pub registered : register heads b fresh ≡ Step.Next p
+
+pub run-fresh : {b : List ℕ} {p : Progress} {x : SszDecoderBuilder} → Run b p x → Fresh b p x
+unfolding putAll register
+run-fresh none = record { heads = []; state-is = refl; registered = refl }
+run-fresh {b} (more h {p} {q} {x} r small few e) =
+    let g = run-fresh r in
+    record {
+      heads = g .heads ++ (h ∷ []);
+      state-is = ap (put h b) (g .state-is) ∙ sym (put-last (g .heads) h b new);
+      registered = register-last (g .heads) h b fresh p q (g .registered) e;
+    }
