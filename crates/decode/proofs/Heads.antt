@@ -1,33 +1,24 @@
 -- Registering heads one by one is the fold over them, and what is then built are the spans of the split. Assumes nothing.
 use mathlib.Core.Path.{_≡_, refl, sym, ap, _∙_}
 use mathlib.Core.List.{List, [], _∷_, _++_}
-use Prim.Native.Nat.{ℕ, zero, suc, _+_, _-_, _≤_, _<_, _^_}
-use native.Mathlib.Numerals.{add-one}
-use native.Mathlib.Nat.{add-zero, zero-add}
+use Prim.Native.Nat.{ℕ, _+_, _≤_, _<_, _^_}
 use native.Mathlib.Omega.{arith}
-use borrow.Author.Tests.{lt-ltb, le-ltb, eq-eqb, ne-eqb}
-use lib.ListN.{length, getD, take, drop, replicate, length-append, List·getD-append}
-use lib.Seq.{sets, sets-eq}
-use Rattle.standard.specs.Types.{width}
-use Rattle.standard.specs.Parts.{spanOf, part, next, split, InRange}
+use borrow.Author.Tests.{lt-ltb, le-ltb}
+use lib.ListN.{length}
+use Rattle.standard.specs.Parts.{split}
 use Rattle.standard.specs.declared.Head.{Head}
-use Rattle.standard.specs.declared.Head.the-variants.{Fixed, Variable}
 use Rattle.standard.specs.declared.Told.{Told}
-use Rattle.standard.proofs.Join.{span-ranges}
-use Rattle.decode.specs.Builder.{fresh, step, follow, register, build, layOut}
-use Rattle.decode.specs.Held.{new, openEnd, startOf, put, Run, none, more, recalled, taken, registerItem}
-use Rattle.decode.specs.Reader.{firstStart, closeEnds, ranges, buildItems, itemTold, itemOf}
-use Rattle.decode.specs.Heads.{ifFine, registerAll, toldBy, putAll, stateOf, froms, tos, opens, pieces}
+use Rattle.decode.specs.Builder.{fresh, step, follow, register}
+use Rattle.decode.specs.Held.{new, put, Run, none, more, taken, registerItem}
+use Rattle.decode.specs.Heads.{ifFine, registerAll, toldBy, putAll, stateOf}
 use Rattle.decode.specs.declared.builder.Progress.{Progress}
 use Rattle.decode.specs.declared.builder.Step.{Step}
 use Rattle.decode.specs.declared.decoder.SszDecoderBuilder.{SszDecoderBuilder}
-use Rattle.decode.specs.declared.decoder.SszDecoder.{SszDecoder}
-use Rattle.decode.specs.declared.decoder.Registered.{Registered}
-use Rattle.decode.proofs.Register.{follow-next, ended-fine, layout-ranges}
+use Rattle.decode.proofs.Register.{follow-next}
 use Rattle.decode.proofs.Reached.{run-recalled}
 
 -- One registration, in a state that a run reaches.
-item-registered : (h : Head) (b : List ℕ) (p : Progress) (x : SszDecoderBuilder) → Run b p x → length b < 2 ^ 32 → x .count < 64
+pub item-registered : (h : Head) (b : List ℕ) (p : Progress) (x : SszDecoderBuilder) → Run b p x → length b < 2 ^ 32 → x .count < 64
     → registerItem h b x ≡ taken (step h b p) h b x
 unfolding registerItem
 item-registered h b p x r small few = rw (run-recalled r, le-ltb 4294967295 (length b) (omega arith), lt-ltb _ _ few)

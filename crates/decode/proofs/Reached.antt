@@ -4,7 +4,7 @@ use mathlib.Core.Path.{_≡_, refl, sym, ap, _∙_}
 use mathlib.Core.List.{List, [], _∷_}
 use mathlib.Core.Logic.{_↔_}
 use mathlib.Core.Bool.{Bool, true, false}
-use Prim.Native.Nat.{ℕ, zero, suc, _+_, _-_, _≤_, _<_, _^_}
+use Prim.Native.Nat.{ℕ, zero, suc, _+_, _-_, _<_, _^_}
 use native.Mathlib.Numerals.{add-one}
 use native.Mathlib.Omega.{arith}
 use borrow.Author.Tests.{eq-eqb, ne-eqb, le-ltb, eqb-true}
@@ -15,11 +15,10 @@ use Rattle.standard.specs.Choice.{andAlso}
 use Rattle.standard.specs.Types.{width}
 use Rattle.standard.specs.declared.Head.{Head}
 use Rattle.standard.specs.declared.Head.the-variants.{Fixed, Variable}
-use Rattle.standard.specs.declared.Refusal.{Refusal}
 use Rattle.decode.specs.declared.builder.Progress.{Progress}
 use Rattle.decode.specs.declared.builder.Step.{Step}
 use Rattle.decode.specs.declared.decoder.SszDecoderBuilder.{SszDecoderBuilder}
-use Rattle.decode.specs.Builder.{fresh, step, registerHead, follow}
+use Rattle.decode.specs.Builder.{fresh, step, follow}
 use Rattle.decode.specs.Held.{new, openEnd, startOf, endOf, put, Run, none, more, zeros, recall, walk, recalled}
 use Rattle.decode.proofs.Register.{follow-next, register-step, step-fixed, step-variable}
 use Rattle.decode.proofs.Walk.{Tested, recall-says, recalled-says, recalled-tested, step-pos}

@@ -1,7 +1,7 @@
 -- Encoding the parts of a container gives their join, and so the serialization of its value. Assumes nothing.
-use mathlib.Core.Path.{_≡_, refl, sym, ap, _∙_}
-use mathlib.Core.List.{List, [], _∷_, _++_}
-use Prim.Native.Nat.{ℕ, _+_, _≤_, _<_, _^_}
+use mathlib.Core.Path.{_≡_, refl}
+use mathlib.Core.List.{List, [], _∷_}
+use Prim.Native.Nat.{ℕ, _+_, _≤_}
 use native.Mathlib.Nat.{add-zero, zero-add, add-assoc}
 use native.Mathlib.Omega.{arith}
 use borrow.Author.Tests.{le-leb}
@@ -16,7 +16,7 @@ use Rattle.standard.proofs.Bytes.{length-le}
 use Rattle.standard.proofs.Store.{sets-append}
 use Rattle.standard.proofs.Join.{length-fronts, length-join}
 use Rattle.encode.specs.Encoder.{container as empty, after, appendFixed, appendVariable}
-use Rattle.encode.specs.Finish.{finalize, finished}
+use Rattle.encode.specs.Finish.{finalize}
 use Rattle.encode.specs.Whole.{going, appendAll, closed, ending, encoded, Fitting}
 use Rattle.encode.specs.declared.encoder.SszEncoder.{SszEncoder}
 use Rattle.encode.specs.declared.encoder.Appended.the-variants.{Next}

@@ -211,7 +211,13 @@ fn with_selector(r: Answer) -> Answer
 }
 
 // Checks the item b of the type t, which starts at start.
-pub(crate) fn item_check(lens: &[usize], layout: &[u8], t: usize, b: &[u8], start: usize) -> Answer
+pub(crate) fn item_check(
+    lens: &[usize],
+    layout: &[u8],
+    t: usize,
+    b: &[u8],
+    start: usize,
+) -> Answer
     requires { ⌜ Under (now lens) (now layout) (t + 1) × (start + length (now b) < 2 ^ 32) ⌝ }
     ensures { λ r. ⌜ r ≡ readItem (treeOf (now (layout .entry)) t) (now (b .entry)) start ⌝ }
 {

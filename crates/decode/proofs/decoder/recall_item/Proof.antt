@@ -1,5 +1,5 @@
 -- The definition goes by the same tests. Assumes nothing.
-use mathlib.Core.Path.{sym, _∙_}
+use mathlib.Core.Path.{_∙_}
 use borrow.Author.Tests.{eq-eqb, ne-eqb, lt-ltb, le-ltb}
 use Rattle.decode.specs.Held.{recall}
 use borrow.Author.Needs.{needs}

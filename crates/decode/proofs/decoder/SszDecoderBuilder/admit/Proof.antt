@@ -1,5 +1,5 @@
 -- The definition goes by the same tests; in a state that is reached, registering is a step. Assumes nothing.
-use mathlib.Core.Path.{sym, _∙_}
+use mathlib.Core.Path.{_∙_}
 use borrow.Author.Tests.{lt-ltb, le-ltb}
 use Rattle.decode.proofs.Walk.{come-step, come-pos}
 use borrow.Author.Needs.{needs}
