@@ -59,6 +59,9 @@ then-accepted (Refused r t s) y c e = not-accepted r t s c e
 then-accepted (Accepted a) (Refused r t s) c e = not-accepted r t s c e
 then-accepted (Accepted a) (Accepted b) c e = (a, b, refl, refl, sym (accepted-same (plus a b) c e))
 
+pub then-accepts : (x y : Answer) (a b : Counts) → x ≡ Accepted a → y ≡ Accepted b → andThen x y ≡ Accepted (plus a b)
+then-accepts x y a b e f = rw (e, f)
+
 -- counts a, known, before an answer
 pub behind-accepted : (a : Counts) (y : Answer) (c : Counts) → andThen (Accepted a) y ≡ Accepted c → (b : Counts) × (y ≡ Accepted b) × (c ≡ plus a b)
 behind-accepted a (Refused r t s) c e = not-accepted r t s c e

@@ -2,3 +2,4 @@
 pub mod Answers
 pub mod Bounds
 pub mod Records
+pub mod Theorem
