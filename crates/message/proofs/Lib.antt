@@ -3,3 +3,4 @@ pub mod Answers
 pub mod Bounds
 pub mod Records
 pub mod Theorem
+pub mod Cases
