@@ -1,22 +1,20 @@
 -- How large the counts of an accepted item are. Each level of a type counts at most the bytes that it has, and four more for an
 -- item of variable size, whose offset stands in the container around it; so the counts are at most the levels times those bytes.
 -- Assumes nothing.
-use mathlib.Core.Path.{_≡_, refl, sym, ap, _∙_}
-use mathlib.Core.List.{List, [], _∷_, _++_}
+use mathlib.Core.Path.{_≡_, refl}
+use mathlib.Core.List.{List, _∷_}
 use mathlib.Core.Bool.{Bool, true, false}
 use Prim.Native.Nat.{ℕ, zero, suc, _+_, _-_, _*_, _/_, _≤_, _<_, _^_, max}
 use native.Mathlib.Nat.{add-zero, mul-le-mul-left, mul-le-mul-right}
 use native.Mathlib.Omega.{arith}
-use borrow.Author.Tests.{eqb-true, eqb-false, leb-true, ne-eqb}
-use lib.ListN.{length, getD, take, drop, length-take, length-drop}
+use borrow.Author.Tests.{eqb-true, eqb-false, ne-eqb}
+use lib.ListN.{length, getD, drop, length-take, length-drop}
 use lib.Dec.{eqb, ltb, leb}
-use Rattle.standard.specs.Choice.{pick}
-use Rattle.standard.specs.Bytes.{wordAt, four, num}
+use Rattle.standard.specs.Bytes.{wordAt, four}
 use Rattle.standard.specs.Types.{Ty, Tys, Opts, number, boolean, fixedBytes, freeBytes, bitVector, bitList, container, union, end, field, over, bare, body, head, headAll, heads, width, portion, NoFields, LegalTy, LegalAll, LegalOptions}
 use Rattle.standard.specs.Parts.{next, spanOf, part, InRange}
 use Rattle.standard.specs.declared.Head.{Head}
 use Rattle.standard.specs.declared.Head.the-variants.{Fixed, Variable}
-use Rattle.standard.specs.declared.Refusal.{Refusal}
 use Rattle.standard.proofs.Join.{next-between, span-ranges}
 use Rattle.standard.proofs.Laws.{fixed-some}
 use Rattle.decode.specs.Builder.{layOut}
@@ -33,9 +31,8 @@ use Rattle.layout.proofs.Facts.{trees-get, as-container, as-union, as-leaf}
 use Rattle.layout.proofs.Trees.{legal-tree}
 use Rattle.message.specs.Read.{rawBytes, one, plus, andThen, readItem, readFields, readOption}
 use Rattle.message.specs.declared.Counts.{Counts}
-use Rattle.message.specs.declared.Answer.{Answer}
-use Rattle.message.specs.declared.Answer.the-variants.{Accepted, Refused}
-use Rattle.message.proofs.Answers.{none, single, not-accepted, accepted-same, pick-left, pick-right, pick-cases, left-accepted, right-accepted, leaf-accepted, then-accepted, behind-accepted, built-accepted, vector-accepted, list-accepted}
+use Rattle.message.specs.declared.Answer.the-variants.{Accepted}
+use Rattle.message.proofs.Answers.{none, single, not-accepted, accepted-same, pick-left, pick-right, pick-cases, pick-holds, left-accepted, right-accepted, leaf-accepted, then-accepted, behind-accepted, built-accepted, vector-accepted, list-accepted}
 
 -- How many levels a type has
 unfoldable mutual
@@ -59,17 +56,17 @@ unfoldable mutual
   depthOptions (body j t os) = max (depth t) (depthOptions os)
 
 -- The type t of a table has at most t + 1 levels, since a type names lower ones.
+One : Ty → Type 0
+One x = depth x ≡ 1
+
 leaf-depth : (t : ℕ) (n : Node) → depth (leafOf t n) ≡ 1
-unfolding leafOf depth
-leaf-depth t n = go (eqb (n .kind) 0) (eqb (n .kind) 1) (eqb (n .kind) 2) (eqb (n .kind) 3) (eqb (n .kind) 4)
-  where
-    go : (a b c d e : Bool) → depth (pick a (number t (n .second)) (pick b (boolean t) (pick c (fixedBytes t (n .second)) (pick d (freeBytes t (n .second)) (pick e (bitVector t (n .second)) (bitList t (n .second))))))) ≡ 1
-    go true b c d e = refl
-    go false true c d e = refl
-    go false false true d e = refl
-    go false false false true e = refl
-    go false false false false true = refl
-    go false false false false false = refl
+unfolding leafOf depth One
+leaf-depth t n =
+    pick-holds One (eqb (n .kind) 0) _ _ (λ a. refl) λ a.
+    pick-holds One (eqb (n .kind) 1) _ _ (λ b. refl) λ b.
+    pick-holds One (eqb (n .kind) 2) _ _ (λ c. refl) λ c.
+    pick-holds One (eqb (n .kind) 3) _ _ (λ d. refl) λ d.
+    pick-holds One (eqb (n .kind) 4) _ _ (λ e. refl) λ e. refl
 
 module _ (l : List ℕ) (t : ℕ) (f : (u : ℕ) → u < t → depth (treeOf l u) ≤ u + 1) where
   lower-depth : (w : ℕ) → w < t → depth (getD (trees l t) w (boolean 0)) ≤ t
@@ -88,15 +85,12 @@ module _ (l : List ℕ) (t : ℕ) (f : (u : ℕ) → u < t → depth (treeOf l u
   unfolding options depth LowerOrBare
   options-depth at k zero g = omega arith
   options-depth at k (suc n) g =
-      go (eqb (wordAt l at) 4294967295) refl
-      (options-depth (at + 1) (k + 1) n (λ i h. let e : at + suc i ≡ at + 1 + i = omega arith in rw e at (g (suc i) (omega arith))))
-    where
-      go : (c : Bool) → eqb (wordAt l at) 4294967295 ≡ c → depthOptions (options l (trees l t) (at + 1) (k + 1) n) ≤ t → depthOptions (pick c (bare k (options l (trees l t) (at + 1) (k + 1) n)) (body k (getD (trees l t) (wordAt l at) (boolean 0)) (options l (trees l t) (at + 1) (k + 1) n))) ≤ t
-      go true q r = r
-      go false q r =
-          let h : wordAt l at < t = (rw add-zero at (g 0 (omega arith))) (eqb-false _ _ q) in
-          let x = lower-depth (wordAt l at) h in
-          omega arith
+      let r = options-depth (at + 1) (k + 1) n (λ i h. let e : at + suc i ≡ at + 1 + i = omega arith in rw e at (g (suc i) (omega arith))) in
+      pick-holds (λ (os : Opts). depthOptions os ≤ t) (eqb (wordAt l at) 4294967295) _ _ (λ q. r)
+      (λ q.
+      let h : wordAt l at < t = (rw add-zero at (g 0 (omega arith))) (eqb-false _ _ q) in
+      let x = lower-depth (wordAt l at) h in
+      omega arith)
 
   node-depth : LegalNode l t (nodeOf l t) → depth (treeOf l t) ≤ t + 1
   unfolding depth

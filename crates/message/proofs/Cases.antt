@@ -2,8 +2,8 @@
 -- Assumes nothing.
 use mathlib.Core.Path.{_≡_, refl}
 use mathlib.Core.List.{List, [], _∷_, _++_}
-use mathlib.Core.Bool.{Bool, true, false}
-use Prim.Native.Nat.{ℕ, zero, suc, _+_}
+use mathlib.Core.Bool.{false}
+use Prim.Native.Nat.{ℕ}
 use lib.ListN.{take}
 use Rattle.standard.specs.Bytes.{le, num, numAt, wordAt}
 use Rattle.standard.specs.Types.{bitList, head, heads, joined, width, portion}

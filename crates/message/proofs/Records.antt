@@ -1,12 +1,10 @@
 -- The listing of an accepted item has as many records as are counted, of twelve bytes each. Assumes nothing.
-use mathlib.Core.Path.{_≡_, refl, sym, ap, _∙_}
-use mathlib.Core.List.{List, [], _∷_, _++_}
-use mathlib.Core.Bool.{Bool, true, false}
-use Prim.Native.Nat.{ℕ, _+_, _*_, _≤_}
+use mathlib.Core.Path.{_≡_}
+use mathlib.Core.List.{List}
+use Prim.Native.Nat.{ℕ, _+_, _*_}
 use native.Mathlib.Omega.{arith}
 use lib.ListN.{length, getD, drop, length-append}
 use lib.Dec.{eqb, ltb, leb}
-use Rattle.standard.specs.Bytes.{le}
 use Rattle.standard.specs.Types.{Ty, Tys, Opts, number, boolean, fixedBytes, freeBytes, bitVector, bitList, container, union, end, field, over, bare, body, head, heads}
 use Rattle.standard.specs.Parts.{spanOf, part}
 use Rattle.standard.proofs.Bytes.{length-le}
@@ -15,8 +13,7 @@ use Rattle.bitfield.specs.Body.{bitListBody, bitVectorBody}
 use Rattle.message.specs.Read.{rawBytes, one, andThen, readItem, readFields, readOption}
 use Rattle.message.specs.Listing.{entry, listItem, listFields, listOption}
 use Rattle.message.specs.declared.Counts.{Counts}
-use Rattle.message.specs.declared.Answer.{Answer}
-use Rattle.message.specs.declared.Answer.the-variants.{Accepted, Refused}
+use Rattle.message.specs.declared.Answer.the-variants.{Accepted}
 use Rattle.message.proofs.Answers.{none, single, not-accepted, accepted-same, pick-cases, left-accepted, right-accepted, leaf-accepted, then-accepted, behind-accepted, built-accepted, vector-accepted, list-accepted}
 
 pub length-entry : (t : ℕ) (b : List ℕ) (s : ℕ) → length (entry t b s) ≡ 12
@@ -50,7 +47,8 @@ mutual
       let q = left-accepted (leb (getD b 0 0) 127) _ _ t s c (p .1) in
       simp (length-append, length-entry) (option-listed os (getD b 0 0) b t s c (q .1))
 
-  pub fields-listed : (ts : Tys) (b : List ℕ) (p s : ℕ) (c : Counts) → readFields ts b p s ≡ Accepted c → length (listFields ts b p s) ≡ 12 * c .records
+  pub fields-listed :
+      (ts : Tys) (b : List ℕ) (p s : ℕ) (c : Counts) → readFields ts b p s ≡ Accepted c → length (listFields ts b p s) ≡ 12 * c .records
   fields-listed end b p s c e = rw (← accepted-same none c e)
   fields-listed (field t ts) b p s c e =
       let w = spanOf (head t) (heads ts) b p in
@@ -60,7 +58,9 @@ mutual
       rw (q .4) (simp length-append (omega (arith, x, y)))
 
   -- the union's own record, and those of the option
-  option-listed : (os : Opts) (k : ℕ) (b : List ℕ) (t s : ℕ) (c : Counts) → readOption os k b t s ≡ Accepted c → 12 + length (listOption os k b s) ≡ 12 * c .records
+  option-listed :
+      (os : Opts) (k : ℕ) (b : List ℕ) (t s : ℕ) (c : Counts) → readOption os k b t s ≡ Accepted c
+      → 12 + length (listOption os k b s) ≡ 12 * c .records
   option-listed over k b t s c e = not-accepted _ t s c e
   option-listed (bare j os) k b t s c e =
       pick-cases (eqb k j) _ (readOption os k b t s) (Accepted c)

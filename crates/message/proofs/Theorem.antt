@@ -4,21 +4,20 @@
 --     only-one    two values with one serialization are equal
 -- Then the same of a whole message under a legal layout table; and where an item starts is no matter to its acceptance.
 use mathlib.Core.Path.{_≡_, refl, sym, ap, ap₂, _∙_}
-use mathlib.Core.Logic.{_⊎_, inl, inr, _↔_}
-use mathlib.Core.List.{List, [], _∷_, _++_}
+use mathlib.Core.Logic.{inl, inr, _↔_}
+use mathlib.Core.List.{List, [], _∷_}
 use mathlib.Core.Bool.{Bool, true, false}
-use Prim.Native.Nat.{ℕ, zero, suc, _+_, _-_, _≤_, _<_, _^_}
+use Prim.Native.Nat.{ℕ, zero, suc, _+_, _-_, _<_, _^_}
 use native.Mathlib.Omega.{arith}
 use borrow.Author.Tests.{eqb-true, leb-true, ltb-true, le-leb, eq-eqb, lt-ltb, ne-eqb, le-ltb}
-use lib.ListN.{length, getD, take, drop}
+use lib.ListN.{length, getD, drop}
 use lib.Dec.{eqb, ltb, leb}
 use Rattle.standard.specs.Choice.{pick}
 use Rattle.standard.specs.Bytes.{Bytes, le, num}
-use Rattle.standard.specs.Bits.{bit, pack, marked}
+use Rattle.standard.specs.Bits.{bit, pack}
 use Rattle.standard.specs.Types.{Ty, Tys, Opts, number, boolean, fixedBytes, freeBytes, bitVector, bitList, container, union, end, field, over, bare, body, head, heads, Rising, LegalTy, LegalAll, LegalOptions}
 use Rattle.standard.specs.Parts.{Part, piece, join, partHeads, spanOf, part, split}
 use Rattle.standard.specs.Serialize.{Val, Vals, Option, Ok, OkAll, OkOption, serialize, parts, selected}
-use Rattle.standard.specs.declared.Head.{Head}
 use Rattle.standard.specs.declared.Span.{Span}
 use Rattle.standard.specs.declared.Told.{Told}
 use Rattle.standard.specs.declared.Refusal.{Refusal}
@@ -33,8 +32,7 @@ use Rattle.bitfield.specs.declared.BodyBits.{BodyBits}
 use Rattle.bitfield.specs.declared.Told.{Told as BodyTold}
 use Rattle.bitfield.proofs.Standard.{list-sound, list-complete, vector-sound, vector-complete}
 use Rattle.layout.specs.Table.{tableOf}
-use Rattle.layout.specs.declared.Checked.{Checked}
-use Rattle.layout.specs.declared.Checked.the-variants.{Bad, Upto}
+use Rattle.layout.specs.declared.Checked.the-variants.{Upto}
 use Rattle.layout.proofs.Trees.{legal-tree}
 use Rattle.layout.proofs.Tables.{table-legal}
 use Rattle.message.specs.Read.{rawBytes, one, plus, andThen, built, ofVector, ofList, readItem, readFields, readOption}
@@ -186,7 +184,8 @@ mutual
 
 -- The whole: b is accepted exactly if it is the serialization of a value of the type t, and that value is the only one.
 module _ (t : Ty) (g : LegalTy t) (b : List ℕ) where
-  pub accepted-iff : (s : ℕ) → Bytes b → length b < 2 ^ 32 → ((c : Counts) × (readItem t b s ≡ Accepted c)) ↔ ((v : Val t) × Ok t v × (serialize t v ≡ b))
+  pub accepted-iff :
+      (s : ℕ) → Bytes b → length b < 2 ^ 32 → ((c : Counts) × (readItem t b s ≡ Accepted c)) ↔ ((v : Val t) × Ok t v × (serialize t v ≡ b))
   accepted-iff s h k = (
     (λ (x : (c : Counts) × (readItem t b s ≡ Accepted c)). sound t b s (x .0) g h (x .1)),
     (λ (x : (v : Val t) × Ok t v × (serialize t v ≡ b)). rw (x .2) at (complete t (x .0) s g (x .1) (rw (x .2) k))),
@@ -204,7 +203,9 @@ module _ (l : List ℕ) (n : ℕ) (h : Bytes l) (e : tableOf l ≡ Upto n) (m : 
   pub message-legal : LegalTy (messageType l n)
   message-legal = let g = table-legal l n h e in legal-tree l n (n - 1) (g .0) (omega (arith, g .1))
 
-  pub message-iff : Bytes m → ((c : Counts) × (checkMessage l m ≡ Accepted c)) ↔ ((v : Val (messageType l n)) × Ok (messageType l n) v × (serialize (messageType l n) v ≡ m))
+  pub message-iff :
+      Bytes m
+      → ((c : Counts) × (checkMessage l m ≡ Accepted c)) ↔ ((v : Val (messageType l n)) × Ok (messageType l n) v × (serialize (messageType l n) v ≡ m))
   message-iff i = rw message-read (accepted-iff (messageType l n) message-legal m 0 i k)
 
   pub message-one :
