@@ -1,3 +1,4 @@
 pub mod Read
 pub mod Listing
 pub mod Check
+pub mod Steps
