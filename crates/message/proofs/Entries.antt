@@ -2,12 +2,12 @@
 use mathlib.Core.Path.{_≡_, refl, sym, ap, _∙_}
 use mathlib.Core.List.{List, [], _∷_, _++_, append-nil, append-assoc}
 use mathlib.Core.Bool.{Bool, true, false}
-use Prim.Native.Nat.{ℕ, zero, suc, _+_, _-_, _*_, _≤_, _<_, _^_}
+use Prim.Native.Nat.{ℕ, zero, suc, _+_, _-_, _*_, _/_, _≤_, _<_, _^_}
 use native.Mathlib.Omega.{arith}
-use borrow.Author.Tests.{eqb-true, eqb-false, eq-eqb, ne-eqb}
+use borrow.Author.Tests.{eqb-true, eqb-false, eq-eqb, ne-eqb, ltb-false}
 use lib.ListN.{length, getD, take, drop, length-append, length-drop}
 use lib.Seq.{sets, length-sets, take-all}
-use lib.Dec.{eqb}
+use lib.Dec.{eqb, ltb}
 use Rattle.standard.specs.Choice.{pick}
 use Rattle.standard.specs.Bytes.{le, wordAt, Stored, Room}
 use Rattle.standard.specs.Types.{Ty, Tys, Opts, number, boolean, fixedBytes, freeBytes, bitVector, bitList, container, union, bare, body, head}
@@ -15,20 +15,25 @@ use Rattle.standard.specs.Parts.{spanOf, part, InRange}
 use Rattle.standard.specs.declared.Span.{Span}
 use Rattle.standard.specs.declared.Told.{Told}
 use Rattle.standard.specs.declared.Refusal.{Refusal}
+use Rattle.standard.specs.declared.Refusal.the-variants.{TooLarge}
 use Rattle.standard.proofs.Bytes.{length-le}
 use Rattle.standard.proofs.Store.{sets-append, stored-then, room-first, room-then}
 use Rattle.decode.specs.Builder.{layOut}
 use Rattle.decode.proofs.Register.{layout-ranges}
 use Rattle.layout.specs.Tree.{nodeOf, leafOf, options, trees, treeOf}
 use Rattle.layout.specs.declared.Node.{Node}
+use Rattle.layout.specs.declared.Checked.the-variants.{Upto}
 use Rattle.layout.proofs.Facts.{trees-get, as-container, as-union, as-leaf, fields-first, fields-none}
 use Rattle.message.specs.Read.{one, andThen, built, readItem, readFields}
+use Rattle.message.specs.Check.{messageType, underTable}
 use Rattle.message.specs.Listing.{entry, listItem, listFields, listOption}
 use Rattle.message.specs.Steps.{Under, Row, rowOf, headsOf, choose, IsAccepted}
+use Rattle.message.specs.declared.Counts.{Counts}
 use Rattle.message.specs.declared.Answer.{Answer}
 use Rattle.message.specs.declared.Answer.the-variants.{Accepted, Refused}
 use Rattle.message.specs.declared.items.Choice.{Choice}
-use Rattle.message.proofs.Records.{length-entry}
+use Rattle.message.proofs.Answers.{right-accepted}
+use Rattle.message.proofs.Records.{length-entry, listed-length}
 use Rattle.message.proofs.Rows.{row-next, span-ok}
 use Rattle.message.proofs.Bodies.{fields-read, container-row, container-read, bare-says, body-says, body-below, body-read, wrong-read}
 
@@ -208,3 +213,13 @@ list-long (union t os) b s = simp (length-append, length-entry) (omega arith)
 
 pub room-long : (o : List ℕ) (at : ℕ) (x : Ty) (b : List ℕ) (s : ℕ) → Room o at (listItem x b s) → at + 12 ≤ length o
 room-long o at x b s g = omega (arith, g .room, list-long x b s)
+
+-- An accepted message under a legal table: it is below 2^32 bytes, and there is room for as many records as it counts.
+pub under-accepted : (l m : List ℕ) (n : ℕ) (c : Counts) → underTable (Upto n) l m ≡ Accepted c → (readItem (messageType l n) m 0 ≡ Accepted c) × (length m < 2 ^ 32)
+under-accepted l m n c e =
+    let q = right-accepted (ltb 4294967295 (length m)) (readItem (messageType l n) m 0) TooLarge 0 0 c e in
+    let k : length m ≤ 4294967295 = ltb-false _ _ (q .0) in
+    (q .1, omega arith)
+
+pub records-room : (x : Ty) (m o : List ℕ) (c : Counts) → readItem x m 0 ≡ Accepted c → c .records ≤ length o / 12 → Room o 0 (listItem x m 0)
+records-room x m o c e k = record { room = omega (arith, listed-length x m 0 c e) }
