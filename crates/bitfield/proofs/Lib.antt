@@ -10,3 +10,4 @@ pub mod Clean
 pub mod Ties
 pub mod Tolds
 pub mod Results
+pub mod Serial
