@@ -66,7 +66,7 @@ pub enum BodyBits {
 }
 
 // The highest set bit of bits that are well formed.
-pub(crate) enum Top {
+pub enum Top {
     At(usize),
     Nothing,
 }
