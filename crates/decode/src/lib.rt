@@ -1,14 +1,14 @@
 // Decoding: offsets and the split of a union's bytes, as decode.rs of ethereum_ssz 0.10.4 has them.
+pub mod builder;
+pub mod decoder;
 pub mod union_selector;
 
 use standard::Maybe;
 use standard::Refusal;
+use standard::words::four_at;
 use union_selector::SelectorResult;
 use union_selector::UnionSelector;
 ghost use mathlib.Core.Path.{_≡_};
-ghost use Prim.Native.Nat.{_+_, _≤_, _<_};
-ghost use lib.ListN.{length, drop};
-ghost use Rattle.standard.specs.Bytes.{four};
 ghost use Rattle.decode.specs.Offsets.{isBelow, skips, isAbove, readOffset, sanitizeOffset};
 ghost use Rattle.decode.specs.Unions.{splitUnion, unionBody};
 
@@ -18,20 +18,6 @@ pub const BYTES_PER_LENGTH_OFFSET: usize = 4;
 pub enum OffsetResult {
     Offset(usize),
     Refused(Refusal),
-}
-
-fn wide(x: u8) -> usize
-    ensures { λ r. ⌜ (r ≡ x) × (r < 256) ⌝ }
-{
-    x as usize
-}
-
-// The number in the four bytes from p on.
-pub(crate) fn four_at(b: &[u8], p: usize) -> usize
-    requires { ⌜ p + 4 ≤ length (now b) ⌝ }
-    ensures { λ r. ⌜ r ≡ four (now (b .entry)) p ⌝ }
-{
-    wide(b[p]) + 256 * wide(b[p + 1]) + 65536 * wide(b[p + 2]) + 16777216 * wide(b[p + 3])
 }
 
 // Reads the offset that begins the bytes.

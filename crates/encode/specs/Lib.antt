@@ -1,1 +1,4 @@
 pub mod Lengths
+pub mod Encoder
+pub mod Finish
+pub mod Whole

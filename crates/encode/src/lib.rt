@@ -1,4 +1,6 @@
-// Encoding: the bytes of a length, as encode.rs of ethereum_ssz 0.10.4 has them.
+// Encoding: the bytes of a length, and the encoder of a container, as encode.rs of ethereum_ssz 0.10.4 has them.
+pub mod encoder;
+
 use standard::Refusal;
 use standard::Told;
 ghost use mathlib.Core.Path.{_≡_};

@@ -2,11 +2,11 @@
 use mathlib.Core.Path.{_≡_, refl, sym, ap, _∙_}
 use mathlib.Core.List.{List, [], _∷_, _++_}
 use Prim.Native.Nat.{ℕ, zero, suc, _+_, _-_, _*_, _/_, _%_, _≤_, _<_, _^_}
-use native.Mathlib.Nat.{add-zero, pow-succ'}
+use native.Mathlib.Nat.{add-zero, pow-succ', one-le-pow}
 use native.Mathlib.Omega.{arith}
-use lib.ListN.{length, getD, take, drop, length-append, length-take, length-drop}
+use lib.ListN.{length, getD, take, drop, length-append, length-take, length-drop, drop-of-length-le}
 use lib.Seq.{getD-drop, take-at}
-use Rattle.standard.specs.Bytes.{Bytes, le, num, numAt, four}
+use Rattle.standard.specs.Bytes.{Bytes, le, num, numAt, four, wordAt}
 
 -- Bytes of parts.
 pub bytes-drop : (p : ℕ) (b : List ℕ) → Bytes b → Bytes (drop p b)
@@ -99,3 +99,24 @@ four-first (a ∷ b ∷ c ∷ d ∷ xs) = omega arith
 pub four-bytes : (b : List ℕ) (p : ℕ) → four b p ≡ getD b p 0 + 256 * getD b (p + 1) 0 + 65536 * getD b (p + 2) 0 + 16777216 * getD b (p + 3) 0
 unfolding numAt
 four-bytes b p = four-first (drop p b) ∙ simp (getD-drop, add-zero)
+
+pub four-past : (b : List ℕ) (p : ℕ) → length b ≤ p → 0 ≡ four b p
+unfolding num numAt
+four-past b p h = rw (drop-of-length-le b h)
+
+-- A word is below 2^32, whether or not all of it is there.
+take-bound : (w : ℕ) (l : List ℕ) → Bytes l → num (take w l) < 256 ^ w
+unfolding num Bytes
+take-bound zero l h = omega arith
+take-bound (suc w) [] h = one-le-pow (suc w) 256 (omega arith)
+take-bound (suc w) (x ∷ xs) h = rw (pow-succ' 256 w) (omega (arith, take-bound w xs (h .1), h .0))
+
+pub word-bound : (l : List ℕ) (i : ℕ) → Bytes l → wordAt l i < 2 ^ 32
+unfolding wordAt numAt
+word-bound l i h = take-bound 4 (drop (4 * i) l) (bytes-drop (4 * i) l h)
+
+-- What is known of a slice of bytes, index by index.
+pub bytes-known : (l : List ℕ) → ((i : ℕ) → getD l i 0 < 256) → Bytes l
+unfolding Bytes
+bytes-known [] h = tt
+bytes-known (x ∷ xs) h = (h 0, bytes-known xs (λ i. h (suc i)))

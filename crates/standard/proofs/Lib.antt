@@ -1,3 +1,6 @@
 -- Laws on the definitions, that every crate above cites.
 pub mod Bytes
 pub mod Bits
+pub mod Store
+pub mod Join
+pub mod Laws

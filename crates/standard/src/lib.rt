@@ -1,4 +1,6 @@
 // The words that every crate above shares: how a refusal is named, and whether a type is of fixed or of variable size.
+pub mod words;
+
 ghost use mathlib.Core.Path.{_≡_};
 ghost use Rattle.standard.specs.Refusals.{numbersOf};
 

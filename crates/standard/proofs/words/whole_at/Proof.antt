@@ -1,9 +1,9 @@
 -- The four bytes, one by one. Assumes nothing.
 use native.Mathlib.Omega.{arith}
 use Rattle.standard.proofs.Bytes.{four-bytes}
 use borrow.Author.Needs.{needs}
-use Rattle.decode.proofs.four_at.Statement.{statement}
-use Rattle.decode.proofs.four_at.Tie as tie
+use Rattle.standard.proofs.words.whole_at.Statement.{statement}
+use Rattle.standard.proofs.words.whole_at.Tie as tie
 
 shared-slice-read-wide : tie.Need-shared-slice-read-wide
 shared-slice-read-wide c = search needs
@@ -57,10 +57,12 @@ add-result-3 : tie.Need-add-result-3
 add-result-3 c = search needs
 
 returns : tie.Need-returns
-returns c = rw (four-bytes (c .before .before .before .before .before .before .before .before .before .args .b .now) (c .before .before .before .before .before .before .before .before .before .args .p)) (omega arith)
+returns c =
+    let a = c .before .before .before .before .before .before .before .before .before .args in
+    (rw (four-bytes (a .b .now) (a .p)) (omega arith), omega arith)
 
-pub four-at-spec : {M : Type 1} → statement M
-four-at-spec =
+pub whole-at-spec : {M : Type 1} → statement M
+whole-at-spec =
     tie.close
     (tie.spec
     shared-slice-read-wide

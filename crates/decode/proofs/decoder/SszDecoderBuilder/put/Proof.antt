@@ -1,0 +1,41 @@
+-- The two stores are what the definition says. Assumes nothing.
+use borrow.Author.Needs.{needs}
+use Rattle.decode.proofs.decoder.SszDecoderBuilder.put.Statement.{statement}
+use Rattle.decode.proofs.decoder.SszDecoderBuilder.put.Tie as tie
+
+start-of-requires : tie.Need-start-of-requires
+start-of-requires c κs = search needs
+
+end-of-requires : tie.Need-end-of-requires
+end-of-requires c κs = search needs
+
+mul-starts : tie.Need-mul-starts
+mul-starts c = search needs
+
+array-write-starts : tie.Need-array-write-starts
+array-write-starts c = search needs
+
+mul-ends : tie.Need-mul-ends
+mul-ends c = search needs
+
+array-write-ends : tie.Need-array-write-ends
+array-write-ends c = search needs
+
+add-more : tie.Need-add-more
+add-more c = search needs
+
+returns : tie.Need-returns
+returns c = rw (c .before .before .before .start-of .ensures, c .before .before .end-of .ensures, c .before .before .before .before .before .pre .1)
+
+pub put-spec : {M : Type 1} → statement M
+put-spec =
+    tie.close
+    (tie.spec
+    start-of-requires
+    end-of-requires
+    mul-starts
+    array-write-starts
+    mul-ends
+    array-write-ends
+    add-more
+    returns)

@@ -1,0 +1,4 @@
+-- Laws of the encoder.
+pub mod Copy
+pub mod Container
+pub mod Round

@@ -1,0 +1,344 @@
+-- What an accepted table says: the loops of the check, and that its types are legal. Assumes nothing.
+use mathlib.Core.Path.{_≡_, refl, sym, ap, _∙_}
+use mathlib.Core.List.{List, [], _∷_}
+use mathlib.Core.Bool.{Bool, true, false}
+use Prim.Native.Nat.{ℕ, zero, suc, _+_, _-_, _*_, _/_, _%_, _≤_, _<_, _^_}
+use native.Mathlib.Nat.{add-zero}
+use native.Mathlib.Omega.{arith}
+use borrow.Author.Tests.{eqb-true, eqb-false, ltb-true, ltb-false, leb-true, lt-ltb, le-ltb, ne-eqb, eq-eqb, le-leb, lt-leb}
+use lib.ListN.{length, getD}
+use lib.Dec.{eqb, leb, ltb}
+use Rattle.standard.specs.Choice.{pick, andAlso, orElse}
+use Rattle.standard.specs.Bytes.{Bytes, wordAt}
+use Rattle.standard.specs.Types.{Ty, Tys, head, heads, width, portion, LegalTy}
+use Rattle.standard.specs.declared.Head.{Head}
+use Rattle.standard.proofs.Bytes.{word-bound}
+use Rattle.layout.specs.Tree.{nodeOf, fields, trees, treeOf, lenOf, headOf, filled}
+use Rattle.layout.specs.Table.{onward, count, mayName, refs, many, containerEnd, leafWord, leafEnd, bodyEnd, typesEnd, tableOf, withLengths}
+use Rattle.layout.specs.Legal.{Lower, LowerOrBare, LegalNode, Legal}
+use Rattle.layout.specs.Steps.{Known, Typed}
+use Rattle.layout.specs.declared.Node.{Node}
+use Rattle.layout.specs.declared.Table.{Table}
+use Rattle.layout.specs.declared.Checked.{Checked}
+use Rattle.layout.specs.declared.Checked.the-variants.{Bad, Upto}
+use Rattle.layout.proofs.Facts.{fields-first, fields-none, heads-first, lower-here, lower-rest, filled-get, length-filled, head-len, legal-below, legal-more}
+use Rattle.layout.proofs.Trees.{legal-tree, len-small}
+
+-- A found length, as a head.
+module _ (lens l : List ℕ) (k : ℕ) (g : Known lens l k) (f : ℕ) (h : f < k) where
+  pub known-len : getD lens f 0 ≡ lenOf (head (treeOf l f))
+  known-len = rw (g .found) (filled-get l k f h)
+
+  pub known-head : headOf (getD lens f 0) ≡ head (treeOf l f)
+  known-head = ap headOf known-len ∙ head-len (treeOf l f) (legal-tree l k f (g .legal) h)
+
+  pub known-small : getD lens f 0 < 2 ^ 32
+  unfolding Legal
+  known-small = rw known-len (len-small l f (g .legal f h))
+
+pub known-length : (lens l : List ℕ) (k : ℕ) → Known lens l k → length lens ≡ 64
+known-length lens l k g = ap length (g .found) ∙ length-filled l k (g .few)
+
+-- The loop of `refs_end`.
+pub refs-cons : (l : List ℕ) (t : ℕ) (none : Bool) (a left : ℕ) → 0 < left → refs l t none a left ≡ pick (ltb a (count l)) (pick (mayName (wordAt l a) t none) (refs l t none (a + 1) (left - 1)) (Bad a)) (Bad (count l))
+unfolding refs
+refs-cons l t none a zero h = absurd (omega arith)
+refs-cons l t none a (suc n) h = let e : suc n - 1 ≡ n = omega arith in rw e
+
+pub refs-none : (l : List ℕ) (t : ℕ) (none : Bool) (a left : ℕ) → left ≤ 0 → refs l t none a left ≡ Upto a
+unfolding refs
+refs-none l t none a zero h = refl
+refs-none l t none a (suc n) h = absurd (omega arith)
+
+module _ (l : List ℕ) (t : ℕ) (none : Bool) (a left : ℕ) (x : Checked) (p : 0 < left) (e : refs l t none a left ≡ x) where
+  pub refs-missing : count l ≤ a → Bad (count l) ≡ x
+  refs-missing h = rw (refs-cons l t none a left p, le-ltb _ _ h) at e
+
+  module _ (w : ℕ) (ok : Bool) (h : a < count l) (q : w ≡ wordAt l a) (r : ok ≡ mayName w t none) where
+    pub refs-wrong : ok ≡ false → Bad a ≡ x
+    refs-wrong s = rw (refs-cons l t none a left p, lt-ltb _ _ h, ← q, ← r, s) at e
+
+    pub refs-next : ok ≡ true → refs l t none (a + 1) (left - 1) ≡ x
+    refs-next s = rw (refs-cons l t none a left p, lt-ltb _ _ h, ← q, ← r, s) at e
+
+-- The loop of `portion_of`: what is added, and what is left to add.
+pub record Adding (l : List ℕ) (t a₀ n a left sum : ℕ) : Type 0 where
+  pub lower : Lower l t a left
+  pub some : left ≤ n
+  pub place : a + left ≡ a₀ + n
+  pub bound : sum + 4294967296 * left ≤ 4294967296 * n
+  pub same : sum + portion (heads (fields l (trees l t) a left)) ≡ portion (heads (fields l (trees l t) a₀ n))
+
+module _ (lens l : List ℕ) (t a₀ n a left sum f k : ℕ) (g : Known lens l t) (s : Adding l t a₀ n a left sum) (p : 0 < left) (e : f ≡ wordAt l a) (q : k ≡ width (headOf (getD lens f 0))) where
+  pub adding-below : f < t
+  adding-below = rw e (lower-here l t a left (s .lower) p)
+
+  adding-width : k ≡ width (head (treeOf l f))
+  adding-width = q ∙ ap width (known-head lens l t g f adding-below)
+
+  width-small : (m : ℕ) → m < 2 ^ 32 → width (headOf m) < 2 ^ 32
+  unfolding width
+  width-small zero h = omega arith
+  width-small (suc m) h = rw (ne-eqb (suc m) 0 (λ (z : suc m ≡ 0). omega arith)) h
+
+  pub adding-small : k < 2 ^ 32
+  adding-small = rw q (width-small _ (known-small lens l t g f adding-below))
+
+  pub adding-next : Adding l t a₀ n (a + 1) (left - 1) (sum + k)
+  unfolding portion
+  adding-next =
+      let z = adding-small in
+      let x = rw (heads-first l t a left (s .lower) p f e, ← adding-width) at (s .same) in
+      record { lower = lower-rest l t a left (s .lower) p; some = omega arith; place = omega (arith, s .place); bound = omega arith; same = omega arith }
+
+pub adding-end : (l : List ℕ) (t a₀ n a left sum : ℕ) → Adding l t a₀ n a left sum → left ≤ 0 → sum ≡ portion (heads (fields l (trees l t) a₀ n))
+unfolding heads portion
+adding-end l t a₀ n a left sum s h = omega (arith, rw (fields-none l (trees l t) a left h) at (s .same))
+
+-- An accepted answer, by its tests.
+upto-left : (c : Bool) (u : Checked) (w e : ℕ) → pick c u (Bad w) ≡ Upto e → (c ≡ true) × (u ≡ Upto e)
+upto-left true u w e h = (refl, h)
+upto-left false u w e h = let z : _≡_ {A = ℕ} 0 1 = cc in absurd (omega arith)
+
+upto-onward : (x : Checked) (k : ℕ → Checked) (e : ℕ) → onward x k ≡ Upto e → (i : ℕ) × (x ≡ Upto i) × (k i ≡ Upto e)
+upto-onward (Bad w) k e h = let z : _≡_ {A = ℕ} 0 1 = cc in absurd (omega arith)
+upto-onward (Upto i) k e h = (i, refl, h)
+
+pub upto-inj : (i j : ℕ) → Upto i ≡ Upto j → i ≡ j
+upto-inj i j g = cc
+
+pub bad-upto : {A : Type 0} (i e : ℕ) → Bad i ≡ Upto e → A
+bad-upto i e h = let z : _≡_ {A = ℕ} 0 1 = cc in absurd (omega arith)
+
+both-true : (a b : Bool) → andAlso a b ≡ true → (a ≡ true) × (b ≡ true)
+both-true true b h = (refl, h)
+both-true false b h = let z : _≡_ {A = ℕ} 0 1 = cc in absurd (omega arith)
+
+may-lower : (w t : ℕ) (none : Bool) → mayName w t none ≡ true → none ≡ false → w < t
+may-lower w t none h q = go (ltb w t) refl (rw q at h)
+  where
+    go : (a : Bool) → ltb w t ≡ a → orElse a false ≡ true → w < t
+    go true p r = ltb-true _ _ p
+    go false p r = let z : _≡_ {A = ℕ} 0 1 = cc in absurd (omega arith)
+
+may-bare : (w t : ℕ) (none : Bool) → mayName w t none ≡ true → (w ≡ 4294967295 → ⊥) → w < t
+may-bare w t none h q = go (ltb w t) none refl (rw (ne-eqb _ _ q) at h)
+  where
+    go : (a b : Bool) → ltb w t ≡ a → orElse a (andAlso b false) ≡ true → w < t
+    go true b p r = ltb-true _ _ p
+    go false true p r = let z : _≡_ {A = ℕ} 0 1 = cc in absurd (omega arith)
+    go false false p r = let z : _≡_ {A = ℕ} 0 1 = cc in absurd (omega arith)
+
+-- Accepted references are within the table, and each may stand there.
+refs-say : (l : List ℕ) (t : ℕ) (none : Bool) (n a e : ℕ) → a ≤ count l → refs l t none a n ≡ Upto e → (e ≤ count l) × ((i : ℕ) → i < n → mayName (wordAt l (a + i)) t none ≡ true)
+unfolding refs
+refs-say l t none zero a e k h = (omega (arith, upto-inj a e h), λ i q. absurd (omega arith))
+refs-say l t none (suc n) a e k h =
+    let p = upto-left (ltb a (count l)) _ (count l) e h in
+    let q = upto-left (mayName (wordAt l a) t none) (refs l t none (a + 1) n) a e (p .1) in
+    let r = refs-say l t none n (a + 1) e (omega (arith, ltb-true a (count l) (p .0))) (q .1) in
+    (r .0, all (q .0) (r .1))
+  where
+    all : mayName (wordAt l a) t none ≡ true → ((i : ℕ) → i < n → mayName (wordAt l (a + 1 + i)) t none ≡ true) → (i : ℕ) → i < suc n → mayName (wordAt l (a + i)) t none ≡ true
+    all x f zero j = rw add-zero x
+    all x f (suc i) j = let s : a + suc i ≡ a + 1 + i = omega arith in rw s (f i (omega arith))
+
+pub record Many (l : List ℕ) (t at most : ℕ) (none : Bool) (e : ℕ) : Type 0 where
+  pub some : 1 ≤ wordAt l (at + 1)
+  pub few : wordAt l (at + 1) ≤ most
+  pub within : e ≤ count l
+  pub each : (i : ℕ) → i < wordAt l (at + 1) → mayName (wordAt l (at + 2 + i)) t none ≡ true
+
+pub many-says : (l : List ℕ) (t at most : ℕ) (none : Bool) (e : ℕ) → many l t at none most ≡ Upto e → Many l t at most none e
+unfolding many
+many-says l t at most none e h =
+    let p = upto-left (ltb (at + 1) (count l)) _ (count l) e h in
+    let q = upto-left (andAlso (ltb 0 (wordAt l (at + 1))) (leb (wordAt l (at + 1)) most)) _ (at + 1) e (p .1) in
+    let r = both-true (ltb 0 (wordAt l (at + 1))) (leb (wordAt l (at + 1)) most) (q .0) in
+    let s = refs-say l t none (wordAt l (at + 1)) (at + 2) e (omega (arith, ltb-true (at + 1) (count l) (p .0))) (q .1) in
+    record { some = ltb-true _ _ (r .0); few = leb-true _ _ (r .1); within = s .0; each = s .1 }
+
+pub many-lower : (l : List ℕ) (t at most e : ℕ) → Many l t at most false e → Lower l t (at + 2) (wordAt l (at + 1))
+unfolding Lower
+many-lower l t at most e m = λ i h. may-lower _ t false (m .each i h) refl
+
+many-bare : (l : List ℕ) (t at most e : ℕ) → Many l t at most true e → LowerOrBare l t (at + 2) (wordAt l (at + 1))
+unfolding LowerOrBare
+many-bare l t at most e m = λ i h q. may-bare _ t true (m .each i h) q
+
+-- An accepted body, by its kind.
+container-says : (l : List ℕ) (t at e : ℕ) → containerEnd l t at ≡ Upto e → Many l t at 64 false e × (portion (heads (fields l (trees l t) (at + 2) (wordAt l (at + 1)))) < 2 ^ 32)
+unfolding containerEnd
+container-says l t at e h =
+    let p = upto-onward (many l t at false 64) _ e h in
+    let q = upto-left (leb (portion (heads (fields l (trees l t) (at + 2) (wordAt l (at + 1))))) 4294967295) (Upto (p .0)) at e (p .2) in
+    let w : p .0 ≡ e = upto-inj (p .0) e (q .1) in
+    let s : portion (heads (fields l (trees l t) (at + 2) (wordAt l (at + 1)))) ≤ 4294967295 = leb-true _ _ (q .0) in
+    (rw w at (many-says l t at 64 false (p .0) (p .1)), omega arith)
+
+leaf-says : (l : List ℕ) (at e : ℕ) → leafEnd l at ≡ Upto e → (leafWord (wordAt l at) (wordAt l (at + 1)) ≡ true) × (e ≤ count l)
+unfolding leafEnd
+leaf-says l at e h =
+    let p = upto-left (ltb (at + 1) (count l)) _ (count l) e h in
+    let q = upto-left (leafWord (wordAt l at) (wordAt l (at + 1))) (Upto (at + 2)) (at + 1) e (p .1) in
+    (q .0, omega (arith, upto-inj (at + 2) e (q .1), ltb-true (at + 1) (count l) (p .0)))
+
+module _ (l : List ℕ) (t at e : ℕ) (h : bodyEnd l t at ≡ Upto e) where
+  body-there : at < count l
+  unfolding bodyEnd
+  body-there = ltb-true _ _ (upto-left (ltb at (count l)) _ (count l) e h .0)
+
+  -- the answer of the kind
+  abbrev by-kind : Bool → Bool → Bool → Bool → Checked
+  by-kind c d f g = pick c (containerEnd l t at) (pick d (many l t at true 128) (pick f (Upto (at + 1)) (pick g (leafEnd l at) (Bad at))))
+
+  body-kind : (c d f g : Bool) → eqb (wordAt l at) 6 ≡ c → eqb (wordAt l at) 7 ≡ d → eqb (wordAt l at) 1 ≡ f → ltb (wordAt l at) 6 ≡ g → by-kind c d f g ≡ Upto e
+  unfolding bodyEnd
+  body-kind c d f g p q r s = rw (p, q, r, s) at (upto-left (ltb at (count l)) _ (count l) e h .1)
+
+  six : wordAt l at ≡ 6 → containerEnd l t at ≡ Upto e
+  six k = body-kind true _ _ _ (eq-eqb _ _ k) refl refl refl
+
+  seven : wordAt l at ≡ 7 → many l t at true 128 ≡ Upto e
+  seven k = body-kind false true _ _ (ne-eqb _ _ (λ (q : wordAt l at ≡ 6). omega arith)) (eq-eqb _ _ k) refl refl
+
+  leaf : wordAt l at < 6 → (wordAt l at ≡ 1 → ⊥) → leafEnd l at ≡ Upto e
+  leaf k n = body-kind false false false true (ne-eqb _ _ (λ (q : wordAt l at ≡ 6). omega arith)) (ne-eqb _ _ (λ (q : wordAt l at ≡ 7). omega arith)) (ne-eqb _ _ n) (lt-ltb _ _ k)
+
+  body-known : wordAt l at ≤ 7
+  body-known = go (eqb (wordAt l at) 6) (eqb (wordAt l at) 7) (eqb (wordAt l at) 1) (ltb (wordAt l at) 6) refl refl refl refl
+    where
+      go : (c d f g : Bool) → eqb (wordAt l at) 6 ≡ c → eqb (wordAt l at) 7 ≡ d → eqb (wordAt l at) 1 ≡ f → ltb (wordAt l at) 6 ≡ g → wordAt l at ≤ 7
+      go true d f g p q r s = omega (arith, eqb-true (wordAt l at) 6 p)
+      go false true f g p q r s = omega (arith, eqb-true (wordAt l at) 7 q)
+      go false false true g p q r s = omega (arith, eqb-true (wordAt l at) 1 r)
+      go false false false true p q r s = omega (arith, ltb-true (wordAt l at) 6 s)
+      go false false false false p q r s = bad-upto at e (body-kind false false false false p q r s)
+
+  pub body-within : e ≤ count l
+  body-within = go (eqb (wordAt l at) 6) (eqb (wordAt l at) 7) (eqb (wordAt l at) 1) (ltb (wordAt l at) 6) refl refl refl refl
+    where
+      go : (c d f g : Bool) → eqb (wordAt l at) 6 ≡ c → eqb (wordAt l at) 7 ≡ d → eqb (wordAt l at) 1 ≡ f → ltb (wordAt l at) 6 ≡ g → e ≤ count l
+      go true d f g p q r s = container-says l t at e (body-kind true d f g p q r s) .0 .within
+      go false true f g p q r s = many-says l t at 128 true e (body-kind false true f g p q r s) .within
+      go false false true g p q r s = omega (arith, upto-inj (at + 1) e (body-kind false false true g p q r s), body-there)
+      go false false false true p q r s = leaf-says l at e (body-kind false false false true p q r s) .1
+      go false false false false p q r s = bad-upto at e (body-kind false false false false p q r s)
+
+  some-of : 6 ≤ wordAt l at → 1 ≤ wordAt l (at + 1)
+  some-of k = go (eqb (wordAt l at) 6) refl
+    where
+      go : (c : Bool) → eqb (wordAt l at) 6 ≡ c → 1 ≤ wordAt l (at + 1)
+      go true p = container-says l t at e (six (eqb-true _ _ p)) .0 .some
+      go false p =
+          let n : wordAt l at ≡ 6 → ⊥ = eqb-false _ _ p in
+          many-says l t at 128 true e (seven (omega (arith, body-known))) .some
+
+  pub body-legal : Bytes l → wordAt l (1 + t) ≡ at → LegalNode l t (nodeOf l t)
+  unfolding nodeOf
+  body-legal b w =
+      rw w
+      (record {
+        known = body-known;
+        near = rw (← w) (word-bound l (1 + t) b);
+        small = word-bound l (at + 1) b;
+        leaf = λ k n. leaf-says l at e (leaf k n) .0;
+        some = some-of;
+        few = λ k. container-says l t at e (six k) .0 .few;
+        lower = λ k. many-lower l t at 64 e (container-says l t at e (six k) .0);
+        short = λ k. container-says l t at e (six k) .1;
+        most = λ k. many-says l t at 128 true e (seven k) .few;
+        optional = λ k. many-bare l t at 128 e (many-says l t at 128 true e (seven k));
+      })
+
+-- The loop of `types_end`: the types so far are legal and their lengths are found, and what is left gives the whole.
+pub record Checking (l lens : List ℕ) (n t at : ℕ) : Type 0 where
+  pub some : t ≤ n
+  pub within : at ≤ count l
+  pub known : Known lens l t
+  pub same : typesEnd l (n - t) t at ≡ typesEnd l n 0 (n + 1)
+
+types-cons : (l : List ℕ) (k t at : ℕ) → 0 < k → typesEnd l k t at ≡ pick (eqb (wordAt l (1 + t)) at) (onward (bodyEnd l t at) (λ e. typesEnd l (k - 1) (t + 1) e)) (Bad (1 + t))
+unfolding typesEnd
+types-cons l zero t at h = absurd (omega arith)
+types-cons l (suc k) t at h = let e : suc k - 1 ≡ k = omega arith in rw e
+
+module _ (l lens : List ℕ) (n t at : ℕ) (g : Checking l lens n t at) (p : t < n) (w : ℕ) (q : w ≡ wordAt l (1 + t)) where
+  pub checking-start : (w ≡ at → ⊥) → Bad (1 + t) ≡ typesEnd l n 0 (n + 1)
+  checking-start k = rw (types-cons l (n - t) t at (omega arith), ← q, ne-eqb _ _ k) at (g .same)
+
+  module _ (k : w ≡ at) where
+    checking-body : onward (bodyEnd l t at) (λ e. typesEnd l (n - t - 1) (t + 1) e) ≡ typesEnd l n 0 (n + 1)
+    checking-body = rw (types-cons l (n - t) t at (omega arith), ← q, eq-eqb _ _ k) at (g .same)
+
+    pub checking-bad : (i : ℕ) → Bad i ≡ bodyEnd l t at → Bad i ≡ typesEnd l n 0 (n + 1)
+    checking-bad i h = rw (← h) at checking-body
+
+    module _ (b : Bytes l) (e : ℕ) (h : Upto e ≡ bodyEnd l t at) where
+      pub checking-legal : Legal l (t + 1)
+      checking-legal = legal-more l t (g .known .legal) (body-legal l t at e (sym h) b (sym q ∙ k))
+
+      pub checking-next : (lens′ : List ℕ) → n ≤ 64 → lens′ ≡ filled l (pick (ltb t t) t (t + 1)) → Checking l lens′ n (t + 1) e
+      checking-next lens′ m f =
+          let i : n - t - 1 ≡ n - (t + 1) = omega arith in
+          record {
+            some = omega arith;
+            within = body-within l t at e (sym h);
+            known = record { found = rw (le-ltb t t (omega arith)) at f; legal = checking-legal; few = omega arith };
+            same = rw (← h, i) at checking-body;
+          }
+
+pub checking-end : (l lens : List ℕ) (n t at : ℕ) → Checking l lens n t at → n ≤ t → (Upto at ≡ typesEnd l n 0 (n + 1)) × (lens ≡ filled l n)
+unfolding typesEnd
+checking-end l lens n t at g h =
+    let e : n - t ≡ 0 = omega (arith, g .some) in
+    let f : t ≡ n = omega (arith, g .some) in
+    (rw e at (g .same), rw f at (g .known .found))
+
+pub typed-bad : (l : List ℕ) (n i : ℕ) (lens : List ℕ) → Bad i ≡ typesEnd l n 0 (n + 1) → Typed l n (Bad i) lens
+typed-bad l n i lens h = record { gives = h; found = λ e q. bad-upto i e q }
+
+-- The types of an accepted table are legal.
+types-legal : (l : List ℕ) (k t at e : ℕ) → Bytes l → Legal l t → typesEnd l k t at ≡ Upto e → Legal l (t + k)
+unfolding typesEnd
+types-legal l zero t at e b g h = rw add-zero g
+types-legal l (suc k) t at e b g h =
+    let p = upto-left (eqb (wordAt l (1 + t)) at) (onward (bodyEnd l t at) (λ i. typesEnd l k (t + 1) i)) (1 + t) e h in
+    let q = upto-onward (bodyEnd l t at) (λ i. typesEnd l k (t + 1) i) e (p .1) in
+    let r = legal-more l t g (body-legal l t at (q .0) (q .1) b (eqb-true _ _ (p .0))) in
+    let s : t + 1 + k ≡ t + suc k = omega arith in
+    rw s at (types-legal l k (t + 1) (q .0) e b r (q .2))
+
+no-types : (l : List ℕ) → Legal l 0
+unfolding Legal
+no-types l t h = absurd (omega arith)
+
+pub table-legal : (l : List ℕ) (n : ℕ) → Bytes l → tableOf l ≡ Upto n → Legal l n × (1 ≤ n) × (n ≤ 64)
+unfolding tableOf
+table-legal l n b h =
+    let p = upto-left (eqb (length l % 4) 0) _ (count l) n h in
+    let q = upto-left (ltb 0 (count l)) _ 0 n (p .1) in
+    let r = upto-left (andAlso (ltb 0 (wordAt l 0)) (leb (wordAt l 0) 64)) _ 0 n (q .1) in
+    let s = upto-left (ltb (wordAt l 0) (count l)) _ (count l) n (r .1) in
+    let u = upto-onward (typesEnd l (wordAt l 0) 0 (wordAt l 0 + 1)) _ n (s .1) in
+    let v = upto-left (eqb (u .0) (count l)) (Upto (wordAt l 0)) (u .0) n (u .2) in
+    let w = both-true (ltb 0 (wordAt l 0)) (leb (wordAt l 0) 64) (r .0) in
+    let e : wordAt l 0 ≡ n = upto-inj (wordAt l 0) n (v .1) in
+    let none : Legal l 0 = no-types l in
+    let z : 0 + wordAt l 0 ≡ n = omega arith in
+    (rw z at (types-legal l (wordAt l 0) 0 (wordAt l 0 + 1) (u .0) b none (u .1)), omega (arith, ltb-true 0 (wordAt l 0) (w .0)), omega (arith, leb-true (wordAt l 0) 64 (w .1)))
+
+-- What `table_of` gives.
+with-checked : (x : Checked) (l : List ℕ) → withLengths x l .checked ≡ x
+with-checked (Bad w) l = refl
+with-checked (Upto n) l = refl
+
+module _ (l : List ℕ) (r : Table) (e : r ≡ withLengths (tableOf l) l) where
+  pub table-checked : r .checked ≡ tableOf l
+  table-checked = rw e (with-checked (tableOf l) l)
+
+  pub table-known : (n : ℕ) → Bytes l → r .checked ≡ Upto n → Known (r .lens) l n × (1 ≤ n)
+  table-known n b h =
+      let q : tableOf l ≡ Upto n = sym table-checked ∙ h in
+      let g = table-legal l n b q in
+      (record { found = rw (e, q); legal = g .0; few = g .2 }, g .1)

@@ -1,0 +1,166 @@
+-- The tree of a legal table: its types are legal types of the standard, and their fixed lengths are below 2^32. Assumes nothing.
+use mathlib.Core.Path.{_≡_, refl, sym, ap, _∙_}
+use mathlib.Core.List.{List, [], _∷_}
+use mathlib.Core.Bool.{Bool, true, false}
+use Prim.Native.Nat.{ℕ, zero, suc, _+_, _-_, _/_, _≤_, _<_, _^_}
+use native.Mathlib.Nat.{add-zero}
+use native.Mathlib.Omega.{arith}
+use borrow.Author.Tests.{eqb-true, eqb-false, ltb-true, ne-eqb}
+use lib.ListN.{getD}
+use lib.Dec.{eqb, ltb}
+use Rattle.standard.specs.Choice.{pick, orElse}
+use Rattle.standard.specs.Bytes.{wordAt}
+use Rattle.standard.specs.Types.{Ty, Tys, Opts, number, boolean, fixedBytes, freeBytes, bitVector, bitList, container, union, end, field, over, bare, body, head, headAll, heads, joined, isWidth, width, portion, NoFields, NoOptions, Rising, LegalTy, LegalAll, LegalOptions}
+use Rattle.standard.specs.declared.Head.{Head}
+use Rattle.standard.specs.declared.Head.the-variants.{Fixed, Variable}
+use Rattle.standard.proofs.Laws.{joined-fixed}
+use Rattle.layout.specs.Tree.{nodeOf, leafOf, fields, options, trees, treeOf, lenOf}
+use Rattle.layout.specs.Table.{leafWord}
+use Rattle.layout.specs.Legal.{Lower, LowerOrBare, LegalNode, Legal}
+use Rattle.layout.specs.Steps.{leafLen}
+use Rattle.layout.specs.declared.Node.{Node}
+use Rattle.layout.proofs.Facts.{trees-get, as-container, as-union, as-leaf}
+
+-- A leaf, by its kind.
+module _ (t : ℕ) (n : Node) where
+  leaf-cases : (P : Ty → Type 0) → (n .kind ≡ 0 → P (number t (n .second))) → (n .kind ≡ 1 → P (boolean t)) → (n .kind ≡ 2 → P (fixedBytes t (n .second))) → P (freeBytes t (n .second)) → (n .kind ≡ 4 → P (bitVector t (n .second))) → P (bitList t (n .second)) → P (leafOf t n)
+  unfolding leafOf
+  leaf-cases P p0 p1 p2 p3 p4 p5 = go (eqb (n .kind) 0) (eqb (n .kind) 1) (eqb (n .kind) 2) (eqb (n .kind) 3) (eqb (n .kind) 4) refl refl refl refl
+    where
+      go : (a b c d e : Bool) → eqb (n .kind) 0 ≡ a → eqb (n .kind) 1 ≡ b → eqb (n .kind) 2 ≡ c → eqb (n .kind) 4 ≡ e → P (pick a (number t (n .second)) (pick b (boolean t) (pick c (fixedBytes t (n .second)) (pick d (freeBytes t (n .second)) (pick e (bitVector t (n .second)) (bitList t (n .second)))))))
+      go true b c d e f g h i = p0 (eqb-true _ _ f)
+      go false true c d e f g h i = p1 (eqb-true _ _ g)
+      go false false true d e f g h i = p2 (eqb-true _ _ h)
+      go false false false true e f g h i = p3
+      go false false false false true f g h i = p4 (eqb-true _ _ i)
+      go false false false false false f g h i = p5
+
+  leaf-legal : (n .kind < 6 → (n .kind ≡ 1 → ⊥) → leafWord (n .kind) (n .second) ≡ true) → LegalTy (leafOf t n)
+  unfolding LegalTy
+  leaf-legal w =
+      leaf-cases LegalTy
+      (λ k. rw k at (w (omega arith) (λ (q : n .kind ≡ 1). omega arith)))
+      (λ k. tt)
+      (λ k. ltb-true 0 _ (rw k at (w (omega arith) (λ (q : n .kind ≡ 1). omega arith))))
+      tt
+      (λ k. ltb-true 0 _ (rw k at (w (omega arith) (λ (q : n .kind ≡ 1). omega arith))))
+      tt
+
+  leaf-small : n .second < 2 ^ 32 → lenOf (head (leafOf t n)) < 2 ^ 32
+  unfolding head
+  leaf-small s =
+      leaf-cases (λ (x : Ty). lenOf (head x) < 2 ^ 32) (λ k. s) (λ k. omega arith) (λ k. s) (omega arith) (λ k. omega arith) (omega arith)
+
+-- Fields and options of lower types.
+module _ (l : List ℕ) (t : ℕ) (f : (u : ℕ) → u < t → LegalTy (treeOf l u)) where
+  fields-legal : (at n : ℕ) → Lower l t at n → LegalAll (fields l (trees l t) at n)
+  unfolding fields LegalTy Lower
+  fields-legal at zero g = tt
+  fields-legal at (suc n) g =
+      let h : wordAt l at < t = rw add-zero at (g 0 (omega arith)) in (
+        rw (trees-get l t (wordAt l at) (boolean 0) h) (f (wordAt l at) h),
+        fields-legal (at + 1) n (λ i k. let e : at + suc i ≡ at + 1 + i = omega arith in rw e at (g (suc i) (omega arith))),
+      )
+
+  options-rising : (at k n : ℕ) → k + n ≤ 128 → Rising k (options l (trees l t) at k n)
+  unfolding options Rising
+  options-rising at k zero h = tt
+  options-rising at k (suc n) h = go (eqb (wordAt l at) 4294967295) (options-rising (at + 1) (k + 1) n (omega arith))
+    where
+      go : (c : Bool) → Rising (k + 1) (options l (trees l t) (at + 1) (k + 1) n) → Rising k (pick c (bare k (options l (trees l t) (at + 1) (k + 1) n)) (body k (getD (trees l t) (wordAt l at) (boolean 0)) (options l (trees l t) (at + 1) (k + 1) n)))
+      go true r = (omega arith, omega arith, r)
+      go false r = (omega arith, omega arith, r)
+
+  options-legal : (at k n : ℕ) → LowerOrBare l t at n → LegalOptions (options l (trees l t) at k n)
+  unfolding options LegalTy LowerOrBare
+  options-legal at k zero g = tt
+  options-legal at k (suc n) g =
+      go (eqb (wordAt l at) 4294967295) refl
+      (options-legal (at + 1) (k + 1) n (λ i h. let e : at + suc i ≡ at + 1 + i = omega arith in rw e at (g (suc i) (omega arith))))
+    where
+      go : (c : Bool) → eqb (wordAt l at) 4294967295 ≡ c → LegalOptions (options l (trees l t) (at + 1) (k + 1) n) → LegalOptions (pick c (bare k (options l (trees l t) (at + 1) (k + 1) n)) (body k (getD (trees l t) (wordAt l at) (boolean 0)) (options l (trees l t) (at + 1) (k + 1) n)))
+      go true q r = r
+      go false q r =
+          let h : wordAt l at < t = (rw add-zero at (g 0 (omega arith))) (eqb-false _ _ q) in
+          (rw (trees-get l t (wordAt l at) (boolean 0) h) (f (wordAt l at) h), r)
+
+  fields-some : (at n : ℕ) → 1 ≤ n → NoFields (fields l (trees l t) at n) → ⊥
+  unfolding fields
+  fields-some at zero h q = omega arith
+  fields-some at (suc n) h q = q
+
+  options-some : (at k n : ℕ) → 1 ≤ n → NoOptions (options l (trees l t) at k n) → ⊥
+  unfolding options
+  options-some at k zero h q = omega arith
+  options-some at k (suc n) h q = go (eqb (wordAt l at) 4294967295) q
+    where
+      go : (c : Bool) → NoOptions (pick c (bare k (options l (trees l t) (at + 1) (k + 1) n)) (body k (getD (trees l t) (wordAt l at) (boolean 0)) (options l (trees l t) (at + 1) (k + 1) n))) → ⊥
+      go true r = r
+      go false r = r
+
+  node-legal : LegalNode l t (nodeOf l t) → LegalTy (treeOf l t)
+  unfolding LegalTy
+  node-legal g = go (eqb (nodeOf l t .kind) 6) (eqb (nodeOf l t .kind) 7) refl refl
+    where
+      go : (c d : Bool) → eqb (nodeOf l t .kind) 6 ≡ c → eqb (nodeOf l t .kind) 7 ≡ d → LegalTy (treeOf l t)
+      go true d p q =
+          let k = eqb-true _ _ p in
+          rw (as-container l t (nodeOf l t) refl k) (fields-some _ _ (g .some (omega arith)), fields-legal _ _ (g .lower k))
+      go false true p q =
+          let k = eqb-true _ _ q in
+          rw (as-union l t (nodeOf l t) refl k) (options-some _ 0 _ (g .some (omega arith)), options-rising _ 0 _ (omega (arith, g .most k)), options-legal _ 0 _ (g .optional k))
+      go false false p q = rw (as-leaf l t (nodeOf l t) refl (eqb-false _ _ p) (eqb-false _ _ q)) (leaf-legal t (nodeOf l t) (g .leaf))
+
+-- The types of a legal table are legal.
+pub legal-tree : (l : List ℕ) (n t : ℕ) → Legal l n → t < n → LegalTy (treeOf l t)
+unfolding Legal
+legal-tree l zero t g h = absurd (omega arith)
+legal-tree l (suc n) t g h = node-legal l t (λ u k. legal-tree l n u (λ v q. g v (omega arith)) (omega arith)) (g t h)
+
+-- Their fixed lengths fit an offset.
+joined-len : (x y : Head) (p : ℕ) → lenOf y ≤ p → lenOf (joined x y) ≤ width x + p
+unfolding joined width
+joined-len (Fixed n) (Fixed m) p h = omega arith
+joined-len (Fixed n) Variable p h = omega arith
+joined-len Variable y p h = omega arith
+
+all-portion : (ts : Tys) → lenOf (headAll ts) ≤ portion (heads ts)
+unfolding head heads portion
+all-portion end = omega arith
+all-portion (field t ts) = joined-len (head t) (headAll ts) (portion (heads ts)) (all-portion ts)
+
+pub len-small : (l : List ℕ) (t : ℕ) → LegalNode l t (nodeOf l t) → lenOf (head (treeOf l t)) < 2 ^ 32
+unfolding head
+len-small l t g = go (eqb (nodeOf l t .kind) 6) (eqb (nodeOf l t .kind) 7) refl refl
+  where
+    go : (c d : Bool) → eqb (nodeOf l t .kind) 6 ≡ c → eqb (nodeOf l t .kind) 7 ≡ d → lenOf (head (treeOf l t)) < 2 ^ 32
+    go true d p q =
+        let k = eqb-true _ _ p in
+        rw (as-container l t (nodeOf l t) refl k) (omega (arith, g .short k, all-portion (fields l (trees l t) (nodeOf l t .at + 2) (nodeOf l t .second))))
+    go false true p q = rw (as-union l t (nodeOf l t) refl (eqb-true _ _ q)) (omega arith)
+    go false false p q = rw (as-leaf l t (nodeOf l t) refl (eqb-false _ _ p) (eqb-false _ _ q)) (leaf-small t (nodeOf l t) (g .small))
+
+-- The length of a type that is no container; its number is no matter.
+leaf-number : (t : ℕ) (n : Node) → leafLen n ≡ lenOf (head (leafOf t n))
+unfolding leafOf head
+leaf-number t n = go (eqb (n .kind) 0) (eqb (n .kind) 1) (eqb (n .kind) 2) (eqb (n .kind) 3) (eqb (n .kind) 4)
+  where
+    go : (a b c d e : Bool) → lenOf (head (pick a (number 0 (n .second)) (pick b (boolean 0) (pick c (fixedBytes 0 (n .second)) (pick d (freeBytes 0 (n .second)) (pick e (bitVector 0 (n .second)) (bitList 0 (n .second)))))))) ≡ lenOf (head (pick a (number t (n .second)) (pick b (boolean t) (pick c (fixedBytes t (n .second)) (pick d (freeBytes t (n .second)) (pick e (bitVector t (n .second)) (bitList t (n .second))))))))
+    go true b c d e = refl
+    go false true c d e = refl
+    go false false true d e = refl
+    go false false false true e = refl
+    go false false false false true = refl
+    go false false false false false = refl
+
+leaf-union : (n : Node) → n .kind ≡ 7 → leafLen n ≡ 0
+unfolding leafOf head
+leaf-union n h = rw h
+
+pub leaf-length : (l : List ℕ) (t : ℕ) (r : Node) → r ≡ nodeOf l t → (r .kind ≡ 6 → ⊥) → leafLen r ≡ lenOf (head (treeOf l t))
+unfolding head
+leaf-length l t r e c = go (eqb (r .kind) 7) refl
+  where
+    go : (d : Bool) → eqb (r .kind) 7 ≡ d → leafLen r ≡ lenOf (head (treeOf l t))
+    go true q = rw (as-union l t r e (eqb-true _ _ q)) (leaf-union r (eqb-true _ _ q))
+    go false q = rw (as-leaf l t r e c (eqb-false _ _ q)) (leaf-number t r)

@@ -1,0 +1,43 @@
+-- What reading leans on in a legal table. Assumes nothing: these are definitions.
+use Prim.Native.Nat.{ℕ, _+_, _≤_, _<_, _^_}
+use mathlib.Core.Path.{_≡_}
+use mathlib.Core.List.{List}
+use mathlib.Core.Bool.{true}
+use Rattle.standard.specs.Bytes.{wordAt}
+use Rattle.standard.specs.Types.{portion, heads}
+use Rattle.layout.specs.Tree.{nodeOf, fields, trees}
+use Rattle.layout.specs.Table.{leafWord}
+use Rattle.layout.specs.declared.Node.{Node}
+
+-- The n words from at on name types below t.
+unfoldable pub Lower : List ℕ → ℕ → ℕ → ℕ → Type 0
+Lower l t at n = (i : ℕ) → i < n → wordAt l (at + i) < t
+
+-- The n words from at on name types below t, or no body.
+unfoldable pub LowerOrBare : List ℕ → ℕ → ℕ → ℕ → Type 0
+LowerOrBare l t at n = (i : ℕ) → i < n → (wordAt l (at + i) ≡ 4294967295 → ⊥) → wordAt l (at + i) < t
+
+-- A legal type t of which the table says n.
+pub record LegalNode (l : List ℕ) (t : ℕ) (n : Node) : Type 0 where
+  pub known : n .kind ≤ 7
+  pub near : n .at < 2 ^ 32
+  pub small : n .second < 2 ^ 32
+  pub leaf : n .kind < 6 → (n .kind ≡ 1 → ⊥) → leafWord (n .kind) (n .second) ≡ true
+  pub some : 6 ≤ n .kind → 1 ≤ n .second
+  pub few : n .kind ≡ 6 → n .second ≤ 64
+  pub lower : n .kind ≡ 6 → Lower l t (n .at + 2) (n .second)
+  pub short : n .kind ≡ 6 → portion (heads (fields l (trees l t) (n .at + 2) (n .second))) < 2 ^ 32
+  pub most : n .kind ≡ 7 → n .second ≤ 128
+  pub optional : n .kind ≡ 7 → LowerOrBare l t (n .at + 2) (n .second)
+
+-- The types below n are legal.
+unfoldable pub Legal : List ℕ → ℕ → Type 0
+Legal l n = (t : ℕ) → t < n → LegalNode l t (nodeOf l t)
+
+-- n fields of a type t whose lower types are legal: the words from at on.
+pub record Laid (l : List ℕ) (t at n : ℕ) : Type 0 where
+  pub legal : Legal l t
+  pub few : t ≤ 64
+  pub near : at + n < 2 ^ 34
+  pub lower : Lower l t at n
+  pub short : portion (heads (fields l (trees l t) at n)) < 2 ^ 32

@@ -1,0 +1,4 @@
+pub mod Tree
+pub mod Table
+pub mod Legal
+pub mod Steps

@@ -1,0 +1,34 @@
+-- What the steps of the table check ask and give, one to another. Assumes nothing: these are definitions.
+use Prim.Native.Nat.{ℕ, _+_, _≤_}
+use mathlib.Core.Path.{_≡_}
+use mathlib.Core.List.{List}
+use lib.Dec.{ltb}
+use Rattle.standard.specs.Choice.{pick}
+use Rattle.standard.specs.Bytes.{Bytes}
+use Rattle.standard.specs.Types.{head}
+use Rattle.layout.specs.Tree.{leafOf, treeOf, lenOf, filled}
+use Rattle.layout.specs.Table.{typesEnd}
+use Rattle.layout.specs.Legal.{Legal}
+use Rattle.layout.specs.declared.Node.{Node}
+use Rattle.layout.specs.declared.Checked.{Checked}
+use Rattle.layout.specs.declared.Checked.the-variants.{Upto}
+
+-- The first k types of the table l are legal, and their lengths stand in lens.
+pub record Known (lens l : List ℕ) (k : ℕ) : Type 0 where
+  pub found : lens ≡ filled l k
+  pub legal : Legal l k
+  pub few : k ≤ 64
+
+-- The fixed length of a type that holds no fields
+abbrev pub leafLen : Node → ℕ
+leafLen n = lenOf (head (leafOf 0 n))
+
+-- r is the length of the type t, and lens′ has it.
+pub record Lengthened (l : List ℕ) (known t r : ℕ) (lens′ : List ℕ) : Type 0 where
+  pub gives : r ≡ lenOf (head (treeOf l t))
+  pub found : lens′ ≡ filled l (pick (ltb t known) known (known + 1))
+
+-- r is where the n types end; if they do, lens′ has their lengths.
+pub record Typed (l : List ℕ) (n : ℕ) (r : Checked) (lens′ : List ℕ) : Type 0 where
+  pub gives : r ≡ typesEnd l n 0 (n + 1)
+  pub found : (e : ℕ) → r ≡ Upto e → lens′ ≡ filled l n

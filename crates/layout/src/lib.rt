@@ -1,0 +1,385 @@
+// The check of a layout table, lent as its little-endian bytes, with the fixed length of each of its types.
+use standard::Head;
+use standard::Refusal;
+use standard::Told;
+use standard::words::word_at;
+ghost use mathlib.Core.Path.{_≡_};
+ghost use mathlib.Core.List.{[]};
+ghost use Prim.Native.Nat.{_+_, _≤_, _<_, _^_};
+ghost use Rattle.standard.specs.Bytes.{wordAt};
+ghost use Rattle.standard.specs.Types.{isWidth, width, portion, heads};
+ghost use Rattle.layout.specs.Tree.{nodeOf, fields, trees, headOf};
+ghost use Rattle.layout.specs.Table.{count, mayName, refs, many, containerEnd, leafWord, leafEnd, bodyEnd, typesEnd, tableOf, withLengths, toldOf};
+ghost use Rattle.layout.specs.Legal.{Lower, Legal};
+ghost use Rattle.layout.specs.Steps.{Known, leafLen, Lengthened, Typed};
+
+// What stands in an option's place where it has no body.
+pub const NO_BODY: usize = 4294967295;
+
+// What a table says of a type: the kind, where the body starts, and the word behind the kind.
+pub struct Node {
+    pub kind: usize,
+    pub at: usize,
+    pub second: usize,
+}
+
+// What the check of a table finds: the first bad word, or how far it is well.
+pub enum Checked {
+    Bad(usize),
+    Upto(usize),
+}
+
+// The number of types, or the first bad word; and the types' fixed lengths, 0 for a type of variable size.
+pub struct Table {
+    pub checked: Checked,
+    pub lens: [usize; 64],
+}
+
+fn start_of(layout: &[u8], t: usize) -> usize
+    ensures { λ r. ⌜ (r ≡ wordAt (now (layout .entry)) (1 + t)) × (r < 2 ^ 32) ⌝ }
+{
+    if t < layout.len() {
+        word_at(layout, 1 + t)
+    } else {
+        0
+    }
+}
+
+// What the table says of the type t.
+pub fn look(layout: &[u8], t: usize) -> Node
+    ensures { λ r. ⌜ r ≡ nodeOf (now (layout .entry)) t ⌝ }
+{
+    let at = start_of(layout, t);
+    let kind = word_at(layout, at);
+    let second = word_at(layout, at + 1);
+    Node { kind, at, second }
+}
+
+// A word names a type below t, or no body where that may be.
+fn may_name(w: usize, t: usize, none: bool) -> bool
+    ensures { λ r. ⌜ r ≡ mayName w t none ⌝ }
+{
+    if w < t {
+        true
+    } else if none {
+        w == NO_BODY
+    } else {
+        false
+    }
+}
+
+// The n words from a0 on are there, and name types below t, or no body where that may be.
+fn refs_end(layout: &[u8], t: usize, none: bool, a0: usize, n: usize) -> Checked
+    ensures { λ r. ⌜ r ≡ refs (now (layout .entry)) t none a0 n ⌝ }
+{
+    let words = layout.len() / 4;
+    let mut a = a0;
+    let mut left = n;
+    while left > 0 {
+        if a >= words {
+            return Checked::Bad(words);
+        }
+        let w = word_at(layout, a);
+        let ok = may_name(w, t, none);
+        if !ok {
+            return Checked::Bad(a);
+        }
+        a += 1;
+        left -= 1;
+    }
+    Checked::Upto(a)
+}
+
+// A number of 1 to most at the word behind at, and as many references.
+fn many_end(layout: &[u8], t: usize, at: usize, none: bool, most: usize) -> Checked
+    requires { ⌜ at ≤ 2 ^ 61 ⌝ }
+    ensures { λ r. ⌜ r ≡ many (now (layout .entry)) t at none most ⌝ }
+{
+    let words = layout.len() / 4;
+    let next = at + 1;
+    if next >= words {
+        return Checked::Bad(words);
+    }
+    let n = word_at(layout, next);
+    if n == 0 {
+        return Checked::Bad(next);
+    }
+    if n > most {
+        return Checked::Bad(next);
+    }
+    refs_end(layout, t, none, at + 2, n)
+}
+
+// The head of a type with this length: 0 stands for variable size.
+pub fn head_of(len: usize) -> Head
+    ensures { λ r. ⌜ r ≡ headOf len ⌝ }
+{
+    if len == 0 {
+        Head::Variable
+    } else {
+        Head::Fixed(len)
+    }
+}
+
+// How much of a fixed portion a type with this length takes.
+fn width_of(len: usize) -> usize
+    ensures { λ r. ⌜ r ≡ width (headOf len) ⌝ }
+{
+    if len == 0 { 4 } else { len }
+}
+
+// The fixed portion of the n fields that the words from a0 on name.
+fn portion_of(lens: &[usize], layout: &[u8], t: usize, a0: usize, n: usize) -> usize
+    requires { ⌜ Known (now lens) (now layout) t × Lower (now layout) t a0 n × (n ≤ 64) × (a0 < 2 ^ 62) ⌝ }
+    ensures { λ r. ⌜ r ≡ portion (heads (fields (now (layout .entry)) (trees (now (layout .entry)) t) a0 n)) ⌝ }
+{
+    let mut a = a0;
+    let mut left = n;
+    let mut sum: usize = 0;
+    while left > 0 {
+        let f = word_at(layout, a);
+        let k = width_of(lens[f]);
+        sum += k;
+        a += 1;
+        left -= 1;
+    }
+    sum
+}
+
+// The container t at the word at: its references end, and its fixed portion fits an offset.
+fn container_end(lens: &[usize], layout: &[u8], t: usize, at: usize) -> Checked
+    requires { ⌜ Known (now lens) (now layout) t × (at ≤ 2 ^ 61) ⌝ }
+    ensures { λ r. ⌜ r ≡ containerEnd (now (layout .entry)) t at ⌝ }
+{
+    let c = many_end(layout, t, at, false, 64);
+    match c {
+        Checked::Bad(w) => Checked::Bad(w),
+        Checked::Upto(e) => {
+            let next = at + 1;
+            let n = word_at(layout, next);
+            let first = at + 2;
+            let p = portion_of(lens, layout, t, first, n);
+            if p <= 4294967295 {
+                Checked::Upto(e)
+            } else {
+                Checked::Bad(at)
+            }
+        }
+    }
+}
+
+// A width that a number may have.
+fn width_ok(w: usize) -> bool
+    ensures { λ r. ⌜ r ≡ isWidth w ⌝ }
+{
+    match w {
+        1 => true,
+        2 => true,
+        4 => true,
+        8 => true,
+        16 => true,
+        32 => true,
+        _ => false,
+    }
+}
+
+// What the word of a leaf must be.
+fn leaf_ok(kind: usize, w: usize) -> bool
+    ensures { λ r. ⌜ r ≡ leafWord kind w ⌝ }
+{
+    if kind == 0 {
+        return width_ok(w);
+    }
+    if kind == 2 {
+        return 0 < w;
+    }
+    if kind == 4 {
+        return 0 < w;
+    }
+    true
+}
+
+// A leaf with one word behind its kind.
+fn leaf_end(layout: &[u8], at: usize) -> Checked
+    requires { ⌜ at ≤ 2 ^ 61 ⌝ }
+    ensures { λ r. ⌜ r ≡ leafEnd (now (layout .entry)) at ⌝ }
+{
+    let words = layout.len() / 4;
+    let next = at + 1;
+    if next >= words {
+        return Checked::Bad(words);
+    }
+    let kind = word_at(layout, at);
+    let w = word_at(layout, next);
+    let ok = leaf_ok(kind, w);
+    if ok {
+        Checked::Upto(at + 2)
+    } else {
+        Checked::Bad(next)
+    }
+}
+
+// Where the body of type t ends, which starts at the word at.
+fn body_end(lens: &[usize], layout: &[u8], t: usize, at: usize) -> Checked
+    requires { ⌜ Known (now lens) (now layout) t × (at ≤ 2 ^ 61) ⌝ }
+    ensures { λ r. ⌜ r ≡ bodyEnd (now (layout .entry)) t at ⌝ }
+{
+    let words = layout.len() / 4;
+    if at >= words {
+        return Checked::Bad(words);
+    }
+    let kind = word_at(layout, at);
+    if kind == 6 {
+        return container_end(lens, layout, t, at);
+    }
+    if kind == 7 {
+        return many_end(layout, t, at, true, 128);
+    }
+    if kind == 1 {
+        return Checked::Upto(at + 1);
+    }
+    if kind < 6 {
+        return leaf_end(layout, at);
+    }
+    Checked::Bad(at)
+}
+
+// The fixed length of a type that holds no fields.
+fn leaf_len(n: Node) -> usize
+    requires { ⌜ n .second < 2 ^ 32 ⌝ }
+    ensures { λ r. ⌜ r ≡ leafLen n ⌝ }
+{
+    if n.kind == 0 {
+        return n.second;
+    }
+    if n.kind == 1 {
+        return 1;
+    }
+    if n.kind == 2 {
+        return n.second;
+    }
+    if n.kind == 4 {
+        return (n.second + 7) / 8;
+    }
+    0
+}
+
+// The fixed length of the type t, worked out from its fields' lower types; the first `known` lengths are in `lens`, and one that
+// is found goes there, so that none is worked out twice.
+fn fixed_len(lens: &mut [usize], known: usize, layout: &[u8], t: usize) -> usize
+    requires { ⌜ Known (now lens) (now layout) known × Legal (now layout) (t + 1) × (t ≤ known) × (t < 64) ⌝ }
+    ensures { λ r. ⌜ Lengthened (now (layout .entry)) known t r (now (lens .exit)) ⌝ }
+{
+    if t < known {
+        return lens[t];
+    }
+    let n = look(layout, t);
+    if n.kind != 6 {
+        let len = leaf_len(n);
+        lens[t] = len;
+        return len;
+    }
+    let mut left = n.second;
+    let mut a = n.at + 2;
+    let mut sum: usize = 0;
+    while left > 0 {
+        let f = word_at(layout, a);
+        let k = fixed_len(lens, known, layout, f);
+        if k == 0 {
+            lens[t] = 0;
+            return 0;
+        }
+        sum += k;
+        a += 1;
+        left -= 1;
+    }
+    lens[t] = sum;
+    sum
+}
+
+// Where the n types end, whose bodies follow the contents; their lengths go to `lens`.
+fn types_end(lens: &mut [usize], layout: &[u8], n: usize) -> Checked
+    requires { ⌜ Known (now lens) (now layout) 0 × (n ≤ 64) × (n < count (now layout)) ⌝ }
+    ensures { λ r. ⌜ Typed (now (layout .entry)) n r (now (lens .exit)) ⌝ }
+{
+    let mut t = 0;
+    let mut at = n + 1;
+    while t < n {
+        let next = 1 + t;
+        let w = word_at(layout, next);
+        if w != at {
+            return Checked::Bad(next);
+        }
+        let c = body_end(lens, layout, t, at);
+        match c {
+            Checked::Bad(i) => {
+                return Checked::Bad(i);
+            }
+            Checked::Upto(e) => {
+                at = e;
+            }
+        }
+        fixed_len(lens, t, layout, t);
+        t += 1;
+    }
+    Checked::Upto(at)
+}
+
+fn refused(w: usize) -> Table
+    ensures { λ r. ⌜ r ≡ withLengths (Checked.Bad w) [] ⌝ }
+{
+    Table {
+        checked: Checked::Bad(w),
+        lens: [0; 64],
+    }
+}
+
+// The number of types of a legal table with their lengths, or the first bad word.
+pub fn table_of(layout: &[u8]) -> Table
+    ensures { λ r. ⌜ r ≡ withLengths (tableOf (now (layout .entry))) (now (layout .entry)) ⌝ }
+{
+    let words = layout.len() / 4;
+    if layout.len() % 4 != 0 {
+        return refused(words);
+    }
+    if words == 0 {
+        return refused(0);
+    }
+    let n = word_at(layout, 0);
+    if n == 0 {
+        return refused(0);
+    }
+    if n > 64 {
+        return refused(0);
+    }
+    if n >= words {
+        return refused(words);
+    }
+    let mut lens = [0usize; 64];
+    let c = types_end(&mut lens, layout, n);
+    match c {
+        Checked::Bad(w) => refused(w),
+        Checked::Upto(e) => {
+            if e == words {
+                Table {
+                    checked: Checked::Upto(n),
+                    lens,
+                }
+            } else {
+                refused(e)
+            }
+        }
+    }
+}
+
+// The check of a layout table: 20 with the first bad word.
+pub fn layout_check(layout: &[u8]) -> Told
+    ensures { λ r. ⌜ r ≡ toldOf (tableOf (now (layout .entry))) ⌝ }
+{
+    let table = table_of(layout);
+    let c = table.checked;
+    match c {
+        Checked::Bad(w) => Told::Refused(Refusal::BadLayout(w)),
+        Checked::Upto(_) => Told::Fine,
+    }
+}

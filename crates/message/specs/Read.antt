@@ -1,0 +1,93 @@
+-- The rules of reading: document 01, "Rules of reading". Assumes nothing: these are definitions.
+use Prim.Native.Nat.{ℕ, _+_, _-_, _/_, max}
+use mathlib.Core.List.{List, [], _∷_}
+use lib.ListN.{length, getD, drop}
+use lib.Dec.{eqb, ltb, leb}
+use Rattle.standard.specs.Choice.{pick}
+use Rattle.standard.specs.Types.{Ty, Tys, Opts, number, boolean, fixedBytes, freeBytes, bitVector, bitList, container, union, end, field, over, bare, body, head, heads}
+use Rattle.standard.specs.Parts.{spanOf, part}
+use Rattle.standard.specs.declared.Told.{Told}
+use Rattle.standard.specs.declared.Refusal.{Refusal}
+use Rattle.standard.specs.declared.Refusal.the-variants.{InvalidByteLength, OutOfBoundsByte, UnionSelectorInvalid, BadBoolean, OverLimit}
+use Rattle.decode.specs.Builder.{layOut}
+use Rattle.bitfield.specs.Body.{bitListBody, bitVectorBody}
+use Rattle.bitfield.specs.declared.BodyBits.{BodyBits}
+use Rattle.bitfield.specs.declared.Told.{Told as BodyTold}
+use Rattle.message.specs.declared.Counts.{Counts}
+use Rattle.message.specs.declared.Answer.{Answer}
+use Rattle.message.specs.declared.Answer.the-variants.{Accepted, Refused}
+
+-- "Raw bytes are max(1, bits/8 rounded up)"
+abbrev pub rawBytes : ℕ → ℕ
+rawBytes k = max 1 ((k + 7) / 8)
+
+-- One item, with so many contents words and body bytes
+abbrev pub one : ℕ → ℕ → Answer
+one w b = Accepted (record { records = 1; words = w; bytes = b })
+
+abbrev pub plus : Counts → Counts → Counts
+plus c d = record { records = c .records + d .records; words = c .words + d .words; bytes = c .bytes + d .bytes }
+
+-- The second answer behind the first: what is accepted adds up
+abbrev pub andThen : Answer → Answer → Answer
+andThen (Refused r t s) y = Refused r t s
+andThen (Accepted c) (Refused r t s) = Refused r t s
+andThen (Accepted c) (Accepted d) = Accepted (plus c d)
+
+-- A builder's refusal, for the type t that starts at s; else the answer of the fields
+abbrev pub built : Told → ℕ → ℕ → Answer → Answer
+built (Told.Refused r) t s x = Refused r t s
+built Told.Fine t s x = x
+
+-- The body of bits
+abbrev pub ofVector : BodyTold → ℕ → ℕ → ℕ → Answer
+ofVector (BodyTold.Refused r) t s n = Refused r t s
+ofVector BodyTold.Fine t s n = one 0 n
+
+abbrev pub ofList : BodyBits → ℕ → ℕ → Answer
+ofList (BodyBits.Refused r) t s = Refused r t s
+ofList (BodyBits.Bits k) t s = one 1 (rawBytes k)
+
+-- "wrong length is 1"
+abbrev pub readExact : ℕ → ℕ → List ℕ → ℕ → Answer
+readExact w t b s = pick (eqb (length b) w) (one 0 (length b)) (Refused (InvalidByteLength (length b) w) t s)
+
+unfoldable mutual
+  -- The item b, which starts at s in the message. A refusal carries the item's type and start.
+  pub readItem : Ty → List ℕ → ℕ → Answer
+  -- "Number, boolean, fixed bytes: wrong length is 1"
+  readItem (number t w) b s = readExact w t b s
+  readItem (boolean t) b s =
+      pick (eqb (length b) 1)
+      (pick (ltb (getD b 0 0) 2) (one 0 1) (Refused (BadBoolean (getD b 0 0)) t s))
+      (Refused (InvalidByteLength (length b) 1) t s)
+  readItem (fixedBytes t n) b s = readExact n t b s
+  -- "Free bytes above their limit: 14"
+  readItem (freeBytes t limit) b s = pick (leb (length b) limit) (one 1 (length b)) (Refused (OverLimit (length b) limit) t s)
+  readItem (bitVector t n) b s = ofVector (bitVectorBody b n) t s (length b)
+  readItem (bitList t limit) b s = ofList (bitListBody b limit) t s
+  -- "all fields are registered in order, the container is built, then fields are checked left to right"
+  readItem (container t ts) b s = built (layOut (heads ts) b) t s (andThen (one 0 0) (readFields ts b 0 s))
+  -- "no bytes is 3 with 0; a selector above 127, or without an option in the table, is 8"
+  readItem (union t os) b s =
+      pick (eqb (length b) 0) (Refused (OutOfBoundsByte 0) t s)
+      (pick (leb (getD b 0 0) 127) (readOption os (getD b 0 0) b t s) (Refused (UnionSelectorInvalid (getD b 0 0)) t s))
+
+  -- The fields from position p on
+  pub readFields : Tys → List ℕ → ℕ → ℕ → Answer
+  readFields end b p s = Accepted (record { records = 0; words = 0; bytes = 0 })
+  readFields (field t ts) b p s =
+      let w = spanOf (head t) (heads ts) b p in
+      andThen (readItem t (part b w) (s + w .from)) (readFields ts b (w .next) s)
+
+  -- The option with selector k: "An option without body is encoded as its selector byte alone ..; followed by bytes it is 1 (bytes left, 0)"
+  pub readOption : Opts → ℕ → List ℕ → ℕ → ℕ → Answer
+  readOption over k b t s = Refused (UnionSelectorInvalid k) t s
+  readOption (bare j os) k b t s =
+      pick (eqb k j)
+      (pick (eqb (length b) 1) (one 1 0) (Refused (InvalidByteLength (length b - 1) 0) t s))
+      (readOption os k b t s)
+  readOption (body j o os) k b t s =
+      pick (eqb k j)
+      (andThen (one 1 0) (readItem o (drop 1 b) (s + 1)))
+      (readOption os k b t s)

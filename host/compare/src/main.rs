@@ -1,0 +1,219 @@
+//! The crate as oracle: asks it questions and writes its answers as files of cases.
+
+mod document;
+mod dump;
+mod format;
+mod make;
+mod ops;
+mod oracle;
+mod rng;
+mod sample;
+mod tally;
+
+use make::Made;
+use rng::Rng;
+use std::fs::File;
+use std::io::{self, BufReader, BufWriter, Write};
+use std::process::ExitCode;
+use tally::Tally;
+
+const USAGE: &str = "usage:
+  compare cases --out FILE [--ops LIST] [--seed S] [--count N] [--depth D] [--part K/OF]
+      the limits and every short question, bitfields up to about D bits (5), then random ones
+      until there are N (200000); with --part only each OF-th case from number K on is written
+  compare cases --sample --out FILE [--ops LIST] [--seed S] [--bytes B]
+      a part of them that takes at most B bytes (640000)
+  compare document --out FILE
+      cases whose answers are document 01's and not the crate's
+  compare dump FILE [FIRST [COUNT]]
+      the records as text
+LIST is as 1-4,11,50; without it all operations are asked.";
+
+struct Options {
+    out: String,
+    ops: Vec<u32>,
+    seed: u64,
+    count: u64,
+    depth: u64,
+    part: (u64, u64),
+    sample: bool,
+    bytes: usize,
+}
+
+impl Options {
+    fn parse(arguments: &[String]) -> Result<Options, String> {
+        let mut options = Options {
+            out: String::new(),
+            ops: ops::OPS.iter().map(|op| op.number).collect(),
+            seed: 1,
+            count: 200_000,
+            depth: 5,
+            part: (0, 1),
+            sample: false,
+            bytes: 640_000,
+        };
+        let mut rest = arguments.iter();
+        while let Some(name) = rest.next() {
+            if name == "--sample" {
+                options.sample = true;
+                continue;
+            }
+            let value = rest.next().ok_or(format!("{name} lacks its value"))?;
+            options.set(name, value)?;
+        }
+        if options.out.is_empty() {
+            return Err("--out is missing".to_string());
+        }
+        Ok(options)
+    }
+
+    fn set(&mut self, name: &str, value: &str) -> Result<(), String> {
+        match name {
+            "--out" => self.out = value.to_string(),
+            "--ops" => self.ops = ops::parse_list(value)?,
+            "--seed" => self.seed = number(value)?,
+            "--count" => self.count = number(value)?,
+            "--depth" => self.depth = number(value)?,
+            "--bytes" => self.bytes = number(value)? as usize,
+            "--part" => {
+                let (part, of) = value.split_once('/').ok_or("--part is as 3/16")?;
+                self.part = (number(part)?, number(of)?);
+                if self.part.0 >= self.part.1 {
+                    return Err("parts are numbered from 0 to one below their count".to_string());
+                }
+            }
+            _ => return Err(format!("unknown option {name}")),
+        }
+        // Fields of more bits than this are too many to be written out.
+        if self.depth > 12 {
+            return Err("--depth is at most 12".to_string());
+        }
+        Ok(())
+    }
+}
+
+fn number(text: &str) -> Result<u64, String> {
+    text.parse().map_err(|_| format!("no number: {text}"))
+}
+
+/// A file of cases that counts what is written.
+struct Cases {
+    output: BufWriter<File>,
+    tally: Tally,
+    seen: u64,
+    part: (u64, u64),
+}
+
+impl Cases {
+    fn create(path: &str, part: (u64, u64)) -> io::Result<Cases> {
+        Ok(Cases {
+            output: BufWriter::with_capacity(1 << 20, File::create(path)?),
+            tally: Tally::default(),
+            seen: 0,
+            part,
+        })
+    }
+
+    fn take(&mut self, made: Made) -> io::Result<()> {
+        let mine = self.seen % self.part.1 == self.part.0;
+        self.seen += 1;
+        if mine {
+            let case = made.case();
+            let bytes = format::write_record(&mut self.output, &case)?;
+            self.tally.add(case.op, case.head.number, bytes);
+        }
+        Ok(())
+    }
+
+    fn end(mut self) -> io::Result<()> {
+        self.output.flush()?;
+        println!("{}", self.tally);
+        Ok(())
+    }
+}
+
+/// Makers hand out cases through a closure that cannot stop them; the first failure is kept.
+fn collect(cases: &mut Cases, make: impl FnOnce(make::Take)) -> io::Result<()> {
+    let mut outcome = Ok(());
+    make(&mut |made| {
+        if outcome.is_ok() {
+            outcome = cases.take(made);
+        }
+    });
+    outcome
+}
+
+fn write_cases(options: &Options) -> io::Result<()> {
+    let mut cases = Cases::create(&options.out, options.part)?;
+    let rng = |op: &u32| Rng::for_op(options.seed, *op);
+    let mut rngs: Vec<(u32, Rng)> = options.ops.iter().map(|op| (*op, rng(op))).collect();
+    for (op, rng) in &mut rngs {
+        collect(&mut cases, |take| make::limits(*op, rng, take))?;
+        collect(&mut cases, |take| make::exhaustive(*op, options.depth, rng, take))?;
+    }
+    while cases.seen < options.count {
+        for (op, rng) in &mut rngs {
+            if cases.seen < options.count {
+                cases.take(make::random(*op, rng))?;
+            }
+        }
+    }
+    cases.end()
+}
+
+fn write_sample(options: &Options) -> io::Result<()> {
+    let mut cases = Cases::create(&options.out, (0, 1))?;
+    let share = options.bytes / options.ops.len();
+    for op in &options.ops {
+        for case in sample::of_operation(*op, options.seed, share) {
+            cases.take(Made::Answered(case))?;
+        }
+    }
+    cases.end()
+}
+
+fn write_document(options: &Options) -> io::Result<()> {
+    let mut cases = Cases::create(&options.out, (0, 1))?;
+    collect(&mut cases, |take| document::cases(&mut |case| take(Made::Answered(case))))?;
+    cases.end()
+}
+
+fn print_dump(arguments: &[String]) -> Result<(), String> {
+    let path = arguments.first().ok_or("dump lacks its file")?;
+    let first = arguments.get(1).map_or(Ok(0), |text| number(text))?;
+    let count = arguments.get(2).map_or(Ok(u64::MAX), |text| number(text))?;
+    let file = File::open(path).map_err(|error| format!("{path}: {error}"))?;
+    let mut output = BufWriter::new(io::stdout());
+    dump::dump(&mut BufReader::new(file), &mut output, first, count)
+        .and_then(|()| output.flush())
+        .map_err(|error| format!("{path}: {error}"))
+}
+
+fn run(arguments: &[String]) -> Result<(), String> {
+    let (command, rest) = arguments.split_first().ok_or(USAGE)?;
+    let written = match command.as_str() {
+        "dump" => return print_dump(rest),
+        "cases" => {
+            let options = Options::parse(rest)?;
+            if options.sample {
+                write_sample(&options)
+            } else {
+                write_cases(&options)
+            }
+        }
+        "document" => write_document(&Options::parse(rest)?),
+        _ => return Err(USAGE.to_string()),
+    };
+    written.map_err(|error| error.to_string())
+}
+
+fn main() -> ExitCode {
+    let arguments: Vec<String> = std::env::args().skip(1).collect();
+    match run(&arguments) {
+        Ok(()) => ExitCode::SUCCESS,
+        Err(message) => {
+            eprintln!("{message}");
+            ExitCode::FAILURE
+        }
+    }
+}
