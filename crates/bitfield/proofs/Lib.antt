@@ -8,6 +8,7 @@ pub mod Places
 pub mod Loops
 pub mod Clean
 pub mod Ties
+pub mod Marks
 pub mod Tolds
 pub mod Results
 pub mod Serial

@@ -1,6 +1,6 @@
 -- `bitfield::fields::mark_byte` meets its contract: the byte that holds the end, if there is one, with the mark put in. Assumes nothing.
 use borrow.Author.Needs.{needs}
-use Rattle.bitfield.proofs.Ties.{mark-here, mark-past}
+use Rattle.bitfield.proofs.Marks.{mark-here, mark-past}
 use Rattle.bitfield.proofs.fields.mark_byte.Statement.{statement}
 use Rattle.bitfield.proofs.fields.mark_byte.Tie as tie
 

@@ -3,7 +3,7 @@ use mathlib.Core.Path.{_∙_}
 use native.Mathlib.Omega.{arith}
 use borrow.Author.Needs.{needs}
 use lib.ListN.{length-set}
-use Rattle.bitfield.proofs.Ties.{put-marked}
+use Rattle.bitfield.proofs.Marks.{put-marked}
 use Rattle.bitfield.proofs.fields.put_marked.Statement.{statement}
 use Rattle.bitfield.proofs.fields.put_marked.Tie as tie
 
