@@ -1,3 +1,4 @@
+-- A part that is all there ends within the bytes. Assumes nothing.
 use mathlib.Core.Path.{sym, _∙_}
 use native.Mathlib.Omega.{arith}
 use Rattle.cases.specs.Records.{bodyOf}

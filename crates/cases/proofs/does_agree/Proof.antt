@@ -1,3 +1,4 @@
+-- By the test on the greatest number. Assumes nothing.
 use borrow.Author.Tests.{eq-eqb, ne-eqb}
 use Rattle.cases.proofs.does_agree.Statement.{statement}
 use Rattle.cases.proofs.does_agree.Tie as tie

@@ -1,3 +1,4 @@
+-- The number is its two words. Assumes nothing.
 use native.Mathlib.Omega.{arith}
 use Rattle.cases.proofs.Laws.{eight-words}
 use borrow.Author.Needs.{needs}

@@ -1,4 +1,4 @@
-use native.Mathlib.Omega.{arith}
+-- The tests in their order; the first that fails settles it. Assumes nothing.
 use borrow.Author.Tests.{eq-eqb, ne-eqb, not-true, not-false}
 use Rattle.cases.specs.Answers.{headMatches}
 use borrow.Author.Needs.{needs}

@@ -1,3 +1,4 @@
+-- By the test on the number of parts, then by the length of the head. Assumes nothing.
 use borrow.Author.Tests.{eq-eqb, ne-eqb}
 use borrow.Author.Needs.{needs}
 use Rattle.cases.proofs.is_formed.Statement.{statement}

@@ -1,3 +1,4 @@
+-- By the test on the length. Assumes nothing.
 use borrow.Author.Tests.{eq-eqb, ne-eqb}
 use borrow.Author.Needs.{needs}
 use Rattle.cases.proofs.is_number.Statement.{statement}

@@ -1,3 +1,4 @@
+-- By where the part ends. Assumes nothing.
 use Rattle.cases.specs.Records.{nextOf}
 use borrow.Author.Needs.{needs}
 use Rattle.cases.proofs.next_start.Statement.{statement}

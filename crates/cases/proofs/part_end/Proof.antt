@@ -1,3 +1,4 @@
+-- The three tests are one: the part ends within the bytes or not. Assumes nothing.
 use native.Mathlib.Omega.{arith}
 use Rattle.cases.proofs.Laws.{end-whole, end-cut}
 use borrow.Author.Needs.{needs}

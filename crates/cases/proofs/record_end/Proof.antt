@@ -1,3 +1,4 @@
+-- What is left of the row of parts ends where the whole row does. Assumes nothing.
 use Rattle.cases.specs.Records.{recordEnd}
 use mathlib.Core.Path.{_≡_, refl, sym, _∙_}
 use native.Mathlib.Omega.{arith}

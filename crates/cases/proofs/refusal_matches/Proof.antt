@@ -1,3 +1,4 @@
+-- By the refusal's numbers. Assumes nothing.
 use borrow.Author.Needs.{needs}
 use Rattle.cases.proofs.refusal_matches.Statement.{statement}
 use Rattle.cases.proofs.refusal_matches.Tie as tie

@@ -1,3 +1,4 @@
+-- The lesser of the two lengths. Assumes nothing.
 use native.Mathlib.Omega.{arith}
 use lib.ListN.{length-take}
 use borrow.Author.Needs.{needs}

@@ -1,7 +1,7 @@
+-- The arrays keep their 64 entries. Assumes nothing.
 use Prim.Native.Nat.{_≤_, _-_}
-use mathlib.Core.Path.{_≡_, refl}
-use native.Mathlib.Omega.{arith}
-use lib.ListN.{length, length-set}
+use mathlib.Core.Path.{_≡_}
+use lib.ListN.{length}
 use borrow.Author.Needs.{needs}
 use Rattle.replay.proofs.builder.decoder_of.Statement.{statement}
 use Rattle.replay.proofs.builder.decoder_of.Tie as tie

@@ -1,3 +1,4 @@
+-- At most 64 ranges are compared. Assumes nothing.
 use Prim.Native.Nat.{_≤_, _-_}
 use borrow.Author.Needs.{needs}
 use Rattle.replay.proofs.builder.is_ranges.Statement.{statement}

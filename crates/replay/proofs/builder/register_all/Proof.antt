@@ -1,3 +1,4 @@
+-- The measure is the number of registrations that are left. Assumes nothing.
 use Prim.Native.Nat.{_≤_, _-_}
 use borrow.Author.Needs.{needs}
 use Rattle.replay.proofs.builder.register_all.Statement.{statement}

@@ -1,3 +1,4 @@
+-- By where the part behind the kind ends. Assumes nothing.
 use native.Mathlib.Omega.{arith}
 use Rattle.replay.proofs.Ends.{past-end}
 use borrow.Author.Needs.{needs}

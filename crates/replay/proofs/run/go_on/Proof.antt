@@ -1,3 +1,4 @@
+-- What was read is within the bytes. Assumes nothing.
 use borrow.Author.Needs.{needs}
 use Rattle.replay.proofs.run.go_on.Statement.{statement}
 use Rattle.replay.proofs.run.go_on.Tie as tie

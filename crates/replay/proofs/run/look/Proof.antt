@@ -1,3 +1,4 @@
+-- A whole record ends within the bytes that were looked at. Assumes nothing.
 use mathlib.Core.Path.{sym, _∙_}
 use native.Mathlib.Omega.{arith}
 use lib.ListN.{length-take, length-drop}

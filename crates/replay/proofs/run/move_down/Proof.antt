@@ -1,7 +1,7 @@
+-- So many bytes are moved. Assumes nothing.
 use Prim.Native.Nat.{_≤_, _-_}
-use mathlib.Core.Path.{_≡_, sym}
+use mathlib.Core.Path.{_≡_}
 use native.Mathlib.Omega.{arith}
-use lib.ListN.{length}
 use Rattle.replay.proofs.Moves.{Moved, moved-none, moved-more}
 use Rattle.replay.proofs.run.move_down.Statement.{statement}
 use Rattle.replay.proofs.run.move_down.Tie as tie

@@ -1,3 +1,4 @@
+-- What is left lies behind the records that were asked. Assumes nothing.
 use native.Mathlib.Omega.{arith}
 use lib.ListN.{length-take}
 use borrow.Author.Needs.{needs}
