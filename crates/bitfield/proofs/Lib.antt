@@ -7,3 +7,6 @@ pub mod Numbers
 pub mod Places
 pub mod Loops
 pub mod Clean
+pub mod Ties
+pub mod Tolds
+pub mod Results
