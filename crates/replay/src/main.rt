@@ -1,12 +1,15 @@
 // Reads the file `cases`, asks the library each question in it, compares the whole answer, and prints.
 mod answers;
 mod ask;
+mod bits;
 mod builder;
 mod encoder;
+mod lists;
 mod messages;
 mod offsets;
 mod print;
 mod run;
+mod vectors;
 
 use run::Outcome;
 ghost use mathlib.Core.Path.{_≡_};
