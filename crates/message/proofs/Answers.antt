@@ -1,8 +1,7 @@
 -- What an accepted answer says of the tests and answers that it is made of. Assumes nothing.
-use mathlib.Core.Path.{_≡_, refl, sym, ap, _∙_}
-use mathlib.Core.Logic.{_⊎_, inl, inr}
+use mathlib.Core.Path.{_≡_, refl, sym, ap}
 use mathlib.Core.Bool.{Bool, true, false}
-use Prim.Native.Nat.{ℕ, _+_}
+use Prim.Native.Nat.{ℕ}
 use native.Mathlib.Nat.{zero-add, add-assoc}
 use native.Mathlib.Omega.{arith}
 use Rattle.standard.specs.Choice.{pick}
@@ -42,22 +41,36 @@ pub pick-cases : {A B : Type 0} (q : Bool) (x y z : A) → (q ≡ true → x ≡
 pick-cases true x y z f g e = f refl e
 pick-cases false x y z f g e = g refl e
 
-pub left-accepted : (q : Bool) (x : Answer) (r : Refusal) (t s : ℕ) (c : Counts) → pick q x (Refused r t s) ≡ Accepted c → (q ≡ true) × (x ≡ Accepted c)
+-- What both sides have, as far as the test lets them, the choice has.
+pub pick-holds : {A : Type 0} (P : A → Type 0) (q : Bool) (x y : A) → (q ≡ true → P x) → (q ≡ false → P y) → P (pick q x y)
+pick-holds P true x y f g = f refl
+pick-holds P false x y f g = g refl
+
+pub left-accepted :
+    (q : Bool) (x : Answer) (r : Refusal) (t s : ℕ) (c : Counts) → pick q x (Refused r t s) ≡ Accepted c → (q ≡ true) × (x ≡ Accepted c)
 left-accepted q x r t s c = pick-left q x (Refused r t s) (Accepted c) (not-accepted r t s c)
 
-pub right-accepted : (q : Bool) (x : Answer) (r : Refusal) (t s : ℕ) (c : Counts) → pick q (Refused r t s) x ≡ Accepted c → (q ≡ false) × (x ≡ Accepted c)
+pub right-accepted :
+    (q : Bool) (x : Answer) (r : Refusal) (t s : ℕ) (c : Counts) → pick q (Refused r t s) x ≡ Accepted c → (q ≡ false) × (x ≡ Accepted c)
 right-accepted q x r t s c = pick-right q (Refused r t s) x (Accepted c) (not-accepted r t s c)
 
-pub leaf-accepted : (q : Bool) (w n : ℕ) (r : Refusal) (t s : ℕ) (c : Counts) → pick q (one w n) (Refused r t s) ≡ Accepted c → (q ≡ true) × (c ≡ single w n)
+pub leaf-accepted :
+    (q : Bool) (w n : ℕ) (r : Refusal) (t s : ℕ) (c : Counts) → pick q (one w n) (Refused r t s) ≡ Accepted c
+    → (q ≡ true) × (c ≡ single w n)
 leaf-accepted q w n r t s c e =
     let p = left-accepted q (one w n) r t s c e in
     (p .0, sym (accepted-same (single w n) c (p .1)))
 
 -- One answer behind another.
-pub then-accepted : (x y : Answer) (c : Counts) → andThen x y ≡ Accepted c → (a : Counts) × (b : Counts) × (x ≡ Accepted a) × (y ≡ Accepted b) × (c ≡ plus a b)
+pub then-accepted :
+    (x y : Answer) (c : Counts) → andThen x y ≡ Accepted c
+    → (a : Counts) × (b : Counts) × (x ≡ Accepted a) × (y ≡ Accepted b) × (c ≡ plus a b)
 then-accepted (Refused r t s) y c e = not-accepted r t s c e
 then-accepted (Accepted a) (Refused r t s) c e = not-accepted r t s c e
 then-accepted (Accepted a) (Accepted b) c e = (a, b, refl, refl, sym (accepted-same (plus a b) c e))
+
+pub then-accepts : (x y : Answer) (a b : Counts) → x ≡ Accepted a → y ≡ Accepted b → andThen x y ≡ Accepted (plus a b)
+then-accepts x y a b e f = rw (e, f)
 
 -- counts a, known, before an answer
 pub behind-accepted : (a : Counts) (y : Answer) (c : Counts) → andThen (Accepted a) y ≡ Accepted c → (b : Counts) × (y ≡ Accepted b) × (c ≡ plus a b)

@@ -3,7 +3,7 @@ use mathlib.Core.Path.{_≡_, refl, sym, ap, _∙_}
 use mathlib.Core.List.{List, [], _∷_}
 use mathlib.Core.Bool.{Bool, true, false}
 use Prim.Native.Nat.{ℕ, zero, suc, _+_, _-_, _*_, _≤_, _<_, _^_}
-use native.Mathlib.Nat.{add-zero, add-assoc}
+use native.Mathlib.Nat.{add-zero}
 use native.Mathlib.Omega.{arith}
 use borrow.Author.Tests.{eqb-true, eqb-false, ltb-true, ltb-false, lt-ltb, le-ltb, eq-eqb, ne-eqb, leb-true}
 use lib.ListN.{length, getD, take, drop, length-take, length-drop}
@@ -32,19 +32,12 @@ use Rattle.message.specs.declared.Counts.{Counts}
 use Rattle.message.specs.declared.Answer.{Answer}
 use Rattle.message.specs.declared.Answer.the-variants.{Accepted, Refused}
 use Rattle.message.specs.declared.items.Choice.{Choice}
+use Rattle.message.proofs.Answers.{then-assoc}
 use Rattle.message.proofs.Bounds.{counts-small}
 use Rattle.message.proofs.Rows.{under-below, row-next, span-ok}
 
--- Counts add up in any grouping.
-plus-assoc : (a b c : Counts) → plus a (plus b c) ≡ plus (plus a b) c
-plus-assoc a b c = simp add-assoc
-
 plus-zero : (a : Counts) → plus a (record { records = 0; words = 0; bytes = 0 }) ≡ a
 plus-zero a = simp add-zero
-
-then-assoc : (a b : Counts) (x : Answer) → andThen (Accepted a) (andThen (Accepted b) x) ≡ andThen (Accepted (plus a b)) x
-then-assoc a b (Accepted c) = ap Accepted (plus-assoc a b c)
-then-assoc a b (Refused r t s) = refl
 
 -- The loop of `field_check`: what is counted, and what is left to read, give the whole.
 pub record Reading (lens l : List ℕ) (t a₀ n : ℕ) (b : List ℕ) (s : ℕ) (sum : Counts) (a left p : ℕ) : Type 0 where
@@ -79,7 +72,7 @@ module _ (lens l : List ℕ) (t a₀ n : ℕ) (b : List ℕ) (s : ℕ) (sum : Co
         records = omega (arith, g .records, k .records);
         words = omega (arith, g .words, k .words);
         bytes = omega (arith, g .bytes, k .bytes);
-        same = sym (then-assoc sum c (readFields (rowOf l t (a + 1) (left - 1)) b (w .next) s)) ∙ rw (← h) at reading-first;
+        same = then-assoc (Accepted sum) (Accepted c) (readFields (rowOf l t (a + 1) (left - 1)) b (w .next) s) ∙ rw (← h) at reading-first;
       }
 
   pub reading-stop : (r : Refusal) (u v : ℕ) → Refused r u v ≡ readItem (treeOf l f) (part b w) (s + w .from) → Refused r u v ≡ andThen (one 0 0) (readFields (rowOf l t a₀ n) b 0 s)

@@ -1,22 +1,20 @@
 -- How large the counts of an accepted item are. Each level of a type counts at most the bytes that it has, and four more for an
 -- item of variable size, whose offset stands in the container around it; so the counts are at most the levels times those bytes.
 -- Assumes nothing.
-use mathlib.Core.Path.{_≡_, refl, sym, ap, _∙_}
-use mathlib.Core.List.{List, [], _∷_, _++_}
+use mathlib.Core.Path.{_≡_, refl}
+use mathlib.Core.List.{List, _∷_}
 use mathlib.Core.Bool.{Bool, true, false}
 use Prim.Native.Nat.{ℕ, zero, suc, _+_, _-_, _*_, _/_, _≤_, _<_, _^_, max}
 use native.Mathlib.Nat.{add-zero, mul-le-mul-left, mul-le-mul-right}
 use native.Mathlib.Omega.{arith}
-use borrow.Author.Tests.{eqb-true, eqb-false, leb-true, ne-eqb}
-use lib.ListN.{length, getD, take, drop, length-take, length-drop}
+use borrow.Author.Tests.{eqb-true, eqb-false, ne-eqb}
+use lib.ListN.{length, getD, drop, length-take, length-drop}
 use lib.Dec.{eqb, ltb, leb}
-use Rattle.standard.specs.Choice.{pick}
-use Rattle.standard.specs.Bytes.{wordAt, four, num}
+use Rattle.standard.specs.Bytes.{wordAt, four}
 use Rattle.standard.specs.Types.{Ty, Tys, Opts, number, boolean, fixedBytes, freeBytes, bitVector, bitList, container, union, end, field, over, bare, body, head, headAll, heads, width, portion, NoFields, LegalTy, LegalAll, LegalOptions}
 use Rattle.standard.specs.Parts.{next, spanOf, part, InRange}
 use Rattle.standard.specs.declared.Head.{Head}
 use Rattle.standard.specs.declared.Head.the-variants.{Fixed, Variable}
-use Rattle.standard.specs.declared.Refusal.{Refusal}
 use Rattle.standard.proofs.Join.{next-between, span-ranges}
 use Rattle.standard.proofs.Laws.{fixed-some}
 use Rattle.decode.specs.Builder.{layOut}
@@ -33,9 +31,8 @@ use Rattle.layout.proofs.Facts.{trees-get, as-container, as-union, as-leaf}
 use Rattle.layout.proofs.Trees.{legal-tree}
 use Rattle.message.specs.Read.{rawBytes, one, plus, andThen, readItem, readFields, readOption}
 use Rattle.message.specs.declared.Counts.{Counts}
-use Rattle.message.specs.declared.Answer.{Answer}
-use Rattle.message.specs.declared.Answer.the-variants.{Accepted, Refused}
-use Rattle.message.proofs.Answers.{none, single, not-accepted, accepted-same, pick-left, pick-right, pick-cases, left-accepted, right-accepted, leaf-accepted, then-accepted, behind-accepted, built-accepted, vector-accepted, list-accepted}
+use Rattle.message.specs.declared.Answer.the-variants.{Accepted}
+use Rattle.message.proofs.Answers.{none, single, not-accepted, accepted-same, pick-left, pick-right, pick-cases, pick-holds, left-accepted, right-accepted, leaf-accepted, then-accepted, behind-accepted, built-accepted, vector-accepted, list-accepted}
 
 -- How many levels a type has
 unfoldable mutual
@@ -59,17 +56,17 @@ unfoldable mutual
   depthOptions (body j t os) = max (depth t) (depthOptions os)
 
 -- The type t of a table has at most t + 1 levels, since a type names lower ones.
+One : Ty → Type 0
+One x = depth x ≡ 1
+
 leaf-depth : (t : ℕ) (n : Node) → depth (leafOf t n) ≡ 1
-unfolding leafOf depth
-leaf-depth t n = go (eqb (n .kind) 0) (eqb (n .kind) 1) (eqb (n .kind) 2) (eqb (n .kind) 3) (eqb (n .kind) 4)
-  where
-    go : (a b c d e : Bool) → depth (pick a (number t (n .second)) (pick b (boolean t) (pick c (fixedBytes t (n .second)) (pick d (freeBytes t (n .second)) (pick e (bitVector t (n .second)) (bitList t (n .second))))))) ≡ 1
-    go true b c d e = refl
-    go false true c d e = refl
-    go false false true d e = refl
-    go false false false true e = refl
-    go false false false false true = refl
-    go false false false false false = refl
+unfolding leafOf depth One
+leaf-depth t n =
+    pick-holds One (eqb (n .kind) 0) _ _ (λ a. refl) λ a.
+    pick-holds One (eqb (n .kind) 1) _ _ (λ b. refl) λ b.
+    pick-holds One (eqb (n .kind) 2) _ _ (λ c. refl) λ c.
+    pick-holds One (eqb (n .kind) 3) _ _ (λ d. refl) λ d.
+    pick-holds One (eqb (n .kind) 4) _ _ (λ e. refl) λ e. refl
 
 module _ (l : List ℕ) (t : ℕ) (f : (u : ℕ) → u < t → depth (treeOf l u) ≤ u + 1) where
   lower-depth : (w : ℕ) → w < t → depth (getD (trees l t) w (boolean 0)) ≤ t
@@ -88,15 +85,12 @@ module _ (l : List ℕ) (t : ℕ) (f : (u : ℕ) → u < t → depth (treeOf l u
   unfolding options depth LowerOrBare
   options-depth at k zero g = omega arith
   options-depth at k (suc n) g =
-      go (eqb (wordAt l at) 4294967295) refl
-      (options-depth (at + 1) (k + 1) n (λ i h. let e : at + suc i ≡ at + 1 + i = omega arith in rw e at (g (suc i) (omega arith))))
-    where
-      go : (c : Bool) → eqb (wordAt l at) 4294967295 ≡ c → depthOptions (options l (trees l t) (at + 1) (k + 1) n) ≤ t → depthOptions (pick c (bare k (options l (trees l t) (at + 1) (k + 1) n)) (body k (getD (trees l t) (wordAt l at) (boolean 0)) (options l (trees l t) (at + 1) (k + 1) n))) ≤ t
-      go true q r = r
-      go false q r =
-          let h : wordAt l at < t = (rw add-zero at (g 0 (omega arith))) (eqb-false _ _ q) in
-          let x = lower-depth (wordAt l at) h in
-          omega arith
+      let r = options-depth (at + 1) (k + 1) n (λ i h. let e : at + suc i ≡ at + 1 + i = omega arith in rw e at (g (suc i) (omega arith))) in
+      pick-holds (λ (os : Opts). depthOptions os ≤ t) (eqb (wordAt l at) 4294967295) _ _ (λ q. r)
+      (λ q.
+      let h : wordAt l at < t = (rw add-zero at (g 0 (omega arith))) (eqb-false _ _ q) in
+      let x = lower-depth (wordAt l at) h in
+      omega arith)
 
   node-depth : LegalNode l t (nodeOf l t) → depth (treeOf l t) ≤ t + 1
   unfolding depth
@@ -139,9 +133,9 @@ list-length b n k e =
     marked-length (highest (allBits b)) (length b) n k
     (pick-right (eqb (length b) 0) _ (markedAt (highest (allBits b)) (length b) n) (BodyBits.Bits k) (λ q. let z : _≡_ {A = ℕ} 0 1 = cc in omega arith) e .1)
 
--- Counts that are at most n, each
-abbrev pub Within : Counts → ℕ → Type 0
-Within c n = (c .records ≤ n) × (c .words ≤ n) × (c .bytes ≤ n)
+-- At most n records and n words, and m bytes
+abbrev pub Within : Counts → ℕ → ℕ → Type 0
+Within c n m = (c .records ≤ n) × (c .words ≤ n) × (c .bytes ≤ m)
 
 -- The bytes that an item takes, with its offset where it has one
 abbrev pub room : Head → List ℕ → ℕ
@@ -152,16 +146,16 @@ room-least : (h : Head) (b : List ℕ) → length b ≤ room h b
 room-least (Fixed n) b = omega arith
 room-least Variable b = omega arith
 
-room-most : (h : Head) (b : List ℕ) → room h b ≤ length b + 4
-room-most (Fixed n) b = omega arith
-room-most Variable b = omega arith
+room-most : (h : Head) (b : List ℕ) (n : ℕ) → length b ≤ n → room h b ≤ n + 4
+room-most (Fixed k) b n l = omega arith
+room-most Variable b n l = omega arith
 
 -- A leaf, and what stands above others
-leaf-in : (w k n d : ℕ) (c : Counts) → c ≡ single w k → 1 ≤ d → 1 ≤ n → w ≤ n → k ≤ n → Within c (d * n)
-leaf-in w k n d c e h i j m = let q = mul-le-mul-right n h in rw e (omega arith)
+leaf-in : (w k n m d : ℕ) (c : Counts) → c ≡ single w k → 1 ≤ d → 1 ≤ n → w ≤ n → k ≤ m → Within c (d * n) m
+leaf-in w k n m d c e h i j o = let q = mul-le-mul-right n h in rw e (omega arith)
 
-above-in : (a b c : Counts) (m n : ℕ) → c ≡ plus a b → Within a 1 → Within b m → 1 + m ≤ n → Within c n
-above-in a b c m n e x y h = rw e (omega arith)
+above-in : (a b c : Counts) (m n i j : ℕ) → c ≡ plus a b → Within a 1 0 → Within b m i → 1 + m ≤ n → i ≤ j → Within c n j
+above-in a b c m n i j e x y h o = rw e (omega arith)
 
 -- The first field's room and the rest's make up the whole's.
 room-span :
@@ -186,28 +180,31 @@ portion-some (field t ts) f l = go (head t) refl
 mutual
   unfolding readItem head heads depth LegalTy portion
 
-  pub item-in : (t : Ty) (b : List ℕ) (s d : ℕ) (c : Counts) → LegalTy t → depth t ≤ d → readItem t b s ≡ Accepted c → Within c (d * room (head t) b)
+  pub item-in :
+      (t : Ty) (b : List ℕ) (s d : ℕ) (c : Counts) → LegalTy t → depth t ≤ d → readItem t b s ≡ Accepted c
+      → Within c (d * room (head t) b) (length b)
   item-in (number t w) b s d c l h e =
       let p = leaf-accepted (eqb (length b) w) 0 (length b) _ t s c e in
-      leaf-in 0 (length b) (length b) d c (p .1) h (omega (arith, eqb-true (length b) w (p .0), fixed-some (number t w) w l refl)) (omega arith) (omega arith)
+      let k : 1 ≤ length b = omega (arith, eqb-true (length b) w (p .0), fixed-some (number t w) w l refl) in
+      leaf-in 0 (length b) (length b) (length b) d c (p .1) h k (omega arith) (omega arith)
   item-in (boolean t) b s d c l h e =
       let p = left-accepted (eqb (length b) 1) _ _ t s c e in
       let q = leaf-accepted (ltb (getD b 0 0) 2) 0 1 _ t s c (p .1) in
       let k = eqb-true (length b) 1 (p .0) in
-      leaf-in 0 1 (length b) d c (q .1) h (omega arith) (omega arith) (omega arith)
+      leaf-in 0 1 (length b) (length b) d c (q .1) h (omega arith) (omega arith) (omega arith)
   item-in (fixedBytes t n) b s d c l h e =
       let p = leaf-accepted (eqb (length b) n) 0 (length b) _ t s c e in
-      leaf-in 0 (length b) (length b) d c (p .1) h (omega (arith, eqb-true (length b) n (p .0))) (omega arith) (omega arith)
+      leaf-in 0 (length b) (length b) (length b) d c (p .1) h (omega (arith, eqb-true (length b) n (p .0))) (omega arith) (omega arith)
   item-in (freeBytes t limit) b s d c l h e =
       let p = leaf-accepted (leb (length b) limit) 1 (length b) _ t s c e in
-      leaf-in 1 (length b) (length b + 4) d c (p .1) h (omega arith) (omega arith) (omega arith)
+      leaf-in 1 (length b) (length b + 4) (length b) d c (p .1) h (omega arith) (omega arith) (omega arith)
   item-in (bitVector t n) b s d c l h e =
       let p = vector-accepted (bitVectorBody b n) t s (length b) c e in
-      leaf-in 0 (length b) (length b) d c (p .1) h (omega (arith, vector-length b n l (p .0))) (omega arith) (omega arith)
+      leaf-in 0 (length b) (length b) (length b) d c (p .1) h (omega (arith, vector-length b n l (p .0))) (omega arith) (omega arith)
   item-in (bitList t limit) b s d c l h e =
       let p = list-accepted (bitListBody b limit) t s c e in
       let k = list-length b limit (p .0) (p .1) in
-      leaf-in 1 (rawBytes (p .0)) (length b + 4) d c (p .2) h (omega arith) (omega arith) (omega arith)
+      leaf-in 1 (rawBytes (p .0)) (length b + 4) (length b) d c (p .2) h (omega arith) (omega arith) (omega arith)
   item-in (container t ts) b s zero c l h e = absurd (omega arith)
   item-in (container t ts) b s (suc d) c l h e =
       let p = built-accepted (layOut (heads ts) b) t s _ c e in
@@ -219,17 +216,17 @@ mutual
       let x = fields-in ts b 0 s d (length b - portion (heads ts)) (q .0) (l .1) (omega arith) r (omega arith) (q .1) in
       let y = portion-some ts (l .0) (l .1) in
       let z = mul-le-mul-left (suc d) (room-least (headAll ts) b) in
-      above-in (single 0 0) (q .0) c (d * length b) _ (q .2) (omega arith) (rw i at x) (omega arith)
+      above-in (single 0 0) (q .0) c (d * length b) _ (length b) (length b) (q .2) (omega arith) (rw i at x) (omega arith) (omega arith)
   item-in (union t os) b s zero c l h e = absurd (omega arith)
   item-in (union t os) b s (suc d) c l h e =
       let p = right-accepted (eqb (length b) 0) _ _ t s c e in
       let q = left-accepted (leb (getD b 0 0) 127) _ _ t s c (p .1) in
-      let n : length b ≡ 0 → ⊥ = eqb-false _ _ (p .0) in
-      option-in os (getD b 0 0) b t s d c (l .2) (omega arith) (omega arith) (q .1)
+      option-in os (getD b 0 0) b t s d c (l .2) (omega arith) (q .1)
 
   fields-in :
       (ts : Tys) (b : List ℕ) (p s d k : ℕ) (c : Counts) → LegalAll ts → depthAll ts ≤ d → InRange (heads ts) b p 0
-      → next (heads ts) b p + k ≡ length b → readFields ts b p s ≡ Accepted c → Within c (d * (portion (heads ts) + k))
+      → next (heads ts) b p + k ≡ length b → readFields ts b p s ≡ Accepted c
+      → Within c (d * (portion (heads ts) + k)) (portion (heads ts) + k)
   fields-in end b p s d k c l h r n e = rw (← accepted-same none c e) (omega arith)
   fields-in (field t ts) b p s d k c l h r n e =
       let w = spanOf (head t) (heads ts) b p in
@@ -237,27 +234,33 @@ mutual
       let x = item-in t (part b w) (s + w .from) d (q .0) (l .0) (omega arith) (q .2) in
       let j = room-span (head t) (heads ts) b p k r n in
       let y = fields-in ts b (w .next) s d (j .0) (q .1) (l .1) (omega arith) (span-ranges (head t) (heads ts) b p r .2) (j .1) (q .3) in
-      rw (q .4, ← j .2) (omega (arith, x, y))
+      rw (q .4, ← j .2) (omega (arith, x, y, room-least (head t) (part b w)))
 
   option-in :
-      (os : Opts) (k : ℕ) (b : List ℕ) (t s d : ℕ) (c : Counts) → LegalOptions os → depthOptions os ≤ d → 1 ≤ length b
-      → readOption os k b t s ≡ Accepted c → Within c (suc d * (length b + 4))
-  option-in over k b t s d c l h n e = not-accepted _ t s c e
-  option-in (bare j os) k b t s d c l h n e =
+      (os : Opts) (k : ℕ) (b : List ℕ) (t s d : ℕ) (c : Counts) → LegalOptions os → depthOptions os ≤ d
+      → readOption os k b t s ≡ Accepted c → Within c (suc d * (length b + 4)) (length b)
+  option-in over k b t s d c l h e = not-accepted _ t s c e
+  option-in (bare j os) k b t s d c l h e =
       pick-cases (eqb k j) _ (readOption os k b t s) (Accepted c)
-      (λ i f. leaf-in 1 0 (length b + 4) (suc d) c (leaf-accepted (eqb (length b) 1) 1 0 _ t s c f .1) (omega arith) (omega arith) (omega arith) (omega arith))
-      (λ i f. option-in os k b t s d c l h n f)
+      (λ i f.
+      let q = leaf-accepted (eqb (length b) 1) 1 0 _ t s c f in
+      leaf-in 1 0 (length b + 4) (length b) (suc d) c (q .1) (omega arith) (omega arith) (omega arith) (omega arith))
+      (λ i f. option-in os k b t s d c l h f)
       e
-  option-in (body j o os) k b t s d c l h n e =
+  option-in (body j o os) k b t s d c l h e =
       pick-cases (eqb k j) (andThen (one 1 0) (readItem o (drop 1 b) (s + 1))) (readOption os k b t s) (Accepted c)
       (λ i f.
       let q = behind-accepted (single 1 0) (readItem o (drop 1 b) (s + 1)) c f in
       let x = item-in o (drop 1 b) (s + 1) d (q .0) (l .0) (omega arith) (q .1) in
-      let y : room (head o) (drop 1 b) ≤ length b + 3 = omega (arith, room-most (head o) (drop 1 b), length-drop 1 b) in
-      let z = mul-le-mul-left d y in
-      above-in (single 1 0) (q .0) c (d * room (head o) (drop 1 b)) _ (q .2) (omega arith) x (omega arith))
-      (λ i f. option-in os k b t s d c (l .1) (omega arith) n f)
+      let y : length (drop 1 b) ≤ length b = omega (arith, length-drop 1 b) in
+      let z = mul-le-mul-left d (room-most (head o) (drop 1 b) (length b) y) in
+      above-in (single 1 0) (q .0) c (d * room (head o) (drop 1 b)) _ (length (drop 1 b)) (length b) (q .2) (omega arith) x (omega arith) (omega arith))
+      (λ i f. option-in os k b t s d c (l .1) (omega arith) f)
       e
+
+-- The bodies of an item are no longer than the item.
+pub bytes-bound : (t : Ty) (b : List ℕ) (s : ℕ) (c : Counts) → LegalTy t → readItem t b s ≡ Accepted c → c .bytes ≤ length b
+bytes-bound t b s c l e = item-in t b s (depth t) c l (omega arith) e .2
 
 -- The counts of a message below 2^32 bytes are far below a word's end.
 pub counts-small :
@@ -266,5 +269,5 @@ pub counts-small :
 counts-small l t b s c g h k e =
     let d = tree-depth l (t + 1) t g (omega arith) in
     let x = item-in (treeOf l t) b s 64 c (legal-tree l (t + 1) t g (omega arith)) (omega arith) e in
-    let y = room-most (head (treeOf l t)) b in
+    let y = room-most (head (treeOf l t)) b (length b) (omega arith) in
     omega arith

@@ -3,3 +3,6 @@ pub mod Answers
 pub mod Bounds
 pub mod Rows
 pub mod Bodies
+pub mod Records
+pub mod Theorem
+pub mod Cases

@@ -14,6 +14,8 @@ use Rattle.decode.specs.declared.union_selector.SelectorResult.{SelectorResult}
 use Rattle.layout.specs.Tree.{treeOf, fields, trees, lenOf}
 use Rattle.layout.specs.Legal.{Lower, Legal}
 use Rattle.message.specs.declared.Counts.{Counts}
+use Rattle.message.specs.declared.Answer.{Answer}
+use Rattle.message.specs.declared.Answer.the-variants.{Accepted, Refused}
 use Rattle.message.specs.declared.items.Choice.{Choice}
 
 -- The types below k are legal, and their lengths stand in lens.
@@ -56,3 +58,8 @@ pub record Small (c : Counts) (k : ℕ) : Type 0 where
   pub records : c .records ≤ k
   pub words : c .words ≤ k
   pub bytes : c .bytes ≤ k
+
+-- An answer that accepts
+abbrev pub IsAccepted : Answer → Type 0
+IsAccepted (Accepted c) = Unit {0}
+IsAccepted (Refused r t s) = ⊥

@@ -1,15 +1,17 @@
 // The check of a message under a layout table, and the listing of its items.
 mod fields;
 mod items;
+mod listing;
 
 use items::item_check;
 use layout::Checked;
 use layout::table_of;
+use listing::list_item;
 use standard::Refusal;
 ghost use mathlib.Core.Path.{_≡_};
 ghost use Prim.Native.Nat.{_-_, _+_, _≤_, _<_, _^_};
 ghost use Rattle.layout.specs.declared.Checked.the-variants.{Upto};
-ghost use Rattle.message.specs.Check.{underTable, checkMessage};
+ghost use Rattle.message.specs.Check.{messageType, underTable, checkMessage, listedOf, recordsOf, listMessage, listedRecords};
 ghost use Rattle.message.specs.Steps.{Under};
 
 // How much there is of an accepted message: records of its listing, contents words and body bytes of its value form.
@@ -53,5 +55,47 @@ pub fn check(layout: &[u8], message: &[u8]) -> Answer
     match c {
         Checked::Bad(w) => Answer::Refused(Refusal::BadLayout(w), 0, 0),
         Checked::Upto(n) => check_under(&lens, layout, n, message),
+    }
+}
+
+// Stores the listing of a message that was checked, where there is room for it.
+fn list_under(
+    records: &mut [u8],
+    lens: &[usize],
+    layout: &[u8],
+    n: usize,
+    message: &[u8],
+) -> Listed
+    requires { ⌜ Under (now lens) (now layout) n × (1 ≤ n) ⌝ }
+    ensures { λ r. ⌜ r ≡ listedOf (underTable (Upto n) (now (layout .entry)) (now (message .entry))) (now (records .entry)) ⌝ }
+    ensures { λ _. ⌜ now (records .exit) ≡ recordsOf (underTable (Upto n) (now (layout .entry)) (now (message .entry))) (messageType (now (layout .entry)) n) (now (message .entry)) (now (records .entry)) ⌝ }
+{
+    let r = check_under(lens, layout, n, message);
+    match r {
+        Answer::Refused(x, u, v) => Listed::Refused(x, u, v),
+        Answer::Accepted(c) => {
+            let room = records.len() / 12;
+            let need = c.records;
+            if need > room {
+                return Listed::Refused(Refusal::NoRoom(need, room), 0, 0);
+            }
+            let last = n - 1;
+            list_item(records, 0, lens, layout, last, message, 0);
+            Listed::Records(need)
+        }
+    }
+}
+
+// Lists the items of a message in records of three words: the check's refusals, then 22 (records needed, room in whole records).
+pub fn list(layout: &[u8], message: &[u8], records: &mut [u8]) -> Listed
+    ensures { λ r. ⌜ r ≡ listMessage (now (layout .entry)) (now (message .entry)) (now (records .entry)) ⌝ }
+    ensures { λ _. ⌜ now (records .exit) ≡ listedRecords (now (layout .entry)) (now (message .entry)) (now (records .entry)) ⌝ }
+{
+    let table = table_of(layout);
+    let c = table.checked;
+    let lens = table.lens;
+    match c {
+        Checked::Bad(w) => Listed::Refused(Refusal::BadLayout(w), 0, 0),
+        Checked::Upto(n) => list_under(records, &lens, layout, n, message),
     }
 }
