@@ -33,6 +33,8 @@ pub(crate) fn ask(b: &[u8], first: &mut [u8], second: &mut [u8], words: &mut [u3
         51 => builder::item(b),
         60 => encoder::encode(b, first, second),
         70 => messages::layout_check(b),
+        71 => messages::check(b),
+        72 => messages::listing(b, first),
         _ => Verdict::Malformed,
     }
 }
