@@ -4,10 +4,9 @@ use mathlib.Core.Bool.{Bool}
 use Prim.Native.Nat.{ℕ, _+_, min, max}
 use lib.Dec.{eqb, leb, ltb}
 use lib.ListN.{length, drop}
-use Rattle.standard.specs.Bits.{packs}
+use Rattle.standard.specs.Bits.{packs, bitsOf}
 use Rattle.standard.specs.Bytes.{num}
 use Rattle.standard.specs.Choice.{pick, andAlso}
-use Rattle.standard.proofs.Bits.{bitsOf}
 use Rattle.standard.specs.declared.Refusal.the-variants.{OutOfBounds, InvalidByteCount, OverLimit, NoRoom, BadState, LimitsDiffer}
 use Rattle.bitfield.specs.Body.{bytesFor}
 use Rattle.bitfield.specs.Bools.{both, either, without, flipped}

@@ -3,10 +3,9 @@ use mathlib.Core.List.{List, []}
 use mathlib.Core.Bool.{Bool, false}
 use Prim.Native.Nat.{ℕ}
 use lib.ListN.{length, getD, set}
-use Rattle.standard.specs.Bits.{marked}
+use Rattle.standard.specs.Bits.{marked, bitsOf}
 use Rattle.standard.specs.Bytes.{num}
 use Rattle.standard.specs.Choice.{andAlso}
-use Rattle.standard.proofs.Bits.{bitsOf}
 use Rattle.bitfield.specs.Body.{highest, bitListBody}
 use Rattle.bitfield.specs.Bools.{both, either, without, flipped, noBits, moved, widened, count, noneSet, subset}
 use Rattle.bitfield.specs.Held.{bitsIn, held, opBits, limited, oneTold, twoTold, listGood, inside, upTo, notBelow, roomFor, andThen, bitAnswer, countAnswer, topAnswer, written}

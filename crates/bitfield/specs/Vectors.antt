@@ -5,7 +5,7 @@ use Prim.Native.Nat.{ℕ}
 use lib.ListN.{length, getD, set}
 use Rattle.standard.specs.Bytes.{num}
 use Rattle.standard.specs.Choice.{andAlso}
-use Rattle.standard.proofs.Bits.{bitsOf}
+use Rattle.standard.specs.Bits.{bitsOf}
 use Rattle.bitfield.specs.Body.{highest, bitVectorBody}
 use Rattle.bitfield.specs.Bools.{both, either, without, flipped, noBits, moved, count, noneSet, subset}
 use Rattle.bitfield.specs.Held.{bitsIn, held, opBits, rawBytes, limited, oneTold, twoTold, vectorGood, inside, upTo, roomFor, andThen, bitAnswer, countAnswer, topAnswer, written}
