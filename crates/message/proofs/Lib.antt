@@ -4,6 +4,7 @@ pub mod Bounds
 pub mod Rows
 pub mod Bodies
 pub mod Records
+pub mod Entries
 pub mod UnfoldLeaves
 pub mod Theorem
 pub mod Cases

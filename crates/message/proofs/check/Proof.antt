@@ -30,7 +30,7 @@ slice-aggregate-check-under c = search needs
 
 -- src/lib.rt:55:29
 check-under-requires : tie.Need-check-under-requires
-check-under-requires c κs = 
+check-under-requires c κs =
     let k = table-known _ _ (c .before .before .before .before .before .table-of .ensures) _ (bytes-known _ (λ i. c .before .before .before .before .before .before .before .shared-slice-known .given i .fits)) (c .before .before .c2 .given .1) in
     (under-table _ _ _ (k .0), k .1)
 

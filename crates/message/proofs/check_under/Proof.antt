@@ -20,7 +20,7 @@ sub-last c = search needs
 
 -- src/lib.rt:43:5
 item-check-requires : tie.Need-item-check-requires
-item-check-requires c κs = 
+item-check-requires c κs =
     let e : c .before .before .before .before .args .n - 1 + 1 ≡ c .before .before .before .before .args .n = omega (arith, c .before .before .before .before .pre .1) in
     (rw e (c .before .before .before .before .pre .0), omega (arith, c .if1 .left))
 

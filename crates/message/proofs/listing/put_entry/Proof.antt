@@ -1,3 +1,5 @@
+-- Three words, one behind the other. Assumes nothing.
+use Rattle.message.proofs.Entries.{entry-stored}
 use borrow.Author.Needs.{needs}
 use Rattle.message.proofs.listing.put_entry.Statement.{statement}
 use Rattle.message.proofs.listing.put_entry.Tie as tie
@@ -35,7 +37,7 @@ same-length c = search needs
 
 -- src/listing.rt:19:1
 returns : tie.Need-returns
-returns c = ?
+returns c = entry-stored _ _ _ _ _ _ _ _ (c .before .before .before .before .before .before .before .before .before .before .put-four .ensures) (c .before .before .before .before .before .before .put-four2 .ensures) (c .before .before .put-four3 .ensures)
 
 pub put-entry-spec : {M : Type 1} → statement M
 put-entry-spec =
