@@ -6,5 +6,7 @@ pub mod Bodies
 pub mod Records
 pub mod Entries
 pub mod UnfoldLeaves
+pub mod Unfolds
+pub mod UnfoldCounts
 pub mod Theorem
 pub mod Cases

@@ -90,7 +90,8 @@ module _ (b : List ℕ) (k : ℕ) (h : Bytes b) (m : MarkedAt b k) where
   raw-drop =
       let e : k / 8 < length b = omega (arith, m .long) in
       let f : suc (k / 8) ≡ length b = omega (arith, m .long) in
-      rw (drop-cons b (k / 8) 0 e, f, drop-length) (omega arith)
+      let d : drop (k / 8) b ≡ getD b (k / 8) 0 ∷ [] = rw (drop-cons b (k / 8) 0 e, f, drop-length) in
+      ap num d ∙ omega arith
 
   -- the mark is the highest bit of the last byte
   pub last-from : 2 ^ (k % 8) ≤ getD b (k / 8) 0
@@ -130,7 +131,8 @@ module _ (b : List ℕ) (k : ℕ) (h : Bytes b) (m : MarkedAt b k) where
       let l : length (take (k / 8) b) ≡ k / 8 = rw length-take (omega (arith, m .long)) in
       let i : length c ≡ rawBytes k = rw (length-append, l) (omega arith) in
       let n : num c ≡ num b - 2 ^ k = rw (num-append, l, raw-less) (omega arith) in
-      let s : Bytes c = bytes-append _ _ (bytes-take _ b h) (omega (arith, byte-at b (k / 8) h), tt) in
+      let y : Bytes (x ∷ []) = (omega (arith, byte-at b (k / 8) h), tt) in
+      let s : Bytes c = bytes-append (take (k / 8) b) (x ∷ []) (bytes-take (k / 8) b h) y in
       raw-number ∙ rw (← n, ← i) (le-num c s)
 
   -- the last byte is the mark alone
@@ -143,7 +145,26 @@ module _ (b : List ℕ) (k : ℕ) (h : Bytes b) (m : MarkedAt b k) where
       let x : getD b (k / 8) 0 ≡ 1 = omega arith in
       let p : 2 ^ k ≡ 256 ^ (k / 8) * 1 = raw-power ∙ rw z in
       let n : num (take (k / 8) b) ≡ num b - 2 ^ k = omega (arith, p, rw x at raw-split) in
-      raw-number ∙ rw (← n, ← i) (le-num _ (bytes-take _ b h))
+      raw-number ∙ rw (← n, ← i) (le-num (take (k / 8) b) (bytes-take (k / 8) b h))
+
+-- How much room the last byte needs
+pub raw-odd : (k : ℕ) → (k % 8 ≡ 0 → ⊥) → rawBytes k ≡ k / 8 + 1
+raw-odd k h = omega arith
+
+pub raw-single : (k : ℕ) → k / 8 ≡ 0 → rawBytes k ≡ k / 8 + 1
+raw-single k h = omega arith
+
+pub raw-room : (b : List ℕ) (k : ℕ) (o : List ℕ) (at : ℕ) → MarkedAt b k → Room o at (rawOf b k) → Room o at (take (k / 8) b)
+raw-room b k o at m g =
+    let l : length (take (k / 8) b) ≡ k / 8 = rw length-take (omega (arith, m .long)) in
+    record { room = omega (arith, length-raw b k, g .room) }
+
+pub raw-place :
+    (b : List ℕ) (k : ℕ) (o : List ℕ) (at r : ℕ) (o′ : List ℕ) → MarkedAt b k → Room o at (rawOf b k) → rawBytes k ≡ k / 8 + 1
+    → Stored o at (take (k / 8) b) r o′ → r < length o′
+raw-place b k o at r o′ m g e h =
+    let l : length (take (k / 8) b) ≡ k / 8 = rw length-take (omega (arith, m .long)) in
+    omega (arith, length-raw b k, g .room, h .ends, stored-length o at (take (k / 8) b) r o′ h)
 
 pub marked-at : (b : List ℕ) (limit k : ℕ) → Bytes b → bitListBody b limit ≡ BodyBits.Bits k → MarkedAt b k × (k ≤ limit)
 marked-at b limit k h e =
@@ -151,12 +172,14 @@ marked-at b limit k h e =
     let bs = bitsOf k (num b) in
     let l : length bs ≡ k = length-bitsOf k (num b) in
     let n = rw (l, q .0) at (num-marked bs) in
-    let s = rw l at (bitNum-bound bs) in
-    (record {
-      long = rw (l, q .0) at (length-marked bs);
-      from = omega arith;
-      to = omega arith;
-    }, q .1)
+    let s = rw l at (bitNum-bound bs) in (
+      record {
+        long = rw (l, q .0) at (length-marked bs);
+        from = omega arith;
+        to = omega arith;
+      },
+      q .1,
+    )
 
 -- The leaves, by their kind
 pub leaf-free : (t : ℕ) (n : Node) → n .kind ≡ 3 → leafOf t n ≡ freeBytes t (n .second)
@@ -185,3 +208,37 @@ leaf-plain t n b f h = go (n .kind) f h
 pub bits-refused : (t limit : ℕ) (b : List ℕ) (r : Refusal) → BodyBits.Refused r ≡ bitListBody b limit → Accepts (bitList t limit) b → ⊥
 unfolding readItem
 bits-refused t limit b r e g = rw (← e) at (g .accepted)
+
+-- A leaf's room and what is stored there, by its kind
+module _ (t : ℕ) (n : Node) (b o p : List ℕ) (at : Place) where
+  module _ (k : n .kind ≡ 3) where
+    pub free-rooms : Rooms o p at (unfoldWords (leafOf t n) b) (unfoldBytes (leafOf t n) b) → Rooms o p at (length b ∷ []) b
+    unfolding unfoldWords unfoldBytes
+    free-rooms g = rw (leaf-free t n k) at g
+
+    pub free-filled : (r : Place) (o′ p′ : List ℕ) → Filled o p at (length b ∷ []) b r o′ p′ → Filled o p at (unfoldWords (leafOf t n) b) (unfoldBytes (leafOf t n) b) r o′ p′
+    unfolding unfoldWords unfoldBytes
+    free-filled r o′ p′ g = rw (leaf-free t n k) g
+
+  module _ (k : n .kind ≡ 3 → ⊥) (h : n .kind < 5) where
+    pub plain-room : Rooms o p at (unfoldWords (leafOf t n) b) (unfoldBytes (leafOf t n) b) → Room p (at .byte) b
+    plain-room g = rw (leaf-plain t n b k h .1) at (g .bytes)
+
+    pub plain-filled : (r : ℕ) (p′ : List ℕ) → Stored p (at .byte) b r p′ → Filled o p at (unfoldWords (leafOf t n) b) (unfoldBytes (leafOf t n) b) (record { word = at .word; byte = r }) o p′
+    plain-filled r p′ g =
+        record {
+          words = stored-none o (at .word) (unfoldWords (leafOf t n) b) (leaf-plain t n b k h .0);
+          bytes = rw (leaf-plain t n b k h .1) g;
+        }
+
+  module _ (k : 5 ≤ n .kind) (c : ℕ) (e : BodyBits.Bits c ≡ bitListBody b (n .second)) where
+    pub bits-rooms : Rooms o p at (unfoldWords (leafOf t n) b) (unfoldBytes (leafOf t n) b) → Rooms o p at (c ∷ []) (rawOf b c)
+    unfolding unfoldWords unfoldBytes
+    bits-rooms g = rw (leaf-bits t n k, ← e) at g
+
+    pub bits-filled : (r : Place) (o′ p′ : List ℕ) → Filled o p at (c ∷ []) (rawOf b c) r o′ p′ → Filled o p at (unfoldWords (leafOf t n) b) (unfoldBytes (leafOf t n) b) r o′ p′
+    unfolding unfoldWords unfoldBytes
+    bits-filled r o′ p′ g = rw (leaf-bits t n k, ← e) g
+
+pub bits-never : {A : Type 0} (t : ℕ) (n : Node) (b : List ℕ) → 5 ≤ n .kind → (r : Refusal) → BodyBits.Refused r ≡ bitListBody b (n .second) → Accepts (leafOf t n) b → A
+bits-never t n b k r e g = absurd (bits-refused t (n .second) b r e (rw (leaf-bits t n k) at g))
