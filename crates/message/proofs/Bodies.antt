@@ -102,7 +102,7 @@ module _ (lens l : List ℕ) (t : ℕ) (n : Node) (e : n ≡ nodeOf l t) (g : Un
       record { under = under-below lens l (t + 1) t (omega arith) g; near = omega (arith, m .near, m .few k); lower = m .lower k }
 
   module _ (k : n .kind ≡ 6) (b : List ℕ) (s : ℕ) where
-    container-read : readItem (treeOf l t) b s ≡ built (layOut (headsOf l t (n .at + 2) (n .second)) b) t s (andThen (one 0 0) (readFields (rowOf l t (n .at + 2) (n .second)) b 0 s))
+    pub container-read : readItem (treeOf l t) b s ≡ built (layOut (headsOf l t (n .at + 2) (n .second)) b) t s (andThen (one 0 0) (readFields (rowOf l t (n .at + 2) (n .second)) b 0 s))
     unfolding readItem
     container-read = rw (as-container l t n e k)
 
@@ -192,24 +192,54 @@ body-option w len o e = go (eqb w 4294967295) (eqb len 1) refl e
     go true false p h = let z : _≡_ {A = ℕ} 0 1 = cc in absurd (omega arith)
     go false d p h = (cc, eqb-false _ _ p)
 
-body-says : (l : List ℕ) (a n : ℕ) (b : List ℕ) (o : ℕ) → choose l a n b ≡ Choice.Body o → (i : ℕ) × (i < n) × (o ≡ wordAt l (a + i)) × (wordAt l (a + i) ≡ 4294967295 → ⊥) × (1 ≤ length b)
-unfolding choose
-body-says l a n b o e = go (eqb (length b) 0) (leb (getD b 0 0) 127) (ltb (getD b 0 0) n) refl refl e
+-- the choice, by its three tests
+choice-by : List ℕ → ℕ → ℕ → List ℕ → Bool → Bool → Bool → Choice
+choice-by l a n b c d f =
+    pick c (Choice.Wrong (OutOfBoundsByte 0))
+    (pick d
+    (pick f (optionAt (wordAt l (a + getD b 0 0)) (length b)) (Choice.Wrong (UnionSelectorInvalid (getD b 0 0))))
+    (Choice.Wrong (UnionSelectorInvalid (getD b 0 0))))
+
+choose-by : (l : List ℕ) (a n : ℕ) (b : List ℕ) → choose l a n b ≡ choice-by l a n b (eqb (length b) 0) (leb (getD b 0 0) 127) (ltb (getD b 0 0) n)
+unfolding choose choice-by
+choose-by l a n b = go (eqb (length b) 0) (leb (getD b 0 0) 127)
   where
     x : ℕ
     x = getD b 0 0
 
-    go : (c d f : Bool) → eqb (length b) 0 ≡ c → ltb x n ≡ f → choiceOf (pick c (SelectorResult.Refused (OutOfBoundsByte 0)) (pick d (SelectorResult.Selector (record { 0 = x })) (SelectorResult.Refused (UnionSelectorInvalid x)))) l a n (length b) ≡ Choice.Body o → (i : ℕ) × (i < n) × (o ≡ wordAt l (a + i)) × (wordAt l (a + i) ≡ 4294967295 → ⊥) × (1 ≤ length b)
-    go true d f p q h = let z : _≡_ {A = ℕ} 0 1 = cc in absurd (omega arith)
-    go false false f p q h = let z : _≡_ {A = ℕ} 0 1 = cc in absurd (omega arith)
-    go false true true p q h =
-        let r = body-option (wordAt l (a + x)) (length b) o (rw q at h) in
-        let y : length b ≡ 0 → ⊥ = eqb-false _ _ p in
-        (x, ltb-true _ _ q, r .0, r .1, omega arith)
-    go false true false p q h =
-        let w : Choice.Wrong (UnionSelectorInvalid x) ≡ Choice.Body o = rw q at h in
-        let z : _≡_ {A = ℕ} 0 1 = cc in
-        absurd (omega arith)
+    go : (c d : Bool) → choiceOf (pick c (SelectorResult.Refused (OutOfBoundsByte 0)) (pick d (SelectorResult.Selector (record { 0 = x })) (SelectorResult.Refused (UnionSelectorInvalid x)))) l a n (length b) ≡ pick c (Choice.Wrong (OutOfBoundsByte 0)) (pick d (pick (ltb x n) (optionAt (wordAt l (a + x)) (length b)) (Choice.Wrong (UnionSelectorInvalid x))) (Choice.Wrong (UnionSelectorInvalid x)))
+    go true d = refl
+    go false true = refl
+    go false false = refl
+
+-- A choice that is no refusal comes from a word of the table, and there is a selector.
+right-choice : (l : List ℕ) (a n : ℕ) (b : List ℕ) (u : Choice) → ((r : Refusal) → Choice.Wrong r ≡ u → ⊥) → choose l a n b ≡ u → (getD b 0 0 < n) × (optionAt (wordAt l (a + getD b 0 0)) (length b) ≡ u) × (1 ≤ length b)
+unfolding choice-by
+right-choice l a n b u never e = go (eqb (length b) 0) (leb (getD b 0 0) 127) (ltb (getD b 0 0) n) refl refl (sym (choose-by l a n b) ∙ e)
+  where
+    go : (c d f : Bool) → eqb (length b) 0 ≡ c → ltb (getD b 0 0) n ≡ f → choice-by l a n b c d f ≡ u → (getD b 0 0 < n) × (optionAt (wordAt l (a + getD b 0 0)) (length b) ≡ u) × (1 ≤ length b)
+    go true d f p q h = absurd (never _ h)
+    go false false f p q h = absurd (never _ h)
+    go false true false p q h = absurd (never _ h)
+    go false true true p q h = let y : length b ≡ 0 → ⊥ = eqb-false _ _ p in (ltb-true _ _ q, h, omega arith)
+
+bare-option : (w len : ℕ) → optionAt w len ≡ Choice.Bare → w ≡ 4294967295
+bare-option w len e = go (eqb w 4294967295) refl e
+  where
+    go : (c : Bool) → eqb w 4294967295 ≡ c → pick c (pick (eqb len 1) Choice.Bare (Choice.Wrong (InvalidByteLength (len - 1) 0))) (Choice.Body w) ≡ Choice.Bare → w ≡ 4294967295
+    go true p h = eqb-true _ _ p
+    go false p h = let z : _≡_ {A = ℕ} 0 1 = cc in absurd (omega arith)
+
+pub bare-says : (l : List ℕ) (a n : ℕ) (b : List ℕ) → choose l a n b ≡ Choice.Bare → (getD b 0 0 < n) × (wordAt l (a + getD b 0 0) ≡ 4294967295)
+bare-says l a n b e =
+    let q = right-choice l a n b Choice.Bare (λ r h. let z : _≡_ {A = ℕ} 0 1 = cc in omega arith) e in
+    (q .0, bare-option _ (length b) (q .1))
+
+pub body-says : (l : List ℕ) (a n : ℕ) (b : List ℕ) (o : ℕ) → choose l a n b ≡ Choice.Body o → (getD b 0 0 < n) × (o ≡ wordAt l (a + getD b 0 0)) × (wordAt l (a + getD b 0 0) ≡ 4294967295 → ⊥) × (1 ≤ length b)
+body-says l a n b o e =
+    let q = right-choice l a n b (Choice.Body o) (λ r h. let z : _≡_ {A = ℕ} 0 1 = cc in omega arith) e in
+    let r = body-option (wordAt l (a + getD b 0 0)) (length b) o (q .1) in
+    (q .0, r .0, r .1, q .2)
 
 pub split-some : (b : List ℕ) (k : UnionSelector) → splitUnion b ≡ SelectorResult.Selector k → 1 ≤ length b
 split-some b k e = go (eqb (length b) 0) refl e
@@ -237,7 +267,7 @@ module _ (lens l : List ℕ) (t : ℕ) (n : Node) (e : n ≡ nodeOf l t) (g : Un
     body-below =
         let p = body-says l (n .at + 2) (n .second) b o (sym q) in
         let m = node-ok lens l t n e g in
-        (rw (p .2) (m .optional k (p .0) (p .1) (p .3)), p .4)
+        (rw (p .1) (m .optional k (getD b 0 0) (p .0) (p .2)), p .3)
 
     pub body-read : (s : ℕ) → andThen (one 1 0) (readItem (treeOf l o) (take (length b - 1) (drop 1 b)) (s + 1)) ≡ readItem (treeOf l t) b s
     unfolding chosen

@@ -4,5 +4,6 @@ pub mod Bounds
 pub mod Rows
 pub mod Bodies
 pub mod Records
+pub mod Entries
 pub mod Theorem
 pub mod Cases

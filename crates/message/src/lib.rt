@@ -59,13 +59,7 @@ pub fn check(layout: &[u8], message: &[u8]) -> Answer
 }
 
 // Stores the listing of a message that was checked, where there is room for it.
-fn list_under(
-    records: &mut [u8],
-    lens: &[usize],
-    layout: &[u8],
-    n: usize,
-    message: &[u8],
-) -> Listed
+fn list_under(records: &mut [u8], lens: &[usize], layout: &[u8], n: usize, message: &[u8]) -> Listed
     requires { ⌜ Under (now lens) (now layout) n × (1 ≤ n) ⌝ }
     ensures { λ r. ⌜ r ≡ listedOf (underTable (Upto n) (now (layout .entry)) (now (message .entry))) (now (records .entry)) ⌝ }
     ensures { λ _. ⌜ now (records .exit) ≡ recordsOf (underTable (Upto n) (now (layout .entry)) (now (message .entry))) (messageType (now (layout .entry)) n) (now (message .entry)) (now (records .entry)) ⌝ }

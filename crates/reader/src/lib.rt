@@ -74,3 +74,11 @@ pub fn decode_next<'a>(r: SszReader<'a>) -> Taken<'a>
         },
     }
 }
+
+// The item behind so many, by a reader. Its parameters are plain, so whoever calls it needs no walk.
+pub fn item_after<'a>(bytes: &'a [u8], ranges: SszDecoder, skip: usize) -> &'a [u8]
+    ensures { λ r. ⌜ now r ≡ itemOf ranges skip (now (bytes .entry)) ⌝ }
+{
+    let taken = decode_next(new(bytes, ranges, skip));
+    taken.item
+}
