@@ -48,4 +48,6 @@ fn main() {
     println!("cargo:rerun-if-changed={}", file.display());
     println!("cargo:rustc-link-search=native={}", folder.display());
     println!("cargo:rustc-link-lib=static=cartwhisker");
+    // For the test that links the archive from C.
+    println!("cargo:rustc-env=CARTWHISKER_ARCHIVE={}", file.display());
 }

@@ -137,23 +137,40 @@ pub fn check_layout(layout: &[u8]) -> Result<(), Refusal> {
     check(layout, &[]).or_else(|refusal| if refusal.number == 20 { Err(refusal) } else { Ok(()) })
 }
 
-/// Records that are tried for on the stack before any are counted.
-const GUESS: usize = 64;
 /// No type has this number, so a record that still has it was not written.
 const UNWRITTEN: [u8; 4] = [0xff; 4];
 
 /// The message's items in preorder: the whole message first, a container's fields behind it in
 /// their order, a union's body behind the union.
 pub fn listing(layout: &[u8], message: &[u8]) -> Result<Vec<Record>, Refusal> {
-    // A success keeps what is behind its records. So one call on a buffer of marks gives the
-    // records and their count, and only a longer listing has to be counted first.
-    let mut guess = [UNWRITTEN[0]; GUESS * RECORD_BYTES];
+    // Mostly there are no more items than words in the table, so a small table gets a small buffer.
+    if layout.len() <= 64 {
+        listing_by_guess::<{ 16 * RECORD_BYTES }>(layout, message)
+    } else {
+        listing_by_guess::<{ 64 * RECORD_BYTES }>(layout, message)
+    }
+}
+
+/// Tries with `ROOM` bytes on the stack before any records are counted.
+///
+/// A success keeps what is behind its records. So one call on a buffer of marks gives the records
+/// and their count, and only a longer listing has to be counted first.
+fn listing_by_guess<const ROOM: usize>(
+    layout: &[u8],
+    message: &[u8],
+) -> Result<Vec<Record>, Refusal> {
+    let mut guess = [UNWRITTEN[0]; ROOM];
     match calls::list(layout, message, &mut guess, Which::Number) {
         0 => Ok(written(&guess)),
         22 => {
             let count = calls::list(layout, message, &mut [], Which::A) as usize;
             let mut records = vec![UNWRITTEN[0]; count * RECORD_BYTES];
-            list_into(layout, message, &mut records).map(|_| written(&records))
+            match calls::list(layout, message, &mut records, Which::Number) {
+                0 => Ok(written(&records)),
+                number => {
+                    Err(refusal(number, |which| calls::list(layout, message, &mut records, which)))
+                }
+            }
         }
         number => Err(refusal(number, |which| calls::list(layout, message, &mut guess, which))),
     }

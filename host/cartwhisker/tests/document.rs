@@ -155,12 +155,29 @@ fn a_listing_longer_than_the_guess_is_counted_first() {
     assert_eq!(records[0], Record::new(layout.message().unwrap(), 0, 4096));
     assert_eq!(records[66], Record::new(row, 64, 128));
     assert_eq!(records[4160], Record::new(byte, 4095, 4096));
-    for count in [62, 63, 64] {
+    for count in 1..=64 {
         let mut layout = Layout::new();
         let byte = layout.number(1);
         layout.container(vec![byte; count]);
         assert_eq!(listing(&layout.bytes(), &message[..count]).unwrap().len(), count + 1);
     }
+    // A small table with more items than words.
+    let mut layout = Layout::new();
+    let mut of = layout.number(1);
+    for _ in 0..3 {
+        of = layout.container([of, of, of]);
+    }
+    assert_eq!(layout.words().len(), 22);
+    let records = listing(&layout.bytes(), &message[..27]).unwrap();
+    assert_eq!(records.len(), 1 + 3 + 9 + 27);
+    let mut layout = Layout::new();
+    let mut of = layout.number(1);
+    for _ in 0..2 {
+        of = layout.container([of; 4]);
+    }
+    assert_eq!(layout.words().len(), 18);
+    let records = listing(&layout.bytes(), &message[..16]).unwrap();
+    assert_eq!(records.len(), 1 + 4 + 16);
 }
 
 #[test]

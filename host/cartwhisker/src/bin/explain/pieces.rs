@@ -172,6 +172,13 @@ impl Walk<'_> {
                 self.picture.advice.push(last);
                 (self.described(of), whole.end - 1..whole.end)
             }
+            (Kind::BitList(_), 11) => {
+                let least =
+                    "A bit list has at least one byte: its last one holds the set bit that \
+                             stands behind its last bit.";
+                self.picture.advice.push(least.to_string());
+                (format!("{}, without bytes", self.described(of)), whole)
+            }
             _ => (self.described(of), whole),
         };
         let look = if matches!(kind, Kind::Union(_)) { Look::Selector } else { Look::Leaf };
