@@ -206,7 +206,9 @@ fn compare_messages(arguments: &[String]) -> Result<(), String> {
             _ => return Err(format!("unknown option {name}")),
         }
     }
-    match messages::run(options) {
+    let report = messages::compared(options);
+    println!("{report}");
+    match report.differences() {
         0 => Ok(()),
         _ => Err("ours and the crate differ".to_string()),
     }

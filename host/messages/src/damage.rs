@@ -75,15 +75,11 @@ pub fn of(layout: &Layout, valid: &[u8], rng: &mut Rng, take: &mut dyn FnMut(&[u
     for _ in 0..8 {
         let length = rng.below(valid.len() as u64 + 8) as usize;
         take(&rng.bytes(length));
-        // Small numbers, which are offsets that may well be right.
-        let small: Vec<u8> =
-            (0..length).map(|_| rng.pick(&[0, 0, 0, 1, 2, 4, 8, rng_small(length)])).collect();
+        // Small numbers: now and then they make offsets that are right.
+        let few = [0, 0, 0, 1, 2, 4, 8, length.min(255) as u8];
+        let small: Vec<u8> = (0..length).map(|_| rng.pick(&few)).collect();
         take(&small);
     }
-}
-
-fn rng_small(length: usize) -> u8 {
-    length.min(255) as u8
 }
 
 /// All places below the length, or some of them.

@@ -13,12 +13,13 @@ mod report;
 #[allow(dead_code)]
 mod rng;
 mod shapes;
-#[cfg(test)]
-mod tests;
 mod types;
 mod watch;
 
-use report::Report;
+pub use answers::numbers;
+pub use report::Report;
+
+use cartwhisker::Layout;
 use rng::Rng;
 use types::Subject;
 
@@ -40,8 +41,13 @@ impl Default for Options {
     }
 }
 
-/// Compares, prints what was found, and gives the number of differences.
-pub fn run(options: Options) -> u64 {
+/// The names of the types that are compared, and their tables.
+pub fn subjects() -> Vec<(&'static str, Layout)> {
+    types::all().into_iter().map(|subject| (subject.name, subject.layout)).collect()
+}
+
+/// Compares: every short string, then random values and what is made of them.
+pub fn compared(options: Options) -> Report {
     let subjects = types::all();
     let longest = |subject: &Subject| {
         if subject.short {
@@ -62,12 +68,11 @@ pub fn run(options: Options) -> u64 {
         for subject in &subjects {
             random(subject, &mut rng, &mut report);
         }
-        for _ in 0..4 {
+        for _ in 0..subjects.len() {
             random(&random_tables::subject(&mut rng), &mut rng, &mut report);
         }
     }
-    println!("{report}");
-    report.differences()
+    report
 }
 
 /// Every string of at most `longest` bytes.

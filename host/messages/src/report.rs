@@ -4,15 +4,29 @@ use crate::answers::{expected, Known};
 use crate::types::Subject;
 use crate::watch::Notes;
 use cartwhisker::{check, list_into, listing, Record, Refusal, RECORD_BYTES};
-use std::collections::BTreeMap;
+use std::collections::btree_map::{BTreeMap, Entry};
 use std::fmt;
 use std::time::{Duration, Instant};
 
-/// A difference, with the smallest message that shows it.
-struct Difference {
+/// Something that was seen so many times, with the shortest message that shows it.
+struct Seen {
     count: u64,
     message: Vec<u8>,
     told: String,
+}
+
+impl Seen {
+    fn first(message: &[u8], told: String) -> Self {
+        Self { count: 1, message: message.to_vec(), told }
+    }
+
+    /// Once more; the text is asked for only if the message is the shortest so far.
+    fn again(&mut self, message: &[u8], told: impl FnOnce() -> String) {
+        self.count += 1;
+        if message.len() < self.message.len() {
+            (self.message, self.told) = (message.to_vec(), told());
+        }
+    }
 }
 
 #[derive(Default)]
@@ -26,9 +40,9 @@ pub struct Report {
     goal: u64,
     count: u64,
     tallies: Vec<(&'static str, Tally)>,
-    known: BTreeMap<Known, (u64, &'static str, Vec<u8>)>,
+    known: BTreeMap<Known, Seen>,
     /// By the subject's name and the two numbers.
-    differences: BTreeMap<(&'static str, u32, u32), Difference>,
+    differences: BTreeMap<(&'static str, u32, u32), Seen>,
     notes: Notes,
     buffer: Vec<u8>,
     begun: Instant,
@@ -94,10 +108,10 @@ impl Report {
         };
         self.add(subject.name, number(&expected.answer));
         if let Some(known) = expected.known {
-            let seen = self.known.entry(known).or_insert((0, subject.name, message.to_vec()));
-            seen.0 += 1;
-            if message.len() < seen.2.len() {
-                (seen.1, seen.2) = (subject.name, message.to_vec());
+            let told = || format!("{}, table {:?}", subject.name, subject.layout.words());
+            match self.known.entry(known) {
+                Entry::Occupied(mut seen) => seen.get_mut().again(message, told),
+                Entry::Vacant(none) => drop(none.insert(Seen::first(message, told()))),
             }
         }
         if ours != expected.answer {
@@ -111,11 +125,11 @@ impl Report {
     fn ours(&mut self, subject: &Subject, message: &[u8]) -> Result<Vec<Record>, Refusal> {
         let checked = check(&subject.table, message);
         let listed = listing(&subject.table, message);
-        if listed.as_ref().map(|_| ()) != checked.as_ref().map(|_| ()).map_err(|refusal| refusal) {
+        if listed.as_ref().map(|_| ()) != checked.as_ref().map(|_| ()) {
             let told = format!("check says {checked:?}, listing {listed:?}");
             self.differ(subject, message, u32::MAX, u32::MAX, told);
         }
-        if self.count % 64 == 0 {
+        if self.count.is_multiple_of(64) {
             if let Err(told) = self.rooms(subject, message, &listed) {
                 self.differ(subject, message, u32::MAX, u32::MAX, told);
             }
@@ -172,7 +186,7 @@ impl Report {
         tally.cases += 1;
         *tally.numbers.entry(number).or_default() += 1;
         self.count += 1;
-        if self.count % LOOK == 0 {
+        if self.count.is_multiple_of(LOOK) {
             self.progress();
         }
     }
@@ -192,13 +206,10 @@ impl Report {
     }
 
     fn differ(&mut self, subject: &Subject, message: &[u8], theirs: u32, ours: u32, told: String) {
-        let entry = self.differences.entry((subject.name, theirs, ours));
         let told = format!("{told}, table {:?}", subject.layout.words());
-        let kept =
-            entry.or_insert(Difference { count: 0, message: message.to_vec(), told: told.clone() });
-        kept.count += 1;
-        if message.len() < kept.message.len() {
-            (kept.message, kept.told) = (message.to_vec(), told);
+        match self.differences.entry((subject.name, theirs, ours)) {
+            Entry::Occupied(mut seen) => seen.get_mut().again(message, || told),
+            Entry::Vacant(none) => drop(none.insert(Seen::first(message, told))),
         }
     }
 }
@@ -234,18 +245,16 @@ impl fmt::Display for Report {
             writeln!(out, "{name:34}{:>11}{accepted:>11}  {refused}", tally.cases)?;
         }
         writeln!(out, "refusals by number: {}", listed(&self.reached()))?;
-        for (known, (count, name, message)) in &self.known {
-            writeln!(out, "known: {}", known.told())?;
-            writeln!(out, "  {count} times; the shortest, {name}: {}", hex(message))?;
+        for (known, seen) in &self.known {
+            writeln!(out, "known difference, {} times: {}", seen.count, known.told())?;
+            writeln!(out, "  the shortest message: {}, {}", hex(&seen.message), seen.told)?;
         }
-        for ((name, _, _), difference) in self.differences.iter().take(SHOWN) {
-            writeln!(
-                out,
-                "DIFFERS {} times: {name}: {}",
-                difference.count,
-                hex(&difference.message)
-            )?;
-            writeln!(out, "  {}", difference.told)?;
+        // The shortest message first: it is the one to look at.
+        let mut found: Vec<_> = self.differences.iter().collect();
+        found.sort_by_key(|(_, seen)| seen.message.len());
+        for ((name, _, _), seen) in found.into_iter().take(SHOWN) {
+            writeln!(out, "DIFFERS {} times: {name}: {}", seen.count, hex(&seen.message))?;
+            writeln!(out, "  {}", seen.told)?;
         }
         if self.differences.len() > SHOWN {
             writeln!(out, "and {} more kinds of difference", self.differences.len() - SHOWN)?;

@@ -153,7 +153,7 @@ tuples!((A B) (A B C) (A B C D) (A B C D E) (A B C D E F) (A B C D E F G H));
 
 /// A type that the crate decodes as `$inner` and that has a table entry of its own.
 macro_rules! decoded_as {
-    ($(#[$meta:meta])* [$($generics:tt)*] $name:ty => $inner:ty, $value:ident) => {
+    ([$($generics:tt)*] $name:ty => $inner:ty) => {
         impl<$($generics)*> Decode for $name {
             fn is_ssz_fixed_len() -> bool {
                 <$inner as Decode>::is_ssz_fixed_len()
@@ -191,7 +191,7 @@ macro_rules! decoded_as {
 /// Free bytes with a limit. The crate has none, so it takes what is longer.
 pub struct Limited<const LIMIT: u32>(pub Vec<u8>);
 
-decoded_as!([const LIMIT: u32] Limited<LIMIT> => Vec<u8>, value);
+decoded_as!([const LIMIT: u32] Limited<LIMIT> => Vec<u8>);
 
 impl<const LIMIT: u32> Shape for Limited<LIMIT> {
     fn piece(pieces: &mut Pieces) -> Type {
@@ -206,7 +206,7 @@ impl<const LIMIT: u32> Shape for Limited<LIMIT> {
 /// A number of 32 bytes.
 pub struct Wide(pub [u8; 32]);
 
-decoded_as!([] Wide => [u8; 32], value);
+decoded_as!([] Wide => [u8; 32]);
 
 impl Shape for Wide {
     fn piece(pieces: &mut Pieces) -> Type {
@@ -219,7 +219,6 @@ impl Shape for Wide {
 }
 
 /// A struct that is decoded by the crate's builder and its decoder, as the crate's derive does it.
-#[macro_export]
 macro_rules! container {
     ($(struct $name:ident $(<$($G:ident),+>)? { $($field:ident: $of:ty),+ $(,)? })*) => { $(
         pub struct $name $(<$($G),+>)? { $(pub $field: $of),+ }
@@ -289,7 +288,6 @@ macro_rules! container {
 /// An enum that is decoded by the crate's `split_union_bytes`. Its options are numbered by their
 /// selectors, from 0 on; an option without a type has no body, and is read as the crate's `Option`
 /// reads `None`.
-#[macro_export]
 macro_rules! union {
     ($(enum $name:ident { $($selector:literal => $option:ident $(($of:ty))?),+ $(,)? })*) => { $(
         pub enum $name { $($option $(($of))?),+ }
@@ -302,7 +300,7 @@ macro_rules! union {
             fn from_ssz_bytes(bytes: &[u8]) -> Result<Self, ssz::DecodeError> {
                 let (selector, body) = ssz::split_union_bytes(bytes)?;
                 match u8::from(selector) {
-                    $($selector => $crate::union!(@read $name $option body $($of)?),)+
+                    $($selector => union!(@read $name $option body $($of)?),)+
                     other => Err(ssz::DecodeError::UnionSelectorInvalid(other)),
                 }
             }
@@ -314,36 +312,30 @@ macro_rules! union {
             }
 
             fn ssz_bytes_len(&self) -> usize {
-                self.as_ssz_bytes_counted()
+                let mut buffer = Vec::new();
+                self.ssz_append(&mut buffer);
+                buffer.len()
             }
 
             fn ssz_append(&self, buffer: &mut Vec<u8>) {
                 match self {
-                    $($crate::union!(@bind $name $option value $($of)?) => {
+                    $(union!(@bind $name $option value $($of)?) => {
                         buffer.push($selector);
-                        $crate::union!(@write buffer value $($of)?);
+                        union!(@write buffer value $($of)?);
                     })+
                 }
             }
         }
 
-        impl $name {
-            fn as_ssz_bytes_counted(&self) -> usize {
-                let mut buffer = Vec::new();
-                self.ssz_append(&mut buffer);
-                buffer.len()
-            }
-        }
-
         impl $crate::shapes::Shape for $name {
             fn piece(pieces: &mut $crate::shapes::Pieces) -> cartwhisker::Type {
-                let options = [$($crate::union!(@piece pieces $($of)?)),+];
+                let options = [$(union!(@piece pieces $($of)?)),+];
                 pieces.layout.union(options)
             }
 
             fn random(rng: &mut $crate::rng::Rng) -> Self {
                 let options: &[fn(&mut $crate::rng::Rng) -> Self] =
-                    &[$($crate::union!(@random $name $option $($of)?)),+];
+                    &[$(union!(@random $name $option $($of)?)),+];
                 rng.pick(options)(rng)
             }
         }
@@ -369,3 +361,5 @@ macro_rules! union {
     };
     (@random $name:ident $option:ident) => { |_| $name::$option };
 }
+
+pub(crate) use {container, union};

@@ -1,9 +1,8 @@
 //! The types that are compared.
 
 use crate::rng::Rng;
-use crate::shapes::{Limited, Pieces, Shape, Wide};
+use crate::shapes::{container, union, Limited, Pieces, Shape, Wide};
 use crate::watch::{notes_of, watched, At, Note, Notes, Tag};
-use crate::{container, union};
 use cartwhisker::Layout;
 use ssz::{BitList, BitVector, Decode, DecodeError, Encode, SszDecoderBuilder, SszEncoder};
 use std::any::TypeId;

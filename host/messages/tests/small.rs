@@ -1,23 +1,12 @@
 //! A small run, and the crate's errors in numbers.
 
-use super::*;
-use crate::answers::numbers;
+use messages::{compared, numbers, subjects, Options};
 use ssz::{BitList, BitVector, Decode};
 use typenum::{U4, U9};
 
 #[test]
 fn a_small_run_reaches_every_refusal_and_finds_no_difference() {
-    let mut report = Report::new(0);
-    let mut rng = Rng::new(7);
-    for subject in &types::all() {
-        exhaustive(subject, 1, &mut report);
-        for _ in 0..3 {
-            random(subject, &mut rng, &mut report);
-        }
-    }
-    for _ in 0..300 {
-        random(&random_tables::subject(&mut rng), &mut rng, &mut report);
-    }
+    let report = compared(Options { seed: 7, count: 100_000, depth: 1, short: 1 });
     println!("{report}");
     assert_eq!(report.differences(), 0);
     for number in 0..=14 {
@@ -26,14 +15,21 @@ fn a_small_run_reaches_every_refusal_and_finds_no_difference() {
 }
 
 #[test]
+fn a_seed_says_what_is_asked() {
+    let reached = |seed| compared(Options { seed, count: 20_000, depth: 0, short: 0 }).reached();
+    assert_eq!(reached(1), reached(1));
+    assert_ne!(reached(1), reached(2));
+}
+
+#[test]
 fn at_least_twenty_types_each_with_a_legal_table() {
-    let subjects = types::all();
+    let subjects = subjects();
     assert!(subjects.len() >= 20);
-    for subject in &subjects {
-        assert_eq!(subject.layout.check(), Ok(()), "{}", subject.name);
+    for (name, layout) in &subjects {
+        assert_eq!(layout.check(), Ok(()), "{name}");
     }
-    let deepest = subjects.iter().map(|subject| subject.layout.kinds().len()).max();
-    assert_eq!(deepest, Some(64));
+    let most = subjects.iter().map(|(_, layout)| layout.kinds().len()).max();
+    assert_eq!(most, Some(64));
 }
 
 #[test]
