@@ -260,12 +260,13 @@ mod tests {
     }
 
     #[test]
-    fn both_sides_refuse_a_cut_message() {
+    fn both_sides_say_the_same_of_a_cut_message() {
         for mut case in cases() {
-            // Free bytes are never too short.
-            if case.name != "1 MiB of free bytes" {
-                case.message = case.message[..case.message.len() / 2].to_vec();
-                assert!(!case.once(Side::Crate) && !case.once(Side::Check), "{}", case.name);
+            let whole = case.message.len();
+            for length in [whole - 1, whole / 2, 1, 0] {
+                case.message.truncate(length);
+                let told = SIDES.map(|(side, _)| case.once(side));
+                assert!(told.iter().all(|taken| *taken == told[0]), "{} at {length}", case.name);
             }
         }
     }
