@@ -5,6 +5,7 @@
 //! types report each slice that it hands to them (`watch`).
 
 mod answers;
+mod cases;
 mod damage;
 mod random_tables;
 mod report;
@@ -17,6 +18,7 @@ mod types;
 mod watch;
 
 pub use answers::numbers;
+pub use cases::write as write_cases;
 pub use report::Report;
 
 use cartwhisker::Layout;
