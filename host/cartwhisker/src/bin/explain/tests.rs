@@ -211,3 +211,107 @@ fn bad_tables() {
             .contains("type 3   container of 3 fields: types 0 1 2, variable  <- the message")
     );
 }
+
+/// Numbers without a visible pattern.
+struct Random(u64);
+
+impl Random {
+    fn below(&mut self, bound: usize) -> usize {
+        self.0 = self.0.wrapping_mul(6_364_136_223_846_793_005).wrapping_add(1);
+        (self.0 >> 33) as usize % bound
+    }
+
+    fn layout(&mut self) -> Layout {
+        let mut layout = Layout::new();
+        for number in 0..=self.below(7) {
+            let lower = |random: &mut Random| {
+                cartwhisker::Type::from_number(random.below(number.max(1)) as u32)
+            };
+            match self.below(if number == 0 { 6 } else { 10 }) {
+                0 => layout.number(1 << self.below(6)),
+                1 => layout.boolean(),
+                2 => layout.fixed_bytes(1 + self.below(4) as u32),
+                3 => layout.free_bytes(self.below(5) as u32),
+                4 => layout.bit_vector(1 + self.below(20) as u32),
+                5 => layout.bit_list(self.below(20) as u32),
+                6 | 7 => {
+                    let fields: Vec<_> = (0..=self.below(4)).map(|_| lower(self)).collect();
+                    layout.container(fields)
+                }
+                _ => {
+                    let option = |random: &mut Random| (random.below(4) > 0).then(|| lower(random));
+                    let options: Vec<_> = (0..=self.below(3)).map(|_| option(self)).collect();
+                    layout.union(options)
+                }
+            };
+        }
+        layout
+    }
+
+    /// Bytes that are right now and then: what is needed for a refusal to lie deep inside.
+    fn message(&mut self, layout: &Layout, of: cartwhisker::Type, output: &mut Vec<u8>) {
+        match layout.kind(of).unwrap().clone() {
+            cartwhisker::Kind::Container(fields) => {
+                let start = output.len();
+                let mut offsets = Vec::new();
+                for field in &fields {
+                    if layout.fixed_length(*field).is_some() {
+                        self.message(layout, *field, output);
+                    } else {
+                        offsets.push((output.len(), *field));
+                        output.extend([0; 4]);
+                    }
+                }
+                for (at, field) in offsets {
+                    let slip = self.below(50).saturating_sub(47);
+                    let offset = (output.len() - start + slip).saturating_sub(slip / 2 * 3) as u32;
+                    output[at..at + 4].copy_from_slice(&offset.to_le_bytes());
+                    self.message(layout, field, output);
+                }
+            }
+            cartwhisker::Kind::Union(options) => {
+                let one_more = self.below(9) / 8;
+                let selector = self.below(options.len() + one_more);
+                output.push(selector as u8);
+                if let Some(Some(body)) = options.get(selector) {
+                    self.message(layout, *body, output);
+                }
+            }
+            cartwhisker::Kind::Boolean => output.push((self.below(40) / 13) as u8),
+            _ => {
+                let length =
+                    layout.fixed_length(of).map_or(self.below(4), |length| length as usize);
+                for _ in 0..length {
+                    let byte = self.below(256);
+                    output.push((byte >> self.below(5)) as u8);
+                }
+            }
+        }
+    }
+}
+
+/// Whatever the table and the bytes are: a picture, each byte in it once, and a mark on a refusal.
+#[test]
+fn any_message_has_a_picture() {
+    let mut random = Random(1);
+    let mut numbers = std::collections::BTreeSet::new();
+    for _ in 0..20_000 {
+        let layout = random.layout();
+        let mut message = Vec::new();
+        random.message(&layout, layout.message().unwrap(), &mut message);
+        if random.below(3) == 0 {
+            message.truncate(random.below(message.len() + 1));
+        }
+        let picture = pieces::of(&layout, &message);
+        let mut seen = vec![0; message.len()];
+        for piece in &picture.pieces {
+            seen[piece.bytes.clone()].iter_mut().for_each(|count| *count += 1);
+        }
+        assert!(seen.iter().all(|count| *count == 1), "{:?} {message:?}", layout.words());
+        let told = listing(&layout.bytes(), &message);
+        assert_eq!(told.is_err(), picture.mark.is_some());
+        numbers.insert(told.err().map_or(0, |refusal| refusal.number));
+        explain(&layout.bytes(), Some(&message), true);
+    }
+    assert_eq!(numbers.into_iter().collect::<Vec<u32>>(), (0..=14).collect::<Vec<u32>>());
+}
