@@ -38,8 +38,14 @@ pub fn svg(figures: &[(usize, [f64; 3])]) -> String {
             duration(power)
         );
     }
+    let mut free = f64::MIN;
     for (length, _) in figures {
         let at = x(*length as f64);
+        // The shortest messages lie close together.
+        if at < free {
+            continue;
+        }
+        free = at + 26.0;
         text += &format!(
             "<text x=\"{at:.1}\" y=\"{:.1}\" text-anchor=\"middle\" font-size=\"10\">{}</text>\n",
             HEIGHT - BOTTOM + 18.0,
