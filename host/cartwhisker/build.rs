@@ -5,6 +5,7 @@ use std::path::{Path, PathBuf};
 use std::process::exit;
 
 const NAMED: &str = "CARTWHISKER_LIB";
+const FILE: &str = "libcartwhisker.a";
 const BUILT: &str = "../../target/staticlib/libcartwhisker.a";
 
 /// The archive that `CARTWHISKER_LIB` names (the file, or the folder that holds it), or else the
@@ -15,11 +16,15 @@ fn archive(here: &Path) -> Result<PathBuf, String> {
         return if built.is_file() { Ok(built) } else { Err(unbuilt(&built)) };
     };
     let named = PathBuf::from(named);
-    let file = if named.is_dir() { named.join("libcartwhisker.a") } else { named };
-    if file.is_file() {
+    let file = if named.is_dir() { named.join(FILE) } else { named };
+    if !file.is_file() {
+        return Err(format!("{NAMED} names no archive: there is no file {}", file.display()));
+    }
+    // The linker looks for it by this name.
+    if file.file_name().is_some_and(|name| name == FILE) {
         Ok(file)
     } else {
-        Err(format!("{NAMED} names no archive: there is no file {}", file.display()))
+        Err(format!("{NAMED} must name a {FILE} or its folder, and not {}", file.display()))
     }
 }
 
