@@ -1,5 +1,5 @@
 -- 23 is given just to a state that no run reaches: no other refusal of the builder has that number. Assumes nothing.
-use mathlib.Core.Path.{_≡_, refl, sym, ap, _∙_}
+use mathlib.Core.Path.{_≡_, refl, ap}
 use mathlib.Core.Logic.{_↔_}
 use mathlib.Core.List.{List}
 use mathlib.Core.Bool.{Bool, true, false}
@@ -19,8 +19,8 @@ use Rattle.standard.specs.declared.Refusal.{Refusal}
 use Rattle.standard.specs.declared.Refusal.the-variants.{InvalidByteLength, InvalidLengthPrefix, OffsetIntoFixedPortion, OffsetSkipsVariableBytes, OffsetsAreDecreasing, OffsetOutOfBounds, OverLimit, TooLarge, BadState, BuilderFull}
 use Rattle.decode.specs.Offsets.{sanitizeOffset}
 use Rattle.decode.specs.Builder.{behindOffset, step, buildAt, build}
-use Rattle.decode.specs.Held.{Run, recalled, old, taken, allowed, known, registerItem}
-use Rattle.decode.specs.Reader.{notBuilt, builtAs, closable, buildKnown, buildItems}
+use Rattle.decode.specs.Held.{Run, recalled, old, taken, allowed, registerItem}
+use Rattle.decode.specs.Reader.{notBuilt, builtAs, closable, buildItems}
 use Rattle.decode.specs.declared.OffsetResult.{OffsetResult}
 use Rattle.decode.specs.declared.builder.Progress.{Progress}
 use Rattle.decode.specs.declared.builder.Step.{Step}
@@ -47,7 +47,8 @@ fair-pick true u v h k = h
 fair-pick false u v h k = k
 
 -- The rules of reading and of building.
-tests-sound : (c d : Bool) (o : ℕ) (p : Progress) → Sound (behindOffset (pick c (OffsetResult.Refused (OffsetOutOfBounds o)) (pick d (OffsetResult.Refused (OffsetsAreDecreasing o)) (OffsetResult.Offset o))) p)
+tests-sound : (c d : Bool) (o : ℕ) (p : Progress)
+    → Sound (behindOffset (pick c (OffsetResult.Refused (OffsetOutOfBounds o)) (pick d (OffsetResult.Refused (OffsetsAreDecreasing o)) (OffsetResult.Offset o))) p)
 tests-sound true d o p = omega arith
 tests-sound false true o p = omega arith
 tests-sound false false o p = tt
@@ -95,12 +96,11 @@ not-fair : (t : Told) → Fair t → t ≡ Told.Refused BadState → ⊥
 not-fair t k e = (rw e at k) refl
 
 -- No run over the bytes reaches the state.
-pub NoRun : List ℕ → SszDecoderBuilder → Type 0
+abbrev pub NoRun : List ℕ → SszDecoderBuilder → Type 0
 NoRun b x = (p : Progress) → Run b p x → ⊥
 
 module _ (b : List ℕ) (x : SszDecoderBuilder) (l : Long x) where
   unreached : NoRun b x → (r : Refusal) × (recalled x b ≡ Step.Refused r)
-  unfolding NoRun
   unreached none-runs = go (recalled x b) refl
     where
       go : (s : Step) → recalled x b ≡ s → (r : Refusal) × (recalled x b ≡ Step.Refused r)
@@ -108,7 +108,7 @@ module _ (b : List ℕ) (x : SszDecoderBuilder) (l : Long x) where
       go (Step.Refused r) q = (r, q)
 
   pub register-bad-iff : (h : Head) → (registerItem h b x ≡ old x BadState) ↔ NoRun b x
-  unfolding registerItem NoRun
+  unfolding registerItem
   register-bad-iff h = (
     λ e p r.
         let k = rw (reached-iff b p x l .1 r) at e in
@@ -117,7 +117,7 @@ module _ (b : List ℕ) (x : SszDecoderBuilder) (l : Long x) where
   )
 
   pub build-bad-iff : (buildItems b x ≡ notBuilt BadState) ↔ NoRun b x
-  unfolding buildItems NoRun
+  unfolding buildItems
   build-bad-iff = (
     λ e p r.
         let k = rw (reached-iff b p x l .1 r) at e in

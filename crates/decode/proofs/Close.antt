@@ -1,7 +1,7 @@
 -- The ends of the variable items, closed from the back. Assumes nothing.
-use mathlib.Core.Path.{_≡_, refl, sym, ap, _∙_}
+use mathlib.Core.Path.{_≡_, sym, _∙_}
 use mathlib.Core.List.{List, [], _∷_, _++_, append-assoc}
-use Prim.Native.Nat.{ℕ, zero, suc, _+_, _-_, _≤_, _<_}
+use Prim.Native.Nat.{ℕ, zero, suc, _-_, _≤_, _<_}
 use native.Mathlib.Nat.{sub-zero}
 use native.Mathlib.Omega.{arith}
 use lib.ListN.{length, getD, take, drop, set, take-append-drop}
@@ -26,7 +26,8 @@ module _ (ss es : List ℕ) (n len : ℕ) where
   closing-all cs next (suc i) g h = absurd (omega arith)
 
 -- One item more: the place i is now the last one before those that are closed.
-module _ (ss es : List ℕ) (n len : ℕ) (cs : List ℕ) (next i : ℕ) (g : Closing ss es n len cs next (suc i)) (ls : length ss ≡ 64) (le : length es ≡ 64) (small : n ≤ 64) where
+module _ (ss es : List ℕ) (n len : ℕ) (cs : List ℕ) (next i : ℕ) (g : Closing ss es n len cs next (suc i)) (ls : length ss ≡ 64)
+    (le : length es ≡ 64) (small : n ≤ 64) where
   items-left : n - i ≡ suc (n - suc i)
   items-left = let w = g .within in omega arith
 
@@ -53,7 +54,9 @@ module _ (ss es : List ℕ) (n len : ℕ) (cs : List ℕ) (next i : ℕ) (g : Cl
       let w = g .within in
       record { within = omega arith; start = f ∙ start-more; ends = rw e ends-more }
 
-pub closing-more : (ss es : List ℕ) (n len : ℕ) (cs : List ℕ) (next i : ℕ) → Closing ss es n len cs next i → 0 < i → length ss ≡ 64 → length es ≡ 64 → n ≤ 64 → (r q : ℕ) → r ≡ closedEnd (getD es (i - 1) 0) next → q ≡ startFrom (getD ss (i - 1) 0) (getD es (i - 1) 0) next → Closing ss es n len (set cs (i - 1) r) q (i - 1)
+pub closing-more : (ss es : List ℕ) (n len : ℕ) (cs : List ℕ) (next i : ℕ) → Closing ss es n len cs next i → 0 < i → length ss ≡ 64
+    → length es ≡ 64 → n ≤ 64 → (r q : ℕ) → r ≡ closedEnd (getD es (i - 1) 0) next
+    → q ≡ startFrom (getD ss (i - 1) 0) (getD es (i - 1) 0) next → Closing ss es n len (set cs (i - 1) r) q (i - 1)
 closing-more ss es n len cs next zero g h ls le small r q e f = absurd (omega arith)
 closing-more ss es n len cs next (suc i) g h ls le small r q e f =
     let k : suc i - 1 ≡ i = omega arith in

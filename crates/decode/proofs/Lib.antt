@@ -4,6 +4,7 @@ pub mod Walk
 pub mod Reached
 pub mod BadState
 pub mod Heads
+pub mod Calls
 pub mod Close
 pub mod Spans
 pub mod Items

@@ -4,7 +4,7 @@ use mathlib.Core.Path.{_≡_, refl, sym, ap, _∙_}
 use mathlib.Core.List.{List, [], _∷_}
 use mathlib.Core.Logic.{_↔_}
 use mathlib.Core.Bool.{Bool, true, false}
-use Prim.Native.Nat.{ℕ, zero, suc, _+_, _-_, _≤_, _<_, _^_}
+use Prim.Native.Nat.{ℕ, zero, suc, _+_, _-_, _<_, _^_}
 use native.Mathlib.Numerals.{add-one}
 use native.Mathlib.Omega.{arith}
 use borrow.Author.Tests.{eq-eqb, ne-eqb, le-ltb, eqb-true}
@@ -15,11 +15,10 @@ use Rattle.standard.specs.Choice.{andAlso}
 use Rattle.standard.specs.Types.{width}
 use Rattle.standard.specs.declared.Head.{Head}
 use Rattle.standard.specs.declared.Head.the-variants.{Fixed, Variable}
-use Rattle.standard.specs.declared.Refusal.{Refusal}
 use Rattle.decode.specs.declared.builder.Progress.{Progress}
 use Rattle.decode.specs.declared.builder.Step.{Step}
 use Rattle.decode.specs.declared.decoder.SszDecoderBuilder.{SszDecoderBuilder}
-use Rattle.decode.specs.Builder.{fresh, step, registerHead, follow}
+use Rattle.decode.specs.Builder.{fresh, step, follow}
 use Rattle.decode.specs.Held.{new, openEnd, startOf, endOf, put, Run, none, more, zeros, recall, walk, recalled}
 use Rattle.decode.proofs.Register.{follow-next, register-step, step-fixed, step-variable}
 use Rattle.decode.proofs.Walk.{Tested, recall-says, recalled-says, recalled-tested, step-pos}
@@ -30,7 +29,8 @@ pub record Long (x : SszDecoderBuilder) : Type 0 where
   pub ends-long : length (x .ends) ≡ 64
 
 -- An item that was registered is recalled.
-recall-put : (h : Head) (b : List ℕ) (p q : Progress) → length b < 2 ^ 32 → step h b p ≡ Step.Next q → recall (startOf h b (p .pos)) (endOf h (p .pos + width h)) b p ≡ Step.Next q
+recall-put : (h : Head) (b : List ℕ) (p q : Progress) → length b < 2 ^ 32 → step h b p ≡ Step.Next q
+    → recall (startOf h b (p .pos)) (endOf h (p .pos + width h)) b p ≡ Step.Next q
 unfolding recall width
 recall-put (Fixed n) b p q small e =
     let s = step-fixed b p q n e in
@@ -42,7 +42,8 @@ recall-put Variable b p q small e =
     let s = step-variable b p q e in
     rw (eq-eqb _ _ refl) (register-step Variable b p (omega (arith, s .0)) small ∙ e)
 
-recall-at : (h : Head) (b : List ℕ) (p q : Progress) (m : ℕ) → p .pos ≡ m → length b < 2 ^ 32 → step h b p ≡ Step.Next q → recall (startOf h b m) (endOf h (m + width h)) b p ≡ Step.Next q
+recall-at : (h : Head) (b : List ℕ) (p q : Progress) (m : ℕ) → p .pos ≡ m → length b < 2 ^ 32 → step h b p ≡ Step.Next q
+    → recall (startOf h b m) (endOf h (m + width h)) b p ≡ Step.Next q
 recall-at h b p q m a small e = rw (← a) (recall-put h b p q small e)
 
 -- A walk with one item more.
@@ -54,7 +55,8 @@ follow-again : (s : Step) (f g k : Progress → Step) → ((y : Progress) → f 
 follow-again (Step.Next y) f g k h = h y
 follow-again (Step.Refused r) f g k h = refl
 
-walk-put : (ss es : List ℕ) (n s e : ℕ) (b : List ℕ) (x : Progress) → n < length ss → n < length es → walk (set ss n s) (set es n e) (suc n) b x ≡ follow (walk ss es n b x) (recall s e b)
+walk-put : (ss es : List ℕ) (n s e : ℕ) (b : List ℕ) (x : Progress) → n < length ss → n < length es
+    → walk (set ss n s) (set es n e) (suc n) b x ≡ follow (walk ss es n b x) (recall s e b)
 unfolding walk
 walk-put [] es n s e b x h k = absurd (omega arith)
 walk-put (s₀ ∷ ss) [] n s e b x h k = absurd (omega arith)
@@ -103,7 +105,8 @@ run-long (more h r small few e) =
     let g = run-long r in
     record { starts-long = simp length-set (g .starts-long); ends-long = simp length-set (g .ends-long) }
 
-module _ (b : List ℕ) (p q : Progress) (x : SszDecoderBuilder) (h : Head) (l : Long x) (t : Tested x b p) (small : length b < 2 ^ 32) (few : x .count < 64) (e : step h b p ≡ Step.Next q) where
+module _ (b : List ℕ) (p q : Progress) (x : SszDecoderBuilder) (h : Head) (l : Long x) (t : Tested x b p) (small : length b < 2 ^ 32)
+    (few : x .count < 64) (e : step h b p ≡ Step.Next q) where
   in-starts : x .count < length (x .starts)
   in-starts = let k = l .starts-long in omega arith
 
@@ -175,7 +178,8 @@ module _ (b : List ℕ) (pos : ℕ) (ss es : List ℕ) (p : Progress) (ls : leng
           arrives = refl;
         }
 
-    run-more : (z : Progress) → Run b z (state n (z .pos) (set ss n 0) (set es n 0)) → recall (getD ss n 0) (getD es n 0) b z ≡ Step.Next p → Run b p (state (suc n) pos ss es)
+    run-more : (z : Progress) → Run b z (state n (z .pos) (set ss n 0) (set es n 0)) → recall (getD ss n 0) (getD es n 0) b z ≡ Step.Next p
+        → Run b p (state (suc n) pos ss es)
     run-more z r e =
         let g = recall-says b z p (getD ss n 0) (getD es n 0) e in
         let k = t .few in
@@ -184,7 +188,8 @@ module _ (b : List ℕ) (pos : ℕ) (ss es : List ℕ) (p : Progress) (ls : leng
         rw (add-one n, ← g .start, ← g .end, a, put-back ss n at-start, put-back es n at-end)
         at (more (g .head) r (g .small) few (g .stepped))
 
-run-of : (b : List ℕ) (n pos : ℕ) (ss es : List ℕ) (p : Progress) → length ss ≡ 64 → length es ≡ 64 → Tested (state n pos ss es) b p → Run b p (state n pos ss es)
+run-of : (b : List ℕ) (n pos : ℕ) (ss es : List ℕ) (p : Progress) → length ss ≡ 64 → length es ≡ 64 → Tested (state n pos ss es) b p
+    → Run b p (state n pos ss es)
 run-of b zero pos ss es p ls le t = run-none b pos ss es p ls le t
 run-of b (suc n) pos ss es p ls le t =
     let q = follow-next _ _ _ (parted b pos ss es p ls le n t) in

@@ -5,7 +5,7 @@ use Prim.Native.Nat.{ℕ, zero, suc, _+_, _-_, _≤_, _<_, _^_}
 use native.Mathlib.Numerals.{add-one}
 use native.Mathlib.Nat.{add-zero, zero-add}
 use native.Mathlib.Omega.{arith}
-use borrow.Author.Tests.{lt-ltb, le-ltb, eq-eqb, ne-eqb}
+use borrow.Author.Tests.{lt-ltb, le-ltb, ne-eqb}
 use lib.ListN.{length, getD, take, drop, replicate, List·getD-append}
 use lib.Seq.{sets, sets-eq}
 use Rattle.standard.specs.Types.{width}
@@ -127,7 +127,8 @@ pub record ItemAt (b : List ℕ) (from to : ℕ) (s : List ℕ) : Type 0 where
   pub inside : to ≤ length b
   pub bytes : take (to - from) (drop from b) ≡ s
 
-span-item : (hs : List Head) (b : List ℕ) (p i : ℕ) → InRange hs b p 0 → i < length hs → ItemAt b (getD (froms hs b p) i 0) (getD (tos hs b p) i 0) (getD (pieces (split hs b p)) i [])
+span-item : (hs : List Head) (b : List ℕ) (p i : ℕ) → InRange hs b p 0 → i < length hs
+    → ItemAt b (getD (froms hs b p) i 0) (getD (tos hs b p) i 0) (getD (pieces (split hs b p)) i [])
 unfolding froms tos split pieces
 span-item [] b p i g h = absurd (omega arith)
 span-item (k ∷ hs) b p zero g h =
@@ -135,7 +136,8 @@ span-item (k ∷ hs) b p zero g h =
     record { upright = q .0; inside = q .1; bytes = refl }
 span-item (k ∷ hs) b p (suc i) g h = span-item hs b (spanOf k hs b p .next) i (span-ranges k hs b p g .2) (omega arith)
 
-module _ (hs : List Head) (b : List ℕ) (d : SszDecoder) (g : Spans hs b d) (r : InRange hs b 0 0) (few : length hs ≤ 64) (i : ℕ) (h : i < length hs) where
+module _ (hs : List Head) (b : List ℕ) (d : SszDecoder) (g : Spans hs b d) (r : InRange hs b 0 0) (few : length hs ≤ 64) (i : ℕ)
+    (h : i < length hs) where
   start-at : getD (d .starts) i 0 ≡ getD (froms hs b 0) i 0
   start-at =
       let l = length-froms hs b 0 in
@@ -165,7 +167,8 @@ module _ (hs : List Head) (b : List ℕ) (d : SszDecoder) (g : Spans hs b d) (r 
 pub record Reads (hs : List Head) (b : List ℕ) : Type 0 where
   pub registered : registerAll hs b new ≡ record { state = stateOf hs b; told = Told.Fine }
   pub built : buildItems b (stateOf hs b) ≡ record { told = Told.Fine; decoder = ranges (stateOf hs b) (length b) }
-  pub items : (i : ℕ) → i < length hs → (itemTold (ranges (stateOf hs b) (length b)) i (length b) ≡ Told.Fine) × (itemOf (ranges (stateOf hs b) (length b)) i b ≡ getD (pieces (split hs b 0)) i [])
+  pub items : (i : ℕ) → i < length hs
+      → (itemTold (ranges (stateOf hs b) (length b)) i (length b) ≡ Told.Fine) × (itemOf (ranges (stateOf hs b) (length b)) i b ≡ getD (pieces (split hs b 0)) i [])
   pub past-last : (i : ℕ) → length hs ≤ i → itemTold (ranges (stateOf hs b) (length b)) i (length b) ≡ Told.Refused BadState
 
 no-item : (d : SszDecoder) (i len : ℕ) → d .count ≤ i → itemTold d i len ≡ Told.Refused BadState

@@ -111,7 +111,9 @@ module _ (b : List ℕ) (x y : Progress) where
   unfolding recall
   recall-says s e h = go (eqb e openEnd) refl h
     where
-      go : (c : Bool) → eqb e openEnd ≡ c → pick c (pick (eqb s (four b (x .pos))) (registerHead Variable b x) bad) (pick (eqb s (x .pos)) (pick (ltb e s) bad (registerHead (Fixed (e - s)) b x)) bad) ≡ Step.Next y → Recalled s e b x y
+      go : (c : Bool) → eqb e openEnd ≡ c
+          → pick c (pick (eqb s (four b (x .pos))) (registerHead Variable b x) bad) (pick (eqb s (x .pos)) (pick (ltb e s) bad (registerHead (Fixed (e - s)) b x)) bad) ≡ Step.Next y
+          → Recalled s e b x y
       go true q k = rw (eqb-true e openEnd q) (recall-open s k)
       go false q k = recall-shut s e k
 
@@ -161,7 +163,8 @@ module _ (x : SszDecoderBuilder) (b : List ℕ) (p : Progress) where
       record { same = g .arrives; within = walk-within (x .starts) (x .ends) (x .count) b fresh p (g .walked) (omega arith) }
 
 -- One registration of a state that is reached is a step.
-pub come-step : (h : Head) (b : List ℕ) (p : Progress) (x : SszDecoderBuilder) (r : Step) → Come p x b → length b ≤ 4294967295 → r ≡ registerHead h b p → step h b p ≡ r
+pub come-step : (h : Head) (b : List ℕ) (p : Progress) (x : SszDecoderBuilder) (r : Step) → Come p x b → length b ≤ 4294967295
+    → r ≡ registerHead h b p → step h b p ≡ r
 come-step h b p x r g l e = sym (register-step h b p (g .within) (omega arith)) ∙ sym e
 
 pub step-pos : (h : Head) (b : List ℕ) (x y : Progress) → step h b x ≡ Step.Next y → y .pos ≡ x .pos + width h

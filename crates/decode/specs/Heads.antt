@@ -1,4 +1,5 @@
 -- The builder over a row of heads, and where the items then lie. Assumes nothing: these are definitions.
+use mathlib.Core.Path.{_≡_}
 use mathlib.Core.List.{List, [], _∷_}
 use Prim.Native.Nat.{ℕ, _+_}
 use Rattle.standard.specs.Types.{width}
@@ -9,6 +10,11 @@ use Rattle.decode.specs.Held.{new, endOf, put, registerItem}
 use Rattle.decode.specs.declared.builder.Step.{Step}
 use Rattle.decode.specs.declared.decoder.SszDecoderBuilder.{SszDecoderBuilder}
 use Rattle.decode.specs.declared.decoder.Registered.{Registered}
+
+-- The states that the builder's own calls over b give, from a new one on, while each is accepted
+pub data Calls (b : List ℕ) : SszDecoderBuilder → Type 0 where
+  start : Calls b new
+  call : (h : Head) {x y : SszDecoderBuilder} → Calls b x → registerItem h b x ≡ record { state = y; told = Told.Fine } → Calls b y
 
 -- Goes on with the next state, unless there is a refusal.
 abbrev pub ifFine : Told → Registered → Registered → Registered

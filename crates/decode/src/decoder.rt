@@ -13,7 +13,7 @@ ghost use Prim.Native.Nat.{_+_, _≤_, _<_};
 ghost use lib.ListN.{drop};
 ghost use Rattle.standard.specs.Types.{width};
 ghost use Rattle.decode.specs.Builder.{fresh};
-ghost use Rattle.decode.specs.Held.{new, startOf, endOf, put, zeros, recall, walk, recalled, Come, old, allowed, registerItem, headFor};
+ghost use Rattle.decode.specs.Held.{new, startOf, endOf, put, zeros, recall, walk, arrived, recalled, Come, old, allowed, registerItem, headFor};
 ghost use Rattle.decode.specs.Reader.{notBuilt, closedEnd, startFrom, closeEnds, closable, buildItems, itemTold, itemOf};
 
 pub const MAX_ITEMS: usize = 64;
@@ -101,6 +101,22 @@ fn recall_items(starts: [usize; 64], ends: [usize; 64], count: usize, bytes: &[u
         i += 1;
     }
     Step::Next(x)
+}
+
+// Whether the items have come to the state's own position.
+fn arrive(s: Step, pos: usize) -> Step
+    ensures { λ r. ⌜ r ≡ arrived s pos ⌝ }
+{
+    match s {
+        Step::Next(x) => {
+            if x.pos == pos {
+                Step::Next(x)
+            } else {
+                Step::Refused(Refusal::BadState)
+            }
+        }
+        Step::Refused(_) => Step::Refused(Refusal::BadState),
+    }
 }
 
 fn start_of(head: Head, pos: usize, bytes: &[u8]) -> usize
@@ -207,16 +223,7 @@ impl SszDecoderBuilder {
             return Step::Refused(Refusal::BadState);
         }
         let s = recall_items(starts, ends, count, bytes);
-        match s {
-            Step::Next(x) => {
-                if x.pos == self.pos {
-                    Step::Next(x)
-                } else {
-                    Step::Refused(Refusal::BadState)
-                }
-            }
-            Step::Refused(_) => Step::Refused(Refusal::BadState),
-        }
+        arrive(s, self.pos)
     }
 
     // The state with one item more, behind which the next head is at next.

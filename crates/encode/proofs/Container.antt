@@ -1,7 +1,7 @@
 -- Encoding the parts of a container gives their join, and so the serialization of its value. Assumes nothing.
-use mathlib.Core.Path.{_≡_, refl, sym, ap, _∙_}
-use mathlib.Core.List.{List, [], _∷_, _++_}
-use Prim.Native.Nat.{ℕ, _+_, _≤_, _<_, _^_}
+use mathlib.Core.Path.{_≡_, refl}
+use mathlib.Core.List.{List, [], _∷_}
+use Prim.Native.Nat.{ℕ, _+_, _≤_}
 use native.Mathlib.Nat.{add-zero, zero-add, add-assoc}
 use native.Mathlib.Omega.{arith}
 use borrow.Author.Tests.{le-leb}
@@ -16,7 +16,7 @@ use Rattle.standard.proofs.Bytes.{length-le}
 use Rattle.standard.proofs.Store.{sets-append}
 use Rattle.standard.proofs.Join.{length-fronts, length-join}
 use Rattle.encode.specs.Encoder.{container as empty, after, appendFixed, appendVariable}
-use Rattle.encode.specs.Finish.{finalize, finished}
+use Rattle.encode.specs.Finish.{finalize}
 use Rattle.encode.specs.Whole.{going, appendAll, closed, ending, encoded, Fitting}
 use Rattle.encode.specs.declared.encoder.SszEncoder.{SszEncoder}
 use Rattle.encode.specs.declared.encoder.Appended.the-variants.{Next}
@@ -24,13 +24,15 @@ use Rattle.encode.specs.declared.encoder.Finalized.the-variants.{Length}
 
 -- One part, where there is room.
 module _ (x : SszEncoder) (s f v : List ℕ) where
-  fixed-next : x .«fixed_used» + length s ≤ length f → x .«variable_used» ≤ length v → appendFixed x s f v ≡ Next (after x (x .«fixed_used» + length s) (x .«variable_used»))
+  fixed-next : x .«fixed_used» + length s ≤ length f → x .«variable_used» ≤ length v
+      → appendFixed x s f v ≡ Next (after x (x .«fixed_used» + length s) (x .«variable_used»))
   unfolding appendFixed
   fixed-next h k =
       let i : x .«fixed_used» ≤ length f = omega arith in
       rw (le-leb _ _ i, le-leb _ _ k, le-leb _ _ h)
 
-  variable-next : x .«fixed_used» + 4 ≤ length f → x .«variable_used» + length s ≤ length v → x .offset + x .«variable_used» ≤ 4294967295 → appendVariable x s f v ≡ Next (after x (x .«fixed_used» + 4) (x .«variable_used» + length s))
+  variable-next : x .«fixed_used» + 4 ≤ length f → x .«variable_used» + length s ≤ length v → x .offset + x .«variable_used» ≤ 4294967295
+      → appendVariable x s f v ≡ Next (after x (x .«fixed_used» + 4) (x .«variable_used» + length s))
   unfolding appendVariable
   variable-next h k o =
       let i : x .«fixed_used» ≤ length f = omega arith in
@@ -118,6 +120,7 @@ module _ (xs : List Part) (f v : List ℕ) (g : Fitting xs f v) where
       rw (all-appended, finalized, backs-kept) (simp (length-fronts, zero-add) at s)
 
 -- Encoding the parts of a container's value writes its serialization.
-pub encodes : (t : ℕ) (ts : Tys) (vs : Vals ts) (f v : List ℕ) → Fitting (parts ts vs) f v → (closed (encoded (parts ts vs) f v) ≡ Length (length (serialize (container t ts) vs))) × (ending (encoded (parts ts vs) f v) ≡ sets f 0 (serialize (container t ts) vs))
+pub encodes : (t : ℕ) (ts : Tys) (vs : Vals ts) (f v : List ℕ) → Fitting (parts ts vs) f v
+    → (closed (encoded (parts ts vs) f v) ≡ Length (length (serialize (container t ts) vs))) × (ending (encoded (parts ts vs) f v) ≡ sets f 0 (serialize (container t ts) vs))
 unfolding serialize
 encodes t ts vs f v g = (encoded-length (parts ts vs) f v g, encoded-buffer (parts ts vs) f v g)

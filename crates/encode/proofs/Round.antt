@@ -1,10 +1,10 @@
 -- What the encoder wrote for some parts, the builder takes apart into the same parts. Assumes nothing.
-use mathlib.Core.Path.{_≡_, refl, sym, ap, _∙_}
+use mathlib.Core.Path.{_≡_, refl, ap, _∙_}
 use mathlib.Core.List.{List, [], _∷_}
 use Prim.Native.Nat.{ℕ, suc, _+_, _≤_, _<_}
 use native.Mathlib.Omega.{arith}
 use lib.ListN.{length, take, drop, getD}
-use lib.Seq.{sets, sets-eq, take-at}
+use lib.Seq.{sets-eq, take-at}
 use Rattle.standard.specs.Parts.{Part, piece, join, partHeads, split}
 use Rattle.standard.proofs.Join.{Sized, join-ranges, join-next, split-join}
 use Rattle.decode.specs.Heads.{stateOf, pieces}
@@ -41,7 +41,8 @@ module _ (xs : List Part) (f v : List ℕ) (g : Fitting xs f v) (z : Sized xs) (
   split-back = rw (written-joined xs f v g) (split-join xs z (g .small))
 
   -- So each item that is read is the part's bytes.
-  pub item-back : (i : ℕ) → i < length xs → itemOf (ranges (stateOf (partHeads xs) (written xs f v)) (length (written xs f v))) i (written xs f v) ≡ getD (pieces xs) i []
+  pub item-back : (i : ℕ) → i < length xs
+      → itemOf (ranges (stateOf (partHeads xs) (written xs f v)) (length (written xs f v))) i (written xs f v) ≡ getD (pieces xs) i []
   item-back i h =
       let l = length-heads xs in
       let r = read-back .items i (omega arith) .1 in

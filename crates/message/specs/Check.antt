@@ -28,3 +28,24 @@ underTable (Upto n) l m = pick (ltb 4294967295 (length m)) (Refused TooLarge 0 0
 
 unfoldable pub checkMessage : List ℕ → List ℕ → Answer
 checkMessage l m = underTable (tableOf l) l m
+
+-- "22 is given exactly when all else is well and the result is longer than the room .. for the listing it counts whole records"
+abbrev pub listedOf : Answer → List ℕ → Listed
+listedOf (Refused r t s) o = Listed.Refused r t s
+listedOf (Accepted c) o = pick (ltb (length o / 12) (c .records)) (Listed.Refused (NoRoom (c .records) (length o / 12)) 0 0) (Listed.Records (c .records))
+
+-- "Success fills exactly the result's length and keeps the rest"; a refusal changes nothing
+abbrev pub recordsOf : Answer → Ty → List ℕ → List ℕ → List ℕ
+recordsOf (Refused r t s) x m o = o
+recordsOf (Accepted c) x m o = pick (ltb (length o / 12) (c .records)) o (sets o 0 (listItem x m 0))
+
+unfoldable pub listMessage : List ℕ → List ℕ → List ℕ → Listed
+listMessage l m o = listedOf (checkMessage l m) o
+
+-- The type of the message, where the table has one
+abbrev pub typeUnder : Checked → List ℕ → Ty
+typeUnder (Bad w) l = treeOf l 0
+typeUnder (Upto n) l = messageType l n
+
+unfoldable pub listedRecords : List ℕ → List ℕ → List ℕ → List ℕ
+listedRecords l m o = recordsOf (checkMessage l m) (typeUnder (tableOf l) l) m o

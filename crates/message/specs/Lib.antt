@@ -1,3 +1,5 @@
 pub mod Read
+pub mod Form
 pub mod Listing
 pub mod Check
+pub mod Steps

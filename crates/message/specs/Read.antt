@@ -48,16 +48,20 @@ abbrev pub ofList : BodyBits → ℕ → ℕ → Answer
 ofList (BodyBits.Refused r) t s = Refused r t s
 ofList (BodyBits.Bits k) t s = one 1 (rawBytes k)
 
+-- "wrong length is 1"
+abbrev pub readExact : ℕ → ℕ → List ℕ → ℕ → Answer
+readExact w t b s = pick (eqb (length b) w) (one 0 (length b)) (Refused (InvalidByteLength (length b) w) t s)
+
 unfoldable mutual
   -- The item b, which starts at s in the message. A refusal carries the item's type and start.
   pub readItem : Ty → List ℕ → ℕ → Answer
   -- "Number, boolean, fixed bytes: wrong length is 1"
-  readItem (number t w) b s = pick (eqb (length b) w) (one 0 (length b)) (Refused (InvalidByteLength (length b) w) t s)
+  readItem (number t w) b s = readExact w t b s
   readItem (boolean t) b s =
       pick (eqb (length b) 1)
       (pick (ltb (getD b 0 0) 2) (one 0 1) (Refused (BadBoolean (getD b 0 0)) t s))
       (Refused (InvalidByteLength (length b) 1) t s)
-  readItem (fixedBytes t n) b s = pick (eqb (length b) n) (one 0 (length b)) (Refused (InvalidByteLength (length b) n) t s)
+  readItem (fixedBytes t n) b s = readExact n t b s
   -- "Free bytes above their limit: 14"
   readItem (freeBytes t limit) b s = pick (leb (length b) limit) (one 1 (length b)) (Refused (OverLimit (length b) limit) t s)
   readItem (bitVector t n) b s = ofVector (bitVectorBody b n) t s (length b)

@@ -1,23 +1,18 @@
-// The check of a message under a layout table.
-use bitfield::BodyBits;
-use bitfield::body::bitlist_body;
-use bitfield::body::bitvector_body;
-use decode::builder::Progress;
-use decode::builder::Step;
-use decode::builder::finalize;
-use decode::builder::register_head;
+// The check of a message under a layout table, and the listing of its items.
+mod fields;
+mod items;
+mod listing;
+
+use items::item_check;
 use layout::Checked;
-use layout::NO_BODY;
-use layout::Node;
-use layout::head_of;
-use layout::look;
 use layout::table_of;
-use standard::Head;
+use listing::list_item;
 use standard::Refusal;
-use standard::Span;
-use standard::Told;
-use standard::words::four_at;
-use standard::words::word_at;
+ghost use mathlib.Core.Path.{_≡_};
+ghost use Prim.Native.Nat.{_-_, _+_, _≤_, _<_, _^_};
+ghost use Rattle.layout.specs.declared.Checked.the-variants.{Upto};
+ghost use Rattle.message.specs.Check.{messageType, underTable, checkMessage, listedOf, recordsOf, listMessage, listedRecords};
+ghost use Rattle.message.specs.Steps.{Under};
 
 // How much there is of an accepted message: records of its listing, contents words and body bytes of its value form.
 pub struct Counts {
@@ -36,4 +31,65 @@ pub enum Answer {
 pub enum Listed {
     Records(usize),
     Refused(Refusal, usize, usize),
+}
+
+// The message under a legal table of n types.
+fn check_under(lens: &[usize], layout: &[u8], n: usize, message: &[u8]) -> Answer
+    requires { ⌜ Under (now lens) (now layout) n × (1 ≤ n) ⌝ }
+    ensures { λ r. ⌜ r ≡ underTable (Upto n) (now (layout .entry)) (now (message .entry)) ⌝ }
+{
+    if message.len() > 4294967295 {
+        return Answer::Refused(Refusal::TooLarge, 0, 0);
+    }
+    let last = n - 1;
+    item_check(lens, layout, last, message, 0)
+}
+
+// Checks a message: 20 for a bad table, 21 for 2^32 bytes or more, then the rules of reading.
+pub fn check(layout: &[u8], message: &[u8]) -> Answer
+    ensures { λ r. ⌜ r ≡ checkMessage (now (layout .entry)) (now (message .entry)) ⌝ }
+{
+    let table = table_of(layout);
+    let c = table.checked;
+    let lens = table.lens;
+    match c {
+        Checked::Bad(w) => Answer::Refused(Refusal::BadLayout(w), 0, 0),
+        Checked::Upto(n) => check_under(&lens, layout, n, message),
+    }
+}
+
+// Stores the listing of a message that was checked, where there is room for it.
+fn list_under(records: &mut [u8], lens: &[usize], layout: &[u8], n: usize, message: &[u8]) -> Listed
+    requires { ⌜ Under (now lens) (now layout) n × (1 ≤ n) ⌝ }
+    ensures { λ r. ⌜ r ≡ listedOf (underTable (Upto n) (now (layout .entry)) (now (message .entry))) (now (records .entry)) ⌝ }
+    ensures { λ _. ⌜ now (records .exit) ≡ recordsOf (underTable (Upto n) (now (layout .entry)) (now (message .entry))) (messageType (now (layout .entry)) n) (now (message .entry)) (now (records .entry)) ⌝ }
+{
+    let r = check_under(lens, layout, n, message);
+    match r {
+        Answer::Refused(x, u, v) => Listed::Refused(x, u, v),
+        Answer::Accepted(c) => {
+            let room = records.len() / 12;
+            let need = c.records;
+            if need > room {
+                return Listed::Refused(Refusal::NoRoom(need, room), 0, 0);
+            }
+            let last = n - 1;
+            list_item(records, 0, lens, layout, last, message, 0);
+            Listed::Records(need)
+        }
+    }
+}
+
+// Lists the items of a message in records of three words: the check's refusals, then 22 (records needed, room in whole records).
+pub fn list(layout: &[u8], message: &[u8], records: &mut [u8]) -> Listed
+    ensures { λ r. ⌜ r ≡ listMessage (now (layout .entry)) (now (message .entry)) (now (records .entry)) ⌝ }
+    ensures { λ _. ⌜ now (records .exit) ≡ listedRecords (now (layout .entry)) (now (message .entry)) (now (records .entry)) ⌝ }
+{
+    let table = table_of(layout);
+    let c = table.checked;
+    let lens = table.lens;
+    match c {
+        Checked::Bad(w) => Listed::Refused(Refusal::BadLayout(w), 0, 0),
+        Checked::Upto(n) => list_under(records, &lens, layout, n, message),
+    }
 }

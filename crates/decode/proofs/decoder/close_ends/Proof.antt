@@ -48,7 +48,9 @@ loop-again : tie.Need-loop-again Inv-loop μ-loop
 loop-again c =
     let start = c .before .before .before .before in
     let taken = c .before .before .loop-test .taken in
-    closing-more _ _ _ _ _ _ _ (c .before .before .before .loop .inv) taken (start .good .0 .1 .0 .1) (start .good .1 .0 .1 .0 .1) (start .pre) _ _ (c .before .closed-end .ensures) (c .start-from .ensures)
+    let starts = start .good .0 .1 .0 .1 in
+    let ends = start .good .1 .0 .1 .0 .1 in
+    closing-more _ _ _ _ _ _ _ (c .before .before .before .loop .inv) taken starts ends (start .pre) _ _ (c .before .closed-end .ensures) (c .start-from .ensures)
 
 returns : tie.Need-returns Inv-loop μ-loop
 returns c = closing-all _ _ _ _ _ _ _ (c .before .loop .inv) (c .loop-test .left)

@@ -1,7 +1,7 @@
 -- The loop keeps: what is left is zero just if the whole is. Assumes nothing.
-use mathlib.Core.Path.{_≡_, refl, sym, _∙_}
+use mathlib.Core.Path.{_≡_, refl, _∙_}
 use Rattle.decode.proofs.Walk.{zeros-more, zeros-stop, zeros-end}
-use lib.ListN.{length, drop}
+use lib.ListN.{drop}
 use mathlib.Core.Path.{_≡_}
 use Prim.Native.Nat.{_-_}
 use Rattle.decode.specs.Held.{zeros}

@@ -1,5 +1,5 @@
 -- The definition goes by the same tests. Assumes nothing.
-use mathlib.Core.Path.{sym, _∙_}
+use mathlib.Core.Path.{_∙_}
 use borrow.Author.Tests.{eq-eqb, ne-eqb, lt-ltb, le-ltb}
 use Rattle.decode.specs.Held.{recall}
 use borrow.Author.Needs.{needs}
@@ -14,7 +14,10 @@ register-head-requires c κs = search needs
 
 returns : tie.Need-returns
 unfolding recall
-returns c = rw (eq-eqb _ _ (c .before .before .before .if1 .taken), eq-eqb _ _ (c .before .if2 .taken ∙ c .before .before .four-at .ensures .0)) (c .register-head .ensures)
+returns c =
+    let is-open = c .before .before .before .if1 .taken in
+    let offset = c .before .if2 .taken ∙ c .before .before .four-at .ensures .0 in
+    rw (eq-eqb _ _ is-open, eq-eqb _ _ offset) (c .register-head .ensures)
 
 returns-2 : tie.Need-returns-2
 unfolding recall
@@ -33,7 +36,11 @@ register-head-requires-2 c κs = search needs
 
 returns-5 : tie.Need-returns-5
 unfolding recall
-returns-5 c = rw (ne-eqb _ _ (c .before .before .before .if1 .left), eq-eqb _ _ (c .before .before .if3 .left), le-ltb _ _ (c .before .if4 .left)) (c .register-head2 .ensures)
+returns-5 c =
+    let shut = c .before .before .before .if1 .left in
+    let here = c .before .before .if3 .left in
+    let upright = c .before .if4 .left in
+    rw (ne-eqb _ _ shut, eq-eqb _ _ here, le-ltb _ _ upright) (c .register-head2 .ensures)
 
 pub recall-item-spec : {M : Type 1} → statement M
 recall-item-spec =

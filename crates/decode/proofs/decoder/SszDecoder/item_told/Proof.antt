@@ -31,11 +31,19 @@ returns-3 c = rw (lt-ltb _ _ (c .before .before .before .before .if1 .left), lt-
 
 returns-4 : tie.Need-returns-4
 unfolding itemTold
-returns-4 c = rw (lt-ltb _ _ (c .before .before .before .before .before .if1 .left), lt-ltb _ _ (c .before .before .before .before .if2 .left), le-ltb _ _ (c .before .if3 .left), lt-ltb _ _ (c .if4 .taken))
+returns-4 c =
+    let item = c .before .before .before .before .before .if1 .left in
+    let few = c .before .before .before .before .if2 .left in
+    let upright = c .before .if3 .left in
+    rw (lt-ltb _ _ item, lt-ltb _ _ few, le-ltb _ _ upright, lt-ltb _ _ (c .if4 .taken))
 
 returns-5 : tie.Need-returns-5
 unfolding itemTold
-returns-5 c = rw (lt-ltb _ _ (c .before .before .before .before .before .if1 .left), lt-ltb _ _ (c .before .before .before .before .if2 .left), le-ltb _ _ (c .before .if3 .left), le-ltb _ _ (c .if4 .left))
+returns-5 c =
+    let item = c .before .before .before .before .before .if1 .left in
+    let few = c .before .before .before .before .if2 .left in
+    let upright = c .before .if3 .left in
+    rw (lt-ltb _ _ item, lt-ltb _ _ few, le-ltb _ _ upright, le-ltb _ _ (c .if4 .left))
 
 pub item-told-spec : {M : Type 1} → statement M
 item-told-spec =

@@ -1,5 +1,5 @@
 -- The definition goes by the same tests; in a state that is reached, registering is a step. Assumes nothing.
-use mathlib.Core.Path.{sym, _∙_}
+use mathlib.Core.Path.{_∙_}
 use borrow.Author.Tests.{lt-ltb, le-ltb}
 use Rattle.decode.proofs.Walk.{come-step, come-pos}
 use borrow.Author.Needs.{needs}
@@ -26,8 +26,12 @@ enum-known-s c = search needs
 
 put-requires : tie.Need-put-requires
 put-requires c κs =
-    let stepped = come-step _ _ _ _ _ (c .before .before .before .before .before .before .before .before .pre) (c .before .before .before .before .before .before .if1 .left) (c .before .before .before .register-head .ensures) ∙ c .before .s .given .1 in
-    (c .before .before .before .before .if2 .left, come-pos _ _ _ _ _ (c .before .before .before .before .before .before .before .before .pre) stepped)
+    let come = c .before .before .before .before .before .before .before .before .pre in
+    let small = c .before .before .before .before .before .before .if1 .left in
+    let few = c .before .before .before .before .if2 .left in
+    let registered = c .before .before .before .register-head .ensures in
+    let stepped = come-step _ _ _ _ _ come small registered ∙ c .before .s .given .1 in
+    (few, come-pos _ _ _ _ _ come stepped)
 
 enum-known-s-2 : tie.Need-enum-known-s-2
 enum-known-s-2 c = search needs
@@ -37,13 +41,21 @@ refused-requires-3 c κs = search needs
 
 returns-3 : tie.Need-returns-3
 returns-3 c =
-    let stepped = come-step _ _ _ _ _ (c .before .before .before .before .before .before .before .before .before .pre) (c .before .before .before .before .before .before .before .if1 .left) (c .before .before .before .before .register-head .ensures) ∙ c .before .before .s .given .1 in
-    rw (le-ltb _ _ (c .before .before .before .before .before .before .before .if1 .left), lt-ltb _ _ (c .before .before .before .before .before .if2 .left), stepped, c .put .ensures)
+    let come = c .before .before .before .before .before .before .before .before .before .pre in
+    let small = c .before .before .before .before .before .before .before .if1 .left in
+    let few = c .before .before .before .before .before .if2 .left in
+    let registered = c .before .before .before .before .register-head .ensures in
+    let stepped = come-step _ _ _ _ _ come small registered ∙ c .before .before .s .given .1 in
+    rw (le-ltb _ _ small, lt-ltb _ _ few, stepped, c .put .ensures)
 
 returns-4 : tie.Need-returns-4
 returns-4 c =
-    let stepped = come-step _ _ _ _ _ (c .before .before .before .before .before .before .before .before .before .pre) (c .before .before .before .before .before .before .before .if1 .left) (c .before .before .before .before .register-head .ensures) ∙ c .before .before .s2 .given .1 in
-    rw (le-ltb _ _ (c .before .before .before .before .before .before .before .if1 .left), lt-ltb _ _ (c .before .before .before .before .before .if2 .left), stepped) (c .refused3 .ensures)
+    let come = c .before .before .before .before .before .before .before .before .before .pre in
+    let small = c .before .before .before .before .before .before .before .if1 .left in
+    let few = c .before .before .before .before .before .if2 .left in
+    let registered = c .before .before .before .before .register-head .ensures in
+    let stepped = come-step _ _ _ _ _ come small registered ∙ c .before .before .s2 .given .1 in
+    rw (le-ltb _ _ small, lt-ltb _ _ few, stepped) (c .refused3 .ensures)
 
 pub admit-spec : {M : Type 1} → statement M
 admit-spec =

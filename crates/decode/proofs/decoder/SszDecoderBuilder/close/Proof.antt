@@ -27,10 +27,16 @@ not-built-requires-2 : tie.Need-not-built-requires-2
 not-built-requires-2 c κs = search needs
 
 returns-2 : tie.Need-returns-2
-returns-2 c = rw (le-ltb _ _ (c .before .before .before .before .before .before .if1 .left), sym (c .before .before .before .before .before .finalize .ensures) ∙ c .before .before .before .enum-told .given .1, c .close-ends .ensures)
+returns-2 c =
+    let small = c .before .before .before .before .before .before .if1 .left in
+    let told = sym (c .before .before .before .before .before .finalize .ensures) ∙ c .before .before .before .enum-told .given .1 in
+    rw (le-ltb _ _ small, told, c .close-ends .ensures)
 
 returns-3 : tie.Need-returns-3
-returns-3 c = rw (le-ltb _ _ (c .before .before .before .before .before .if1 .left), sym (c .before .before .before .before .finalize .ensures) ∙ c .before .before .told .given .1) (c .not-built2 .ensures)
+returns-3 c =
+    let small = c .before .before .before .before .before .if1 .left in
+    let told = sym (c .before .before .before .before .finalize .ensures) ∙ c .before .before .told .given .1 in
+    rw (le-ltb _ _ small, told) (c .not-built2 .ensures)
 
 pub close-spec : {M : Type 1} → statement M
 close-spec =

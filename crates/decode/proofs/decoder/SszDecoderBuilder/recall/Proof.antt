@@ -1,6 +1,6 @@
 -- The definition goes by the same tests; the walk is `recall_items`. Assumes nothing.
 use mathlib.Core.Path.{sym, _∙_}
-use borrow.Author.Tests.{le-leb, lt-leb, eq-eqb, ne-eqb, not-true, not-false}
+use borrow.Author.Tests.{le-leb, lt-leb, not-true, not-false}
 use Rattle.decode.specs.Held.{recalled}
 use borrow.Author.Needs.{needs}
 use Rattle.decode.proofs.decoder.SszDecoderBuilder.recall.Statement.{statement}
@@ -34,38 +34,16 @@ returns-3 c =
 recall-items-requires : tie.Need-recall-items-requires
 recall-items-requires c κs = search needs
 
-enum-known-s : tie.Need-enum-known-s
-enum-known-s c = search needs
-
-enum-told : tie.Need-enum-told
-enum-told c = search needs
+arrive-requires : tie.Need-arrive-requires
+arrive-requires c κs = search needs
 
 returns-4 : tie.Need-returns-4
 unfolding recalled
 returns-4 c =
-    let few = c .before .before .before .before .before .before .before .before .before .before .before .before .before .if1 .left in
-    let starts = sym (c .before .before .before .before .before .before .before .before .before .before .before .is-zero-from .ensures) ∙ not-false _ (c .before .before .before .before .before .before .before .before .before .before .if2 .left) in
-    let ends = sym (c .before .before .before .before .before .before .before .before .is-zero-from2 .ensures) ∙ not-false _ (c .before .before .before .before .before .before .before .if3 .left) in
-    let walked = sym (c .before .before .before .before .before .before .recall-items .ensures) ∙ c .before .before .before .before .s .given .1 in
-    rw (le-leb _ _ few, starts, ends, walked, eq-eqb _ _ (c .if4 .taken))
-
-returns-5 : tie.Need-returns-5
-unfolding recalled
-returns-5 c =
-    let few = c .before .before .before .before .before .before .before .before .before .before .before .before .before .if1 .left in
-    let starts = sym (c .before .before .before .before .before .before .before .before .before .before .before .is-zero-from .ensures) ∙ not-false _ (c .before .before .before .before .before .before .before .before .before .before .if2 .left) in
-    let ends = sym (c .before .before .before .before .before .before .before .before .is-zero-from2 .ensures) ∙ not-false _ (c .before .before .before .before .before .before .before .if3 .left) in
-    let walked = sym (c .before .before .before .before .before .before .recall-items .ensures) ∙ c .before .before .before .before .s .given .1 in
-    rw (le-leb _ _ few, starts, ends, walked, ne-eqb _ _ (c .if4 .left))
-
-returns-6 : tie.Need-returns-6
-unfolding recalled
-returns-6 c =
-    let few = c .before .before .before .before .before .before .before .before .before .if1 .left in
-    let starts = sym (c .before .before .before .before .before .before .before .is-zero-from .ensures) ∙ not-false _ (c .before .before .before .before .before .before .if2 .left) in
-    let ends = sym (c .before .before .before .before .is-zero-from2 .ensures) ∙ not-false _ (c .before .before .before .if3 .left) in
-    let walked = sym (c .before .before .recall-items .ensures) ∙ c .enum-told .given .1 in
-    rw (le-leb _ _ few, starts, ends, walked)
+    let few = c .before .before .before .before .before .before .before .before .if1 .left in
+    let starts = sym (c .before .before .before .before .before .before .is-zero-from .ensures) ∙ not-false _ (c .before .before .before .before .before .if2 .left) in
+    let ends = sym (c .before .before .before .is-zero-from2 .ensures) ∙ not-false _ (c .before .before .if3 .left) in
+    rw (le-leb _ _ few, starts, ends, ← c .before .recall-items .ensures) (c .arrive .ensures)
 
 pub recall-spec : {M : Type 1} → statement M
 recall-spec =
@@ -77,8 +55,5 @@ recall-spec =
     is-zero-from-requires-2
     returns-3
     recall-items-requires
-    enum-known-s
-    enum-told
-    returns-4
-    returns-5
-    returns-6)
+    arrive-requires
+    returns-4)

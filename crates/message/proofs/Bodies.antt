@@ -1,0 +1,275 @@
+-- Containers and unions: what their steps give is what the rules of reading say. Assumes nothing.
+use mathlib.Core.Path.{_≡_, refl, sym, ap, _∙_}
+use mathlib.Core.List.{List, [], _∷_}
+use mathlib.Core.Bool.{Bool, true, false}
+use Prim.Native.Nat.{ℕ, zero, suc, _+_, _-_, _*_, _≤_, _<_, _^_}
+use native.Mathlib.Nat.{add-zero}
+use native.Mathlib.Omega.{arith}
+use borrow.Author.Tests.{eqb-true, eqb-false, ltb-true, ltb-false, lt-ltb, le-ltb, eq-eqb, ne-eqb, leb-true}
+use lib.ListN.{length, getD, take, drop, length-take, length-drop}
+use lib.Seq.{take-all}
+use lib.Dec.{eqb, leb, ltb}
+use Rattle.standard.specs.Choice.{pick}
+use Rattle.standard.specs.Bytes.{wordAt}
+use Rattle.standard.specs.Types.{Ty, Tys, Opts, boolean, container, union, end, field, over, bare, body, head, heads}
+use Rattle.standard.specs.Parts.{spanOf, part, InRange}
+use Rattle.standard.specs.declared.Head.{Head}
+use Rattle.standard.specs.declared.Span.{Span}
+use Rattle.standard.specs.declared.Told.{Told}
+use Rattle.standard.specs.declared.Refusal.{Refusal}
+use Rattle.standard.specs.declared.Refusal.the-variants.{OutOfBoundsByte, UnionSelectorInvalid, InvalidByteLength}
+use Rattle.decode.specs.Builder.{layOut}
+use Rattle.decode.specs.Unions.{selectorOf, splitUnion}
+use Rattle.decode.specs.declared.union_selector.UnionSelector.{UnionSelector}
+use Rattle.decode.specs.declared.union_selector.SelectorResult.{SelectorResult}
+use Rattle.layout.specs.Tree.{nodeOf, fields, options, trees, treeOf}
+use Rattle.layout.specs.Legal.{LowerOrBare, LegalNode, Legal}
+use Rattle.layout.specs.declared.Node.{Node}
+use Rattle.layout.proofs.Facts.{trees-get, as-container, as-union, as-leaf, legal-node, fields-first, fields-none}
+use Rattle.message.specs.Read.{one, plus, andThen, built, readItem, readFields, readOption}
+use Rattle.message.specs.Steps.{Under, Row, rowOf, headsOf, optionAt, choiceOf, choose, Small}
+use Rattle.message.specs.declared.Counts.{Counts}
+use Rattle.message.specs.declared.Answer.{Answer}
+use Rattle.message.specs.declared.Answer.the-variants.{Accepted, Refused}
+use Rattle.message.specs.declared.items.Choice.{Choice}
+use Rattle.message.proofs.Answers.{then-assoc}
+use Rattle.message.proofs.Bounds.{counts-small}
+use Rattle.message.proofs.Rows.{under-below, row-next, span-ok}
+
+plus-zero : (a : Counts) → plus a (record { records = 0; words = 0; bytes = 0 }) ≡ a
+plus-zero a = simp add-zero
+
+-- The loop of `field_check`: what is counted, and what is left to read, give the whole.
+pub record Reading (lens l : List ℕ) (t a₀ n : ℕ) (b : List ℕ) (s : ℕ) (sum : Counts) (a left p : ℕ) : Type 0 where
+  pub row : Row lens l t a left
+  pub some : left ≤ n
+  pub ranges : InRange (headsOf l t a left) b p 0
+  pub records : sum .records + 2 ^ 40 * left ≤ 2 ^ 40 * n + 1
+  pub words : sum .words + 2 ^ 40 * left ≤ 2 ^ 40 * n + 1
+  pub bytes : sum .bytes + 2 ^ 40 * left ≤ 2 ^ 40 * n + 1
+  pub same : andThen (Accepted sum) (readFields (rowOf l t a left) b p s) ≡ andThen (one 0 0) (readFields (rowOf l t a₀ n) b 0 s)
+
+pub reading-small : (lens l : List ℕ) (t a₀ n : ℕ) (b : List ℕ) (s : ℕ) (sum : Counts) (a left p : ℕ) → n ≤ 64 → Reading lens l t a₀ n b s sum a left p → Small sum (2 ^ 50)
+reading-small lens l t a₀ n b s sum a left p h g =
+    record { records = omega (arith, g .records); words = omega (arith, g .words); bytes = omega (arith, g .bytes) }
+
+-- The first field's answer, and that of the rest.
+module _ (lens l : List ℕ) (t a left f : ℕ) (b : List ℕ) (p : ℕ) (g : Row lens l t a left) (z : 0 < left) (e : f ≡ wordAt l a) (w : Span) (q : w ≡ spanOf (head (treeOf l f)) (headsOf l t (a + 1) (left - 1)) b p) (s : ℕ) where
+  pub fields-read : readFields (rowOf l t a left) b p s ≡ andThen (readItem (treeOf l f) (part b w) (s + w .from)) (readFields (rowOf l t (a + 1) (left - 1)) b (w .next) s)
+  unfolding readItem
+  fields-read = rw (fields-first l t a left (g .lower) z, q, e)
+
+module _ (lens l : List ℕ) (t a₀ n : ℕ) (b : List ℕ) (s : ℕ) (sum : Counts) (a left p f : ℕ) (g : Reading lens l t a₀ n b s sum a left p) (z : 0 < left) (e : f ≡ wordAt l a) (w : Span) (q : w ≡ spanOf (head (treeOf l f)) (headsOf l t (a + 1) (left - 1)) b p) where
+  reading-first : andThen (Accepted sum) (andThen (readItem (treeOf l f) (part b w) (s + w .from)) (readFields (rowOf l t (a + 1) (left - 1)) b (w .next) s)) ≡ andThen (one 0 0) (readFields (rowOf l t a₀ n) b 0 s)
+  reading-first = rw (fields-read lens l t a left f b p (g .row) z e w q s) at (g .same)
+
+  pub reading-next : (c : Counts) → Accepted c ≡ readItem (treeOf l f) (part b w) (s + w .from) → Small c (2 ^ 40) → Reading lens l t a₀ n b s (plus sum c) (a + 1) (left - 1) (w .next)
+  reading-next c h k =
+      record {
+        row = row-next lens l t a left f (g .row) z e;
+        some = omega (arith, g .some);
+        ranges = span-ok lens l t a left f b p (g .row) z e (g .ranges) w q .2;
+        records = omega (arith, g .records, k .records);
+        words = omega (arith, g .words, k .words);
+        bytes = omega (arith, g .bytes, k .bytes);
+        same = then-assoc (Accepted sum) (Accepted c) (readFields (rowOf l t (a + 1) (left - 1)) b (w .next) s) ∙ rw (← h) at reading-first;
+      }
+
+  pub reading-stop : (r : Refusal) (u v : ℕ) → Refused r u v ≡ readItem (treeOf l f) (part b w) (s + w .from) → Refused r u v ≡ andThen (one 0 0) (readFields (rowOf l t a₀ n) b 0 s)
+  reading-stop r u v h = rw (← h) at reading-first
+
+pub reading-end : (lens l : List ℕ) (t a₀ n : ℕ) (b : List ℕ) (s : ℕ) (sum : Counts) (a left p : ℕ) → Reading lens l t a₀ n b s sum a left p → left ≤ 0 → Accepted sum ≡ andThen (one 0 0) (readFields (rowOf l t a₀ n) b 0 s)
+unfolding readItem
+reading-end lens l t a₀ n b s sum a left p g h = sym (ap Accepted (plus-zero sum)) ∙ rw (fields-none l (trees l t) a left h) at (g .same)
+
+-- What an item counts.
+pub item-small : (lens l : List ℕ) (f : ℕ) (b : List ℕ) (s : ℕ) (c : Counts) → Under lens l (f + 1) → length b < 2 ^ 32 → Accepted c ≡ readItem (treeOf l f) b s → Small c (2 ^ 40)
+item-small lens l f b s c g k e =
+    let q = counts-small l f b s c (g .legal) (omega (arith, g .few)) k (sym e) in
+    record { records = omega (arith, q .0); words = omega (arith, q .1); bytes = omega (arith, q .2) }
+
+pub small-more : (c : Counts) → Small c (2 ^ 40) → Small c (2 ^ 50)
+small-more c g = record { records = omega (arith, g .records); words = omega (arith, g .words); bytes = omega (arith, g .bytes) }
+
+-- A container.
+module _ (lens l : List ℕ) (t : ℕ) (n : Node) (e : n ≡ nodeOf l t) (g : Under lens l (t + 1)) where
+  pub node-ok : LegalNode l t n
+  node-ok = legal-node l t n e (g .legal)
+
+  pub container-row : n .kind ≡ 6 → Row lens l t (n .at + 2) (n .second)
+  container-row k =
+      let m = node-ok in
+      record { under = under-below lens l (t + 1) t (omega arith) g; near = omega (arith, m .near, m .few k); lower = m .lower k }
+
+  module _ (k : n .kind ≡ 6) (b : List ℕ) (s : ℕ) where
+    pub container-read : readItem (treeOf l t) b s ≡ built (layOut (headsOf l t (n .at + 2) (n .second)) b) t s (andThen (one 0 0) (readFields (rowOf l t (n .at + 2) (n .second)) b 0 s))
+    unfolding readItem
+    container-read = rw (as-container l t n e k)
+
+    pub container-on : Told.Fine ≡ layOut (headsOf l t (n .at + 2) (n .second)) b → andThen (one 0 0) (readFields (rowOf l t (n .at + 2) (n .second)) b 0 s) ≡ readItem (treeOf l t) b s
+    container-on h = rw (container-read, ← h)
+
+    pub container-stop : (r : Refusal) → Told.Refused r ≡ layOut (headsOf l t (n .at + 2) (n .second)) b → Refused r t s ≡ readItem (treeOf l t) b s
+    container-stop r h = rw (container-read, ← h)
+
+-- A union: the walk along the options finds the word that the selector points to.
+chosen : Choice → List Ty → List ℕ → ℕ → ℕ → Answer
+chosen Choice.Bare lower b t s = one 1 0
+chosen (Choice.Body o) lower b t s = andThen (one 1 0) (readItem (getD lower o (boolean 0)) (drop 1 b) (s + 1))
+chosen (Choice.Wrong r) lower b t s = Refused r t s
+
+module _ (l : List ℕ) (lower : List Ty) (b : List ℕ) (t s : ℕ) where
+  -- the option that is asked for
+  option-here : (w : ℕ) (os : Opts) (k : ℕ) → readOption (pick (eqb w 4294967295) (bare k os) (body k (getD lower w (boolean 0)) os)) k b t s ≡ chosen (optionAt w (length b)) lower b t s
+  unfolding readItem chosen
+  option-here w os k = go (eqb w 4294967295) (eqb (length b) 1)
+    where
+      alone : (d : Bool) → pick d (one 1 0) (Refused (InvalidByteLength (length b - 1) 0) t s) ≡ chosen (pick d Choice.Bare (Choice.Wrong (InvalidByteLength (length b - 1) 0))) lower b t s
+      alone true = refl
+      alone false = refl
+
+      go : (c d : Bool) → readOption (pick c (bare k os) (body k (getD lower w (boolean 0)) os)) k b t s ≡ chosen (pick c (pick (eqb (length b) 1) Choice.Bare (Choice.Wrong (InvalidByteLength (length b - 1) 0))) (Choice.Body w)) lower b t s
+      go true d = rw (eq-eqb k k refl) (alone (eqb (length b) 1))
+      go false d = rw (eq-eqb k k refl)
+
+  -- another option
+  option-skip : (c : Bool) (x : Ty) (os : Opts) (j k : ℕ) → (k ≡ j → ⊥) → readOption (pick c (bare j os) (body j x os)) k b t s ≡ readOption os k b t s
+  unfolding readItem
+  option-skip true x os j k h = rw (ne-eqb k j h)
+  option-skip false x os j k h = rw (ne-eqb k j h)
+
+  option-read : (n a j k : ℕ) → j ≤ k → readOption (options l lower a j n) k b t s ≡ pick (ltb k (j + n)) (chosen (optionAt (wordAt l (a + (k - j))) (length b)) lower b t s) (Refused (UnionSelectorInvalid k) t s)
+  unfolding options
+  option-read zero a j k h = rw (le-ltb k (j + 0) (omega arith)) (unfold readItem in refl)
+  option-read (suc n) a j k h = go (eqb k j) refl (option-read n (a + 1) (j + 1) k)
+    where
+      whole : Opts
+      whole = pick (eqb (wordAt l a) 4294967295) (bare j (options l lower (a + 1) (j + 1) n)) (body j (getD lower (wordAt l a) (boolean 0)) (options l lower (a + 1) (j + 1) n))
+
+      wanted : ℕ → ℕ → Answer
+      wanted m i = pick (ltb k m) (chosen (optionAt (wordAt l i) (length b)) lower b t s) (Refused (UnionSelectorInvalid k) t s)
+
+      go : (c : Bool) → eqb k j ≡ c → (j + 1 ≤ k → readOption (options l lower (a + 1) (j + 1) n) k b t s ≡ wanted (j + 1 + n) (a + 1 + (k - (j + 1)))) → readOption whole k b t s ≡ wanted (j + suc n) (a + (k - j))
+      go true p f =
+          let q : k ≡ j = eqb-true _ _ p in
+          let i : a + (k - j) ≡ a = omega arith in
+          rw (lt-ltb k (j + suc n) (omega arith), i, q) (option-here (wordAt l a) (options l lower (a + 1) (j + 1) n) j)
+      go false p f =
+          let q : k ≡ j → ⊥ = eqb-false _ _ p in
+          let i : a + 1 + (k - (j + 1)) ≡ a + (k - j) = omega arith in
+          let m : j + 1 + n ≡ j + suc n = omega arith in
+          option-skip (eqb (wordAt l a) 4294967295) (getD lower (wordAt l a) (boolean 0)) (options l lower (a + 1) (j + 1) n) j k q ∙ rw (i, m) at (f (omega arith))
+
+  -- the whole union
+  union-chosen : (a n : ℕ) → readItem (union t (options l lower a 0 n)) b s ≡ chosen (choose l a n b) lower b t s
+  unfolding choose readItem chosen
+  union-chosen a n = go (eqb (length b) 0) (leb (getD b 0 0) 127)
+    where
+      x : ℕ
+      x = getD b 0 0
+
+      either : (c : Bool) (u : Choice) → pick c (chosen u lower b t s) (Refused (UnionSelectorInvalid x) t s) ≡ chosen (pick c u (Choice.Wrong (UnionSelectorInvalid x))) lower b t s
+      either true u = refl
+      either false u = refl
+
+      inside : readOption (options l lower a 0 n) x b t s ≡ chosen (pick (ltb x n) (optionAt (wordAt l (a + x)) (length b)) (Choice.Wrong (UnionSelectorInvalid x))) lower b t s
+      inside =
+          let i : 0 + n ≡ n = omega arith in
+          let j : x - 0 ≡ x = omega arith in
+          rw (i, j) at (option-read n a 0 x (omega arith)) ∙ either (ltb x n) (optionAt (wordAt l (a + x)) (length b))
+
+      go : (c d : Bool) → pick c (Refused (OutOfBoundsByte 0) t s) (pick d (readOption (options l lower a 0 n) x b t s) (Refused (UnionSelectorInvalid x) t s)) ≡ chosen (choiceOf (pick c (SelectorResult.Refused (OutOfBoundsByte 0)) (pick d (SelectorResult.Selector (record { 0 = x })) (SelectorResult.Refused (UnionSelectorInvalid x)))) l a n (length b)) lower b t s
+      go true d = refl
+      go false true = inside
+      go false false = refl
+
+-- What a chosen body says of the bytes and of the table.
+body-option : (w len o : ℕ) → optionAt w len ≡ Choice.Body o → (o ≡ w) × (w ≡ 4294967295 → ⊥)
+body-option w len o e = go (eqb w 4294967295) (eqb len 1) refl e
+  where
+    go : (c d : Bool) → eqb w 4294967295 ≡ c → pick c (pick d Choice.Bare (Choice.Wrong (InvalidByteLength (len - 1) 0))) (Choice.Body w) ≡ Choice.Body o → (o ≡ w) × (w ≡ 4294967295 → ⊥)
+    go true true p h = let z : _≡_ {A = ℕ} 0 1 = cc in absurd (omega arith)
+    go true false p h = let z : _≡_ {A = ℕ} 0 1 = cc in absurd (omega arith)
+    go false d p h = (cc, eqb-false _ _ p)
+
+-- the choice, by its three tests
+choice-by : List ℕ → ℕ → ℕ → List ℕ → Bool → Bool → Bool → Choice
+choice-by l a n b c d f =
+    pick c (Choice.Wrong (OutOfBoundsByte 0))
+    (pick d
+    (pick f (optionAt (wordAt l (a + getD b 0 0)) (length b)) (Choice.Wrong (UnionSelectorInvalid (getD b 0 0))))
+    (Choice.Wrong (UnionSelectorInvalid (getD b 0 0))))
+
+choose-by : (l : List ℕ) (a n : ℕ) (b : List ℕ) → choose l a n b ≡ choice-by l a n b (eqb (length b) 0) (leb (getD b 0 0) 127) (ltb (getD b 0 0) n)
+unfolding choose choice-by
+choose-by l a n b = go (eqb (length b) 0) (leb (getD b 0 0) 127)
+  where
+    x : ℕ
+    x = getD b 0 0
+
+    go : (c d : Bool) → choiceOf (pick c (SelectorResult.Refused (OutOfBoundsByte 0)) (pick d (SelectorResult.Selector (record { 0 = x })) (SelectorResult.Refused (UnionSelectorInvalid x)))) l a n (length b) ≡ pick c (Choice.Wrong (OutOfBoundsByte 0)) (pick d (pick (ltb x n) (optionAt (wordAt l (a + x)) (length b)) (Choice.Wrong (UnionSelectorInvalid x))) (Choice.Wrong (UnionSelectorInvalid x)))
+    go true d = refl
+    go false true = refl
+    go false false = refl
+
+-- A choice that is no refusal comes from a word of the table, and there is a selector.
+right-choice : (l : List ℕ) (a n : ℕ) (b : List ℕ) (u : Choice) → ((r : Refusal) → Choice.Wrong r ≡ u → ⊥) → choose l a n b ≡ u → (getD b 0 0 < n) × (optionAt (wordAt l (a + getD b 0 0)) (length b) ≡ u) × (1 ≤ length b)
+unfolding choice-by
+right-choice l a n b u never e = go (eqb (length b) 0) (leb (getD b 0 0) 127) (ltb (getD b 0 0) n) refl refl (sym (choose-by l a n b) ∙ e)
+  where
+    go : (c d f : Bool) → eqb (length b) 0 ≡ c → ltb (getD b 0 0) n ≡ f → choice-by l a n b c d f ≡ u → (getD b 0 0 < n) × (optionAt (wordAt l (a + getD b 0 0)) (length b) ≡ u) × (1 ≤ length b)
+    go true d f p q h = absurd (never _ h)
+    go false false f p q h = absurd (never _ h)
+    go false true false p q h = absurd (never _ h)
+    go false true true p q h = let y : length b ≡ 0 → ⊥ = eqb-false _ _ p in (ltb-true _ _ q, h, omega arith)
+
+bare-option : (w len : ℕ) → optionAt w len ≡ Choice.Bare → w ≡ 4294967295
+bare-option w len e = go (eqb w 4294967295) refl e
+  where
+    go : (c : Bool) → eqb w 4294967295 ≡ c → pick c (pick (eqb len 1) Choice.Bare (Choice.Wrong (InvalidByteLength (len - 1) 0))) (Choice.Body w) ≡ Choice.Bare → w ≡ 4294967295
+    go true p h = eqb-true _ _ p
+    go false p h = let z : _≡_ {A = ℕ} 0 1 = cc in absurd (omega arith)
+
+pub bare-says : (l : List ℕ) (a n : ℕ) (b : List ℕ) → choose l a n b ≡ Choice.Bare → (getD b 0 0 < n) × (wordAt l (a + getD b 0 0) ≡ 4294967295)
+bare-says l a n b e =
+    let q = right-choice l a n b Choice.Bare (λ r h. let z : _≡_ {A = ℕ} 0 1 = cc in omega arith) e in
+    (q .0, bare-option _ (length b) (q .1))
+
+pub body-says : (l : List ℕ) (a n : ℕ) (b : List ℕ) (o : ℕ) → choose l a n b ≡ Choice.Body o → (getD b 0 0 < n) × (o ≡ wordAt l (a + getD b 0 0)) × (wordAt l (a + getD b 0 0) ≡ 4294967295 → ⊥) × (1 ≤ length b)
+body-says l a n b o e =
+    let q = right-choice l a n b (Choice.Body o) (λ r h. let z : _≡_ {A = ℕ} 0 1 = cc in omega arith) e in
+    let r = body-option (wordAt l (a + getD b 0 0)) (length b) o (q .1) in
+    (q .0, r .0, r .1, q .2)
+
+pub split-some : (b : List ℕ) (k : UnionSelector) → splitUnion b ≡ SelectorResult.Selector k → 1 ≤ length b
+split-some b k e = go (eqb (length b) 0) refl e
+  where
+    go : (c : Bool) → eqb (length b) 0 ≡ c → pick c (SelectorResult.Refused (OutOfBoundsByte 0)) (selectorOf (getD b 0 0)) ≡ SelectorResult.Selector k → 1 ≤ length b
+    go true p h = let z : _≡_ {A = ℕ} 0 1 = cc in absurd (omega arith)
+    go false p h = let y : length b ≡ 0 → ⊥ = eqb-false _ _ p in omega arith
+
+-- What is chosen, of the tree.
+module _ (lens l : List ℕ) (t : ℕ) (n : Node) (e : n ≡ nodeOf l t) (g : Under lens l (t + 1)) (k : n .kind ≡ 7) (b : List ℕ) where
+  union-read : (s : ℕ) → readItem (treeOf l t) b s ≡ chosen (choose l (n .at + 2) (n .second) b) (trees l t) b t s
+  union-read s = rw (as-union l t n e k) (union-chosen l (trees l t) b t s (n .at + 2) (n .second))
+
+  pub bare-read : (s : ℕ) → Choice.Bare ≡ choose l (n .at + 2) (n .second) b → one 1 0 ≡ readItem (treeOf l t) b s
+  unfolding chosen
+  bare-read s q = rw (union-read s, ← q)
+
+  pub wrong-read : (s : ℕ) (r : Refusal) → Choice.Wrong r ≡ choose l (n .at + 2) (n .second) b → Refused r t s ≡ readItem (treeOf l t) b s
+  unfolding chosen
+  wrong-read s r q = rw (union-read s, ← q)
+
+  module _ (o : ℕ) (q : Choice.Body o ≡ choose l (n .at + 2) (n .second) b) where
+    pub body-below : (o < t) × (1 ≤ length b)
+    unfolding LowerOrBare
+    body-below =
+        let p = body-says l (n .at + 2) (n .second) b o (sym q) in
+        let m = node-ok lens l t n e g in
+        (rw (p .1) (m .optional k (getD b 0 0) (p .0) (p .2)), p .3)
+
+    pub body-read : (s : ℕ) → andThen (one 1 0) (readItem (treeOf l o) (take (length b - 1) (drop 1 b)) (s + 1)) ≡ readItem (treeOf l t) b s
+    unfolding chosen
+    body-read s =
+        rw (union-read s, ← q, trees-get l t o (boolean 0) (body-below .0), take-all (length b - 1) (drop 1 b) (simp length-drop (omega arith)))

@@ -1,0 +1,83 @@
+-- Document 01's twelve proved cases ("Worked bids") in one table under one statement, and the listing of P, all by computation.
+-- Assumes nothing.
+use mathlib.Core.Path.{_≡_, refl}
+use mathlib.Core.List.{List, [], _∷_, _++_}
+use mathlib.Core.Bool.{false}
+use Prim.Native.Nat.{ℕ}
+use lib.ListN.{take}
+use Rattle.standard.specs.Bytes.{le, num, numAt, wordAt}
+use Rattle.standard.specs.Types.{bitList, head, heads, joined, width, portion}
+use Rattle.standard.specs.Parts.{next}
+use Rattle.standard.specs.Bits.{bitNum, packs, pack, marked}
+use Rattle.standard.specs.Serialize.{serialize}
+use Rattle.standard.specs.declared.Refusal.the-variants.{InvalidByteLength, InvalidLengthPrefix, OffsetIntoFixedPortion, OffsetSkipsVariableBytes, OffsetsAreDecreasing, OffsetOutOfBounds, OutOfBounds, MissingLengthInformation, ExcessBits, InvalidByteCount}
+use Rattle.standard.proofs.Bits.{bitsOf}
+use Rattle.decode.specs.Builder.{step, register, build, layOut}
+use Rattle.bitfield.specs.Body.{highest, bitListBody}
+use Rattle.layout.specs.Tree.{nodeOf, leafOf, fromNode, fields, options, trees, treeOf}
+use Rattle.layout.specs.Table.{count, refs, many, containerEnd, leafEnd, bodyEnd, typesEnd, tableOf}
+use Rattle.message.specs.Read.{readItem}
+use Rattle.message.specs.Listing.{entry, listItem}
+use Rattle.message.specs.Check.{messageType, checkMessage}
+use Rattle.message.specs.declared.Answer.{Answer}
+use Rattle.message.specs.declared.Answer.the-variants.{Accepted, Refused}
+
+-- The bytes of some words
+bytesOf : List ℕ → List ℕ
+bytesOf [] = []
+bytesOf (w ∷ ws) = le 4 w ++ bytesOf ws
+
+-- Layout L: a number of 8 bytes, free bytes to 16, bits to 8, a container of the three
+layoutL : List ℕ
+layoutL = bytesOf (4 ∷ 5 ∷ 7 ∷ 9 ∷ 11 ∷ 0 ∷ 8 ∷ 3 ∷ 16 ∷ 5 ∷ 8 ∷ 6 ∷ 3 ∷ 0 ∷ 1 ∷ 2 ∷ [])
+
+-- One type, a bit list of at most four bits
+bits4 : List ℕ
+bits4 = bytesOf (1 ∷ 2 ∷ 5 ∷ 4 ∷ [])
+
+-- Message P with its two offsets set to a and b
+offsets : ℕ → ℕ → List ℕ
+offsets a b = (0x2a ∷ 0 ∷ 0 ∷ 0 ∷ 0 ∷ 0 ∷ 0 ∷ 0 ∷ []) ++ le 4 a ++ le 4 b ++ (0x0a ∷ 0x0b ∷ 0x0c ∷ 0x0d ∷ [])
+
+messageP : List ℕ
+messageP = offsets 16 19
+
+-- A case: the layout and the message, and the answer
+record Case : Type 0 where
+  layout : List ℕ
+  message : List ℕ
+  answer : Answer
+
+cases : List Case
+cases =
+    record { layout = layoutL; message = messageP; answer = Accepted (record { records = 4; words = 2; bytes = 12 }) }
+    ∷ record { layout = layoutL; message = []; answer = Refused (InvalidByteLength 0 8) 3 0 }
+    ∷ record { layout = layoutL; message = take 10 messageP; answer = Refused (InvalidLengthPrefix 2 4) 3 0 }
+    ∷ record { layout = layoutL; message = offsets 15 19; answer = Refused (OffsetIntoFixedPortion 15) 3 0 }
+    ∷ record { layout = layoutL; message = offsets 17 19; answer = Refused (OffsetSkipsVariableBytes 17) 3 0 }
+    ∷ record { layout = layoutL; message = offsets 200 19; answer = Refused (OffsetOutOfBounds 200) 3 0 }
+    ∷ record { layout = layoutL; message = offsets 19 18; answer = Refused (OffsetsAreDecreasing 18) 3 0 }
+    ∷ record { layout = layoutL; message = offsets 16 20; answer = Refused ExcessBits 2 20 }
+    ∷ record { layout = bits4; message = 0x10 ∷ []; answer = Accepted (record { records = 1; words = 1; bytes = 1 }) }
+    ∷ record { layout = bits4; message = 0x20 ∷ []; answer = Refused (OutOfBounds 4 4) 0 0 }
+    ∷ record { layout = bits4; message = 0x01 ∷ 0x00 ∷ []; answer = Refused (InvalidByteCount 2 1) 0 0 }
+    ∷ record { layout = bits4; message = 0x00 ∷ []; answer = Refused MissingLengthInformation 0 0 }
+    ∷ []
+
+Holds : List Case → Type 0
+Holds [] = Unit {0}
+Holds (x ∷ xs) = (checkMessage (x .layout) (x .message) ≡ x .answer) × Holds xs
+
+cases-hold : Holds cases
+unfolding Holds cases messageP offsets layoutL bits4 bytesOf le num numAt wordAt head heads joined width portion next nodeOf leafOf fromNode fields options trees treeOf step register build layOut bitsOf highest bitListBody readItem count refs many containerEnd leafEnd bodyEnd typesEnd tableOf checkMessage
+cases-hold = (refl, (refl, (refl, (refl, (refl, (refl, (refl, (refl, (refl, (refl, (refl, (refl, tt))))))))))))
+
+-- "For L and P it prints only": type, start and end of each item
+listed : listItem (treeOf layoutL 3) messageP 0 ≡ bytesOf (3 ∷ 0 ∷ 20 ∷ 0 ∷ 0 ∷ 8 ∷ 1 ∷ 16 ∷ 19 ∷ 2 ∷ 19 ∷ 20 ∷ [])
+unfolding messageP offsets layoutL bytesOf le num numAt wordAt head heads joined width portion next nodeOf leafOf fromNode fields options trees treeOf entry listItem
+listed = refl
+
+-- Case (9) is the serialization of four zeros, and by `message-one` of nothing else.
+four-zeros : (messageType bits4 1 ≡ bitList 0 4) × (serialize (bitList 0 4) (false ∷ false ∷ false ∷ false ∷ []) ≡ 0x10 ∷ [])
+unfolding bits4 bytesOf le num numAt wordAt nodeOf leafOf fromNode trees treeOf bitNum packs pack marked serialize
+four-zeros = (refl, refl)

@@ -1,0 +1,9 @@
+-- What the proofs of several functions use, and the theorems on reading.
+pub mod Answers
+pub mod Bounds
+pub mod Rows
+pub mod Bodies
+pub mod Records
+pub mod Entries
+pub mod Theorem
+pub mod Cases

@@ -1,0 +1,172 @@
+-- The fields of a container, one by one: their heads, their registration, and where each lies. Assumes nothing.
+use mathlib.Core.Path.{_≡_, refl, sym, ap, _∙_}
+use mathlib.Core.List.{List, [], _∷_}
+use Prim.Native.Nat.{ℕ, zero, suc, _+_, _-_, _≤_, _<_, _^_}
+use native.Mathlib.Omega.{arith}
+use lib.ListN.{length, getD, take, drop, length-take, length-drop}
+use Rattle.standard.specs.Bytes.{four, wordAt}
+use Rattle.standard.specs.Types.{Ty, Tys, end, field, head, heads}
+use Rattle.standard.specs.Parts.{next, spanOf, part, InRange}
+use Rattle.standard.specs.declared.Head.{Head}
+use Rattle.standard.specs.declared.Head.the-variants.{Fixed, Variable}
+use Rattle.standard.specs.declared.Span.{Span}
+use Rattle.standard.specs.declared.Told.{Told}
+use Rattle.standard.specs.declared.Refusal.{Refusal}
+use Rattle.standard.proofs.Join.{range-weaken, span-ranges}
+use Rattle.standard.proofs.Laws.{fixed-some}
+use Rattle.decode.specs.Builder.{fresh, step, registerHead, follow, register, build, layOut}
+use Rattle.decode.specs.declared.builder.Progress.{Progress}
+use Rattle.decode.specs.declared.builder.Step.{Step}
+use Rattle.decode.proofs.Register.{register-step, step-within}
+use Rattle.layout.specs.Tree.{treeOf, fields, trees, lenOf, headOf}
+use Rattle.layout.specs.Legal.{Legal}
+use Rattle.layout.specs.Steps.{Known}
+use Rattle.layout.proofs.Facts.{fields-none, heads-first, lower-here, lower-rest, head-len, legal-below}
+use Rattle.layout.proofs.Tables.{known-len, known-length}
+use Rattle.layout.proofs.Trees.{legal-tree}
+use Rattle.message.specs.Steps.{Under, Row, rowOf, headsOf}
+
+-- The lengths that the table check found.
+pub under-table : (lens l : List ℕ) (k : ℕ) → Known lens l k → Under lens l k
+under-table lens l k g = record { legal = g .legal; few = g .few; room = known-length lens l k g; found = λ f h. known-len lens l k g f h }
+
+pub under-below : (lens l : List ℕ) (t f : ℕ) → f ≤ t → Under lens l t → Under lens l f
+under-below lens l t f h g =
+    record { legal = legal-below l t f h (g .legal); few = omega (arith, g .few); room = g .room; found = λ u k. g .found u (omega arith) }
+
+module _ (lens l : List ℕ) (t : ℕ) (g : Under lens l t) (f : ℕ) (h : f < t) where
+  pub under-head : headOf (getD lens f 0) ≡ head (treeOf l f)
+  under-head = ap headOf (g .found f h) ∙ head-len (treeOf l f) (legal-tree l t f (g .legal) h)
+
+  pub under-index : f < length lens
+  under-index = omega (arith, g .few, g .room)
+
+-- A length of 0 says variable, another one is the fixed length.
+len-head : (h : Head) (k : ℕ) → k ≡ lenOf h → (k ≡ 0 → ⊥) → Fixed k ≡ h
+len-head (Fixed n) k e z = ap Fixed e
+len-head Variable k e z = absurd (z e)
+
+no-len-head : (h : Head) → ((n : ℕ) → h ≡ Fixed n → 1 ≤ n) → 0 ≡ lenOf h → Variable ≡ h
+no-len-head (Fixed n) f e = absurd (omega (arith, f n refl))
+no-len-head Variable f e = refl
+
+-- The first of some fields, and the rest.
+module _ (lens l : List ℕ) (t a left f : ℕ) (g : Row lens l t a left) (p : 0 < left) (e : f ≡ wordAt l a) where
+  pub row-below : f < t
+  row-below = rw e (lower-here l t a left (g .lower) p)
+
+  pub row-index : f < length lens
+  row-index = under-index lens l t (g .under) f row-below
+
+  pub row-head : headOf (getD lens f 0) ≡ head (treeOf l f)
+  row-head = under-head lens l t (g .under) f row-below
+
+  pub row-under : Under lens l (f + 1)
+  row-under = let b = row-below in under-below lens l t (f + 1) (omega arith) (g .under)
+
+  pub row-fixed : (k : ℕ) → k ≡ getD lens f 0 → (k ≡ 0 → ⊥) → Fixed k ≡ head (treeOf l f)
+  row-fixed k q z = len-head (head (treeOf l f)) k (q ∙ g .under .found f row-below) z
+
+  pub row-variable : (k : ℕ) → k ≡ getD lens f 0 → k ≡ 0 → Variable ≡ head (treeOf l f)
+  row-variable k q z =
+      no-len-head (head (treeOf l f)) (λ n h. fixed-some (treeOf l f) n (legal-tree l t f (g .under .legal) row-below) h)
+      (sym z ∙ q ∙ g .under .found f row-below)
+
+  pub row-heads : (h : Head) → h ≡ head (treeOf l f) → headsOf l t a left ≡ h ∷ headsOf l t (a + 1) (left - 1)
+  row-heads h q = rw q (heads-first l t a left (g .lower) p f e)
+
+  pub row-next : Row lens l t (a + 1) (left - 1)
+  row-next = record { under = g .under; near = omega (arith, g .near); lower = lower-rest l t a left (g .lower) p }
+
+pub heads-none : (l : List ℕ) (t a left : ℕ) → left ≤ 0 → headsOf l t a left ≡ []
+unfolding heads
+heads-none l t a left h = rw (fields-none l (trees l t) a left h)
+
+-- The loop of `lay_out`: registering what is left gives the whole.
+pub record Laying (lens l : List ℕ) (t a₀ n : ℕ) (b : List ℕ) (x : Progress) (a left : ℕ) : Type 0 where
+  pub row : Row lens l t a left
+  pub within : x .pos ≤ length b
+  pub same : register (headsOf l t a left) b x ≡ register (headsOf l t a₀ n) b fresh
+
+module _ (lens l : List ℕ) (t a₀ n : ℕ) (b : List ℕ) (x : Progress) (a left f : ℕ) (h : Head) (small : length b < 2 ^ 32) (g : Laying lens l t a₀ n b x a left) (p : 0 < left) (e : f ≡ wordAt l a) (q : h ≡ headOf (getD lens f 0)) where
+  laying-head : h ≡ head (treeOf l f)
+  laying-head = q ∙ row-head lens l t a left f (g .row) p e
+
+  laying-step : registerHead h b x ≡ step h b x
+  laying-step = register-step h b x (g .within) small
+
+  laying-same : follow (registerHead h b x) (register (headsOf l t (a + 1) (left - 1)) b) ≡ register (headsOf l t a₀ n) b fresh
+  unfolding register
+  laying-same = ap (λ (s : Step). follow s (register (headsOf l t (a + 1) (left - 1)) b)) laying-step ∙ rw (row-heads lens l t a left f (g .row) p e h laying-head) at (g .same)
+
+  pub laying-next : (y : Progress) → Step.Next y ≡ registerHead h b x → Laying lens l t a₀ n b y (a + 1) (left - 1)
+  laying-next y s =
+      record {
+        row = row-next lens l t a left f (g .row) p e;
+        within = step-within h b x y (sym (s ∙ laying-step));
+        same = rw (← s) at laying-same;
+      }
+
+  pub laying-bad : (r : Refusal) → Step.Refused r ≡ registerHead h b x → Told.Refused r ≡ layOut (headsOf l t a₀ n) b
+  unfolding layOut
+  laying-bad r s = rw (← laying-same, ← s)
+
+pub laying-end : (lens l : List ℕ) (t a₀ n : ℕ) (b : List ℕ) (x : Progress) (a left : ℕ) → Laying lens l t a₀ n b x a left → left ≤ 0 → build (length b) x ≡ layOut (headsOf l t a₀ n) b
+unfolding layOut register
+laying-end lens l t a₀ n b x a left g h = rw (← g .same, heads-none l t a left h)
+
+-- The loop of `next_start`: looking on from here finds the same.
+pub record Seeking (lens l : List ℕ) (t a₀ n : ℕ) (b : List ℕ) (p₀ a left p : ℕ) : Type 0 where
+  pub row : Row lens l t a left
+  pub ranges : InRange (headsOf l t a left) b p 0
+  pub same : next (headsOf l t a left) b p ≡ next (headsOf l t a₀ n) b p₀
+
+module _ (lens l : List ℕ) (t a₀ n : ℕ) (b : List ℕ) (p₀ a left p f k : ℕ) (g : Seeking lens l t a₀ n b p₀ a left p) (z : 0 < left) (e : f ≡ wordAt l a) (q : k ≡ getD lens f 0) where
+  pub seeking-found : k ≡ 0 → four b p ≡ next (headsOf l t a₀ n) b p₀
+  unfolding next
+  seeking-found v = rw (row-heads lens l t a left f (g .row) z e Variable (row-variable lens l t a left f (g .row) z e k q v)) at (g .same)
+
+  module _ (v : k ≡ 0 → ⊥) where
+    seeking-heads : headsOf l t a left ≡ Fixed k ∷ headsOf l t (a + 1) (left - 1)
+    seeking-heads = row-heads lens l t a left f (g .row) z e (Fixed k) (row-fixed lens l t a left f (g .row) z e k q v)
+
+    pub seeking-fits : p + k ≤ length b
+    unfolding InRange
+    seeking-fits = (rw seeking-heads at (g .ranges)) .0
+
+    pub seeking-next : Seeking lens l t a₀ n b p₀ (a + 1) (left - 1) (p + k)
+    unfolding InRange next
+    seeking-next =
+        record {
+          row = row-next lens l t a left f (g .row) z e;
+          ranges = (rw seeking-heads at (g .ranges)) .1;
+          same = rw seeking-heads at (g .same);
+        }
+
+pub seeking-end : (lens l : List ℕ) (t a₀ n : ℕ) (b : List ℕ) (p₀ a left p : ℕ) → Seeking lens l t a₀ n b p₀ a left p → left ≤ 0 → length b ≡ next (headsOf l t a₀ n) b p₀
+unfolding next
+seeking-end lens l t a₀ n b p₀ a left p g h = rw (heads-none l t a left h) at (g .same)
+
+-- Where the first field lies.
+module _ (lens l : List ℕ) (t a left f : ℕ) (b : List ℕ) (p : ℕ) (g : Row lens l t a left) (z : 0 < left) (e : f ≡ wordAt l a) (r : InRange (headsOf l t a left) b p 0) where
+  first-ranges : (h : Head) → h ≡ head (treeOf l f) → InRange (h ∷ headsOf l t (a + 1) (left - 1)) b p 0
+  first-ranges h q = rw (row-heads lens l t a left f g z e h q) at r
+
+  pub first-fits : (k : ℕ) → Fixed k ≡ head (treeOf l f) → p + k ≤ length b
+  unfolding InRange
+  first-fits k q = first-ranges (Fixed k) q .0
+
+  pub first-room : Variable ≡ head (treeOf l f) → p + 4 ≤ length b
+  unfolding InRange
+  first-room q = first-ranges Variable q .0
+
+  pub first-rest : Variable ≡ head (treeOf l f) → InRange (headsOf l t (a + 1) (left - 1)) b (p + 4) 0
+  unfolding InRange
+  first-rest q = range-weaken (headsOf l t (a + 1) (left - 1)) b (p + 4) 0 (four b p) (omega arith) (first-ranges Variable q .3)
+
+  module _ (w : Span) (q : w ≡ spanOf (head (treeOf l f)) (headsOf l t (a + 1) (left - 1)) b p) where
+    pub span-ok : (w .from ≤ w .to) × (w .to ≤ length b) × InRange (headsOf l t (a + 1) (left - 1)) b (w .next) 0
+    span-ok = rw q (span-ranges _ _ b p (first-ranges _ refl))
+
+    pub span-length : length (part b w) ≡ w .to - w .from
+    span-length = let k = span-ok in simp (length-take, length-drop) (omega arith)

@@ -1,0 +1,245 @@
+-- Items and fields call each other; the type number falls. The loop over the fields keeps `Reading`. Assumes nothing.
+use mathlib.Core.Path.{_≡_, refl, sym, ap, _∙_}
+use native.Mathlib.Omega.{arith}
+use borrow.Author.Needs.{needs}
+use Prim.Native.Nat.{_+_, _*_}
+use lib.ListN.{length-take, length-drop}
+use Rattle.decode.proofs.Register.{layout-ranges}
+use Rattle.layout.proofs.Facts.{as-leaf}
+use Rattle.message.specs.Read.{one, andThen}
+use Rattle.message.proofs.Rows.{row-below, row-under, under-below, span-ok, span-length}
+use Rattle.message.proofs.Bodies.{Reading, reading-small, reading-next, reading-stop, reading-end, item-small, small-more, node-ok, container-row, container-on, container-stop, bare-read, wrong-read, body-below, body-read}
+use Prim.Native.Nat.{ℕ, _<_}
+use borrow.Fn.Kinds.{In}
+use borrow.Fn.PlainCycle.{Measures, is, falls, and}
+use Rattle.message.proofs.items.field_check.Reads as field-check
+use Rattle.message.proofs.items.field_check.Kinds as field-check-kinds
+use Rattle.message.proofs.items.+field_check+item_check.Lts-field_check as field-check-lts
+use Rattle.message.proofs.items.item_check.Reads as item-check
+use Rattle.message.proofs.items.item_check.Kinds as item-check-kinds
+use Rattle.message.proofs.items.+field_check+item_check.Lts-item_check as item-check-lts
+use Rattle.layout.proofs.look.Reads as look-reads
+use Rattle.message.proofs.fields.lay_out.Reads as lay-out-reads
+use Rattle.message.proofs.fields.locate.Reads as locate-reads
+use Rattle.message.proofs.items.add.Reads as add-reads
+use Rattle.message.proofs.items.leaf.Reads as leaf-reads
+use Rattle.message.proofs.items.leaf_check.Reads as leaf-check-reads
+use Rattle.message.proofs.items.select.Reads as select-reads
+use Rattle.message.proofs.items.with_selector.Reads as with-selector-reads
+use Rattle.standard.proofs.words.word_at.Reads as word-at-reads
+use Rattle.message.proofs.items.+field_check+item_check.{statement}
+use Rattle.message.proofs.items.+field_check+item_check.Tie.{close}
+
+abbrev μ-field-check : Measures 3 field-check-kinds.ps ℕ
+μ-field-check κs a = 2 * a .1 .1 .0
+
+abbrev μ-item-check : Measures 3 item-check-kinds.ps ℕ
+μ-item-check κs a = 2 * a .1 .1 .0 + 1
+
+abbrev field-check-at : ℕ → In 3 field-check-kinds.ps
+field-check-at t =
+    and 3 field-check-kinds.ps (is 3 field-check-kinds.ps μ-field-check t) field-check.Pre
+
+abbrev field-check-below : ℕ → In 3 field-check-kinds.ps
+field-check-below t =
+    and 3 field-check-kinds.ps (falls 3 field-check-kinds.ps _<_ μ-field-check t) field-check.Pre
+
+abbrev item-check-at : ℕ → In 3 item-check-kinds.ps
+item-check-at t =
+    and 3 item-check-kinds.ps (is 3 item-check-kinds.ps μ-item-check t) item-check.Pre
+
+abbrev item-check-below : ℕ → In 3 item-check-kinds.ps
+item-check-below t =
+    and 3 item-check-kinds.ps (falls 3 item-check-kinds.ps _<_ μ-item-check t) item-check.Pre
+
+abbrev field-check-Inv-loop : field-check-lts.InvT-loop
+field-check-Inv-loop lens layout t a0 n b start sum₀ a₀ left₀ p₀ sum a left p = Reading lens layout t a0 n b start sum a left p
+
+abbrev field-check-μ-loop : field-check-lts.MeasureT-loop
+field-check-μ-loop lens layout t a0 n b start sum₀ a₀ left₀ p₀ sum a left p = left
+
+-- what `field_check` calls, at the measure t
+abbrev field-check-calls : ℕ → field-check-lts.Claims
+field-check-calls t = (word-at-reads.Asked, word-at-reads.Learnt, locate-reads.Asked, locate-reads.Learnt, item-check-below t, item-check.Post, add-reads.Asked, add-reads.Learnt)
+
+-- what `item_check` calls, at the measure t
+abbrev item-check-calls : ℕ → item-check-lts.Claims
+item-check-calls t = (look-reads.Asked, look-reads.Learnt, lay-out-reads.Asked, lay-out-reads.Learnt, field-check-below t, field-check.Post, select-reads.Asked, select-reads.Learnt, leaf-reads.Asked, leaf-reads.Learnt, item-check-below t, item-check.Post, with-selector-reads.Asked, with-selector-reads.Learnt, leaf-check-reads.Asked, leaf-check-reads.Learnt)
+
+field-check-loop-holds : (t : ℕ) → field-check-lts.Need-loop-holds (field-check-calls t) (field-check-at t) field-check.Post field-check-Inv-loop field-check-μ-loop
+field-check-loop-holds t c = record { row = c .before .before .before .pre .1 .0; some = omega arith; ranges = c .before .before .before .pre .1 .3; records = omega arith; words = omega arith; bytes = omega arith; same = refl }
+
+field-check-word-at-requires : (t : ℕ) → field-check-lts.Need-word-at-requires (field-check-calls t) (field-check-at t) field-check.Post field-check-Inv-loop field-check-μ-loop
+field-check-word-at-requires t c κs = search needs
+
+field-check-locate-requires : (t : ℕ) → field-check-lts.Need-locate-requires (field-check-calls t) (field-check-at t) field-check.Post field-check-Inv-loop field-check-μ-loop
+field-check-locate-requires t c κs = (c .before .before .loop .inv .row, c .before .loop-test .taken, c .word-at .ensures .0, c .before .before .loop .inv .ranges)
+
+field-check-add-at : (t : ℕ) → field-check-lts.Need-add-at (field-check-calls t) (field-check-at t) field-check.Post field-check-Inv-loop field-check-μ-loop
+field-check-add-at t c = omega (arith, span-ok _ _ _ _ _ _ _ _ (c .before .before .before .loop .inv .row) (c .before .before .loop-test .taken) (c .before .word-at .ensures .0) (c .before .before .before .loop .inv .ranges) _ (c .locate .ensures), c .before .before .before .before .before .before .before .pre .1 .2)
+
+field-check-sub-item-check : (t : ℕ) → field-check-lts.Need-sub-item-check (field-check-calls t) (field-check-at t) field-check.Post field-check-Inv-loop field-check-μ-loop
+field-check-sub-item-check t c = omega (arith, span-ok _ _ _ _ _ _ _ _ (c .before .before .before .loop .inv .row) (c .before .before .loop-test .taken) (c .before .word-at .ensures .0) (c .before .before .before .loop .inv .ranges) _ (c .locate .ensures))
+
+field-check-part-item-check-start : (t : ℕ) → field-check-lts.Need-part-item-check-start (field-check-calls t) (field-check-at t) field-check.Post field-check-Inv-loop field-check-μ-loop
+field-check-part-item-check-start t c = span-ok _ _ _ _ _ _ _ _ (c .before .before .before .loop .inv .row) (c .before .before .loop-test .taken) (c .before .word-at .ensures .0) (c .before .before .before .loop .inv .ranges) _ (c .locate .ensures) .0
+
+field-check-part-item-check-end : (t : ℕ) → field-check-lts.Need-part-item-check-end (field-check-calls t) (field-check-at t) field-check.Post field-check-Inv-loop field-check-μ-loop
+field-check-part-item-check-end t c = span-ok _ _ _ _ _ _ _ _ (c .before .before .before .loop .inv .row) (c .before .before .loop-test .taken) (c .before .word-at .ensures .0) (c .before .before .before .loop .inv .ranges) _ (c .locate .ensures) .1
+
+field-check-item-check-requires : (t : ℕ) → field-check-lts.Need-item-check-requires (field-check-calls t) (field-check-at t) field-check.Post field-check-Inv-loop field-check-μ-loop
+field-check-item-check-requires t c κs = (omega (arith, row-below _ _ _ _ _ _ (c .before .before .before .before .loop .inv .row) (c .before .before .before .loop-test .taken) (c .before .before .word-at .ensures .0), c .before .before .before .before .before .before .before .before .pre .0), (row-under _ _ _ _ _ _ (c .before .before .before .before .loop .inv .row) (c .before .before .before .loop-test .taken) (c .before .before .word-at .ensures .0), omega (arith, span-ok _ _ _ _ _ _ _ _ (c .before .before .before .before .loop .inv .row) (c .before .before .before .loop-test .taken) (c .before .before .word-at .ensures .0) (c .before .before .before .before .loop .inv .ranges) _ (c .before .locate .ensures), span-length _ _ _ _ _ _ _ _ (c .before .before .before .before .loop .inv .row) (c .before .before .before .loop-test .taken) (c .before .before .word-at .ensures .0) (c .before .before .before .before .loop .inv .ranges) _ (c .before .locate .ensures), c .before .before .before .before .before .before .before .before .pre .1 .2)))
+
+field-check-enum-known-r : (t : ℕ) → field-check-lts.Need-enum-known-r (field-check-calls t) (field-check-at t) field-check.Post field-check-Inv-loop field-check-μ-loop
+field-check-enum-known-r t c = search needs
+
+field-check-add-requires : (t : ℕ) → field-check-lts.Need-add-requires (field-check-calls t) (field-check-at t) field-check.Post field-check-Inv-loop field-check-μ-loop
+field-check-add-requires t c κs = (reading-small _ _ _ _ _ _ _ _ _ _ _ (c .before .before .before .before .before .before .before .before .before .before .before .before .pre .1 .1) (c .before .before .before .before .before .before .before .before .loop .inv), small-more _ (item-small _ _ _ _ _ _ (row-under _ _ _ _ _ _ (c .before .before .before .before .before .before .before .before .loop .inv .row) (c .before .before .before .before .before .before .before .loop-test .taken) (c .before .before .before .before .before .before .word-at .ensures .0)) (omega (arith, span-length _ _ _ _ _ _ _ _ (c .before .before .before .before .before .before .before .before .loop .inv .row) (c .before .before .before .before .before .before .before .loop-test .taken) (c .before .before .before .before .before .before .word-at .ensures .0) (c .before .before .before .before .before .before .before .before .loop .inv .ranges) _ (c .before .before .before .before .before .locate .ensures), span-ok _ _ _ _ _ _ _ _ (c .before .before .before .before .before .before .before .before .loop .inv .row) (c .before .before .before .before .before .before .before .loop-test .taken) (c .before .before .before .before .before .before .word-at .ensures .0) (c .before .before .before .before .before .before .before .before .loop .inv .ranges) _ (c .before .before .before .before .before .locate .ensures), c .before .before .before .before .before .before .before .before .before .before .before .before .pre .1 .2)) (sym (c .before .r .given .1) ∙ c .before .before .before .item-check .ensures)))
+
+field-check-enum-known-r-2 : (t : ℕ) → field-check-lts.Need-enum-known-r-2 (field-check-calls t) (field-check-at t) field-check.Post field-check-Inv-loop field-check-μ-loop
+field-check-enum-known-r-2 t c = search needs
+
+field-check-returns : (t : ℕ) → field-check-lts.Need-returns (field-check-calls t) (field-check-at t) field-check.Post field-check-Inv-loop field-check-μ-loop
+field-check-returns t c = reading-stop _ _ _ _ _ _ _ _ _ _ _ _ (c .before .before .before .before .before .before .before .before .loop .inv) (c .before .before .before .before .before .before .before .loop-test .taken) (c .before .before .before .before .before .before .word-at .ensures .0) _ (c .before .before .before .before .before .locate .ensures) _ _ _ (sym (c .before .r2 .given .1) ∙ c .before .before .before .item-check .ensures)
+
+field-check-add-a : (t : ℕ) → field-check-lts.Need-add-a (field-check-calls t) (field-check-at t) field-check.Post field-check-Inv-loop field-check-μ-loop
+field-check-add-a t c = omega (arith, c .before .before .before .before .before .before .before .before .before .loop .inv .row .near)
+
+field-check-sub-left : (t : ℕ) → field-check-lts.Need-sub-left (field-check-calls t) (field-check-at t) field-check.Post field-check-Inv-loop field-check-μ-loop
+field-check-sub-left t c = omega arith
+
+field-check-loop-less : (t : ℕ) → field-check-lts.Need-loop-less (field-check-calls t) (field-check-at t) field-check.Post field-check-Inv-loop field-check-μ-loop
+field-check-loop-less t c = omega arith
+
+field-check-loop-again : (t : ℕ) → field-check-lts.Need-loop-again (field-check-calls t) (field-check-at t) field-check.Post field-check-Inv-loop field-check-μ-loop
+field-check-loop-again t c = rw (c .add .ensures) (reading-next _ _ _ _ _ _ _ _ _ _ _ _ (c .before .before .before .before .before .before .before .before .before .loop .inv) (c .before .before .before .before .before .before .before .before .loop-test .taken) (c .before .before .before .before .before .before .before .word-at .ensures .0) _ (c .before .before .before .before .before .before .locate .ensures) _ (sym (c .before .before .r .given .1) ∙ c .before .before .before .before .item-check .ensures) (item-small _ _ _ _ _ _ (row-under _ _ _ _ _ _ (c .before .before .before .before .before .before .before .before .before .loop .inv .row) (c .before .before .before .before .before .before .before .before .loop-test .taken) (c .before .before .before .before .before .before .before .word-at .ensures .0)) (omega (arith, span-length _ _ _ _ _ _ _ _ (c .before .before .before .before .before .before .before .before .before .loop .inv .row) (c .before .before .before .before .before .before .before .before .loop-test .taken) (c .before .before .before .before .before .before .before .word-at .ensures .0) (c .before .before .before .before .before .before .before .before .before .loop .inv .ranges) _ (c .before .before .before .before .before .before .locate .ensures), span-ok _ _ _ _ _ _ _ _ (c .before .before .before .before .before .before .before .before .before .loop .inv .row) (c .before .before .before .before .before .before .before .before .loop-test .taken) (c .before .before .before .before .before .before .before .word-at .ensures .0) (c .before .before .before .before .before .before .before .before .before .loop .inv .ranges) _ (c .before .before .before .before .before .before .locate .ensures), c .before .before .before .before .before .before .before .before .before .before .before .before .before .pre .1 .2)) (sym (c .before .before .r .given .1) ∙ c .before .before .before .before .item-check .ensures)))
+
+field-check-returns-2 : (t : ℕ) → field-check-lts.Need-returns-2 (field-check-calls t) (field-check-at t) field-check.Post field-check-Inv-loop field-check-μ-loop
+field-check-returns-2 t c = reading-end _ _ _ _ _ _ _ _ _ _ _ (c .before .loop .inv) (c .loop-test .left)
+
+item-check-look-requires : (t : ℕ) → item-check-lts.Need-look-requires (item-check-calls t) (item-check-at t) item-check.Post
+item-check-look-requires t c κs = search needs
+
+item-check-add-first : (t : ℕ) → item-check-lts.Need-add-first (item-check-calls t) (item-check-at t) item-check.Post
+item-check-add-first t c = omega (arith, node-ok _ _ _ _ (c .before .look .ensures) (c .before .before .before .before .before .pre .1 .0) .near)
+
+item-check-lay-out-requires : (t : ℕ) → item-check-lts.Need-lay-out-requires (item-check-calls t) (item-check-at t) item-check.Post
+item-check-lay-out-requires t c κs = (container-row _ _ _ _ (c .before .before .before .look .ensures) (c .before .before .before .before .before .before .before .pre .1 .0) (c .if1 .taken), omega (arith, c .before .before .before .before .before .before .before .pre .1 .1))
+
+item-check-enum-told : (t : ℕ) → item-check-lts.Need-enum-told (item-check-calls t) (item-check-at t) item-check.Post
+item-check-enum-told t c = search needs
+
+item-check-field-check-requires : (t : ℕ) → item-check-lts.Need-field-check-requires (item-check-calls t) (item-check-at t) item-check.Post
+item-check-field-check-requires t c κs = (omega (arith, c .before .before .before .before .before .before .before .before .before .before .pre .0), (container-row _ _ _ _ (c .before .before .before .before .before .before .look .ensures) (c .before .before .before .before .before .before .before .before .before .before .pre .1 .0) (c .before .before .before .if1 .taken), node-ok _ _ _ _ (c .before .before .before .before .before .before .look .ensures) (c .before .before .before .before .before .before .before .before .before .before .pre .1 .0) .few (c .before .before .before .if1 .taken), c .before .before .before .before .before .before .before .before .before .before .pre .1 .1, layout-ranges _ _ (sym (c .before .before .lay-out .ensures) ∙ c .enum-told .given .1)))
+
+item-check-enum-known-told : (t : ℕ) → item-check-lts.Need-enum-known-told (item-check-calls t) (item-check-at t) item-check.Post
+item-check-enum-known-told t c = search needs
+
+item-check-select-requires : (t : ℕ) → item-check-lts.Need-select-requires (item-check-calls t) (item-check-at t) item-check.Post
+item-check-select-requires t c κs = omega (arith, node-ok _ _ _ _ (c .before .before .before .before .before .look .ensures) (c .before .before .before .before .before .before .before .before .before .pre .1 .0) .near)
+
+item-check-enum-told-2 : (t : ℕ) → item-check-lts.Need-enum-told-2 (item-check-calls t) (item-check-at t) item-check.Post
+item-check-enum-told-2 t c = search needs
+
+item-check-leaf-requires : (t : ℕ) → item-check-lts.Need-leaf-requires (item-check-calls t) (item-check-at t) item-check.Post
+item-check-leaf-requires t c κs = search needs
+
+item-check-enum-known-c : (t : ℕ) → item-check-lts.Need-enum-known-c (item-check-calls t) (item-check-at t) item-check.Post
+item-check-enum-known-c t c = search needs
+
+item-check-add-inside : (t : ℕ) → item-check-lts.Need-add-inside (item-check-calls t) (item-check-at t) item-check.Post
+item-check-add-inside t c = omega (arith, body-below _ _ _ _ (c .before .before .before .before .before .before .before .before .before .look .ensures) (c .before .before .before .before .before .before .before .before .before .before .before .before .before .pre .1 .0) (c .before .before .before .before .if2 .taken) _ _ (sym (c .before .c .given .1) ∙ c .before .before .before .select .ensures), c .before .before .before .before .before .before .before .before .before .before .before .before .before .pre .1 .1)
+
+item-check-sub-item-check : (t : ℕ) → item-check-lts.Need-sub-item-check (item-check-calls t) (item-check-at t) item-check.Post
+item-check-sub-item-check t c = omega (arith, body-below _ _ _ _ (c .before .before .before .before .before .before .before .before .before .look .ensures) (c .before .before .before .before .before .before .before .before .before .before .before .before .before .pre .1 .0) (c .before .before .before .before .if2 .taken) _ _ (sym (c .before .c .given .1) ∙ c .before .before .before .select .ensures))
+
+item-check-part-item-check-start : (t : ℕ) → item-check-lts.Need-part-item-check-start (item-check-calls t) (item-check-at t) item-check.Post
+item-check-part-item-check-start t c = omega (arith, body-below _ _ _ _ (c .before .before .before .before .before .before .before .before .before .look .ensures) (c .before .before .before .before .before .before .before .before .before .before .before .before .before .pre .1 .0) (c .before .before .before .before .if2 .taken) _ _ (sym (c .before .c .given .1) ∙ c .before .before .before .select .ensures))
+
+item-check-part-item-check-end : (t : ℕ) → item-check-lts.Need-part-item-check-end (item-check-calls t) (item-check-at t) item-check.Post
+item-check-part-item-check-end t c = omega arith
+
+item-check-item-check-requires : (t : ℕ) → item-check-lts.Need-item-check-requires (item-check-calls t) (item-check-at t) item-check.Post
+item-check-item-check-requires t c κs =
+    let z = body-below _ _ _ _ (c .before .before .before .before .before .before .before .before .before .before .look .ensures) (c .before .before .before .before .before .before .before .before .before .before .before .before .before .before .pre .1 .0) (c .before .before .before .before .before .if2 .taken) _ _ (sym (c .before .before .c .given .1) ∙ c .before .before .before .before .select .ensures) in
+    (omega (arith, c .before .before .before .before .before .before .before .before .before .before .before .before .before .before .pre .0, z), (under-below _ _ _ _ (omega (arith, z)) (c .before .before .before .before .before .before .before .before .before .before .before .before .before .before .pre .1 .0), simp (length-take, length-drop) (omega (arith, c .before .before .before .before .before .before .before .before .before .before .before .before .before .before .pre .1 .1, z))))
+
+item-check-with-selector-requires : (t : ℕ) → item-check-lts.Need-with-selector-requires (item-check-calls t) (item-check-at t) item-check.Post
+item-check-with-selector-requires t c κs =
+    let z = body-below _ _ _ _ (c .before .before .before .before .before .before .before .before .before .before .before .look .ensures) (c .before .before .before .before .before .before .before .before .before .before .before .before .before .before .before .pre .1 .0) (c .before .before .before .before .before .before .if2 .taken) _ _ (sym (c .before .before .before .c .given .1) ∙ c .before .before .before .before .before .select .ensures) in
+    λ d e. small-more d (item-small _ _ _ _ _ d (under-below _ _ _ _ (omega (arith, z)) (c .before .before .before .before .before .before .before .before .before .before .before .before .before .before .before .pre .1 .0)) (simp (length-take, length-drop) (omega (arith, c .before .before .before .before .before .before .before .before .before .before .before .before .before .before .before .pre .1 .1, z))) (sym e ∙ c .item-check .ensures))
+
+item-check-enum-known-c-2 : (t : ℕ) → item-check-lts.Need-enum-known-c-2 (item-check-calls t) (item-check-at t) item-check.Post
+item-check-enum-known-c-2 t c = search needs
+
+item-check-leaf-check-requires : (t : ℕ) → item-check-lts.Need-leaf-check-requires (item-check-calls t) (item-check-at t) item-check.Post
+item-check-leaf-check-requires t c κs = search needs
+
+item-check-returns : (t : ℕ) → item-check-lts.Need-returns (item-check-calls t) (item-check-at t) item-check.Post
+item-check-returns t c = c .field-check .ensures ∙ container-on _ _ _ _ (c .before .before .before .before .before .before .before .look .ensures) (c .before .before .before .before .before .before .before .before .before .before .before .pre .1 .0) (c .before .before .before .before .if1 .taken) _ _ (sym (c .before .enum-told .given .1) ∙ c .before .before .before .lay-out .ensures)
+
+item-check-returns-2 : (t : ℕ) → item-check-lts.Need-returns-2 (item-check-calls t) (item-check-at t) item-check.Post
+item-check-returns-2 t c = container-stop _ _ _ _ (c .before .before .before .before .before .before .before .look .ensures) (c .before .before .before .before .before .before .before .before .before .before .before .pre .1 .0) (c .before .before .before .before .if1 .taken) _ _ _ (sym (c .before .told .given .1) ∙ c .before .before .before .lay-out .ensures)
+
+item-check-returns-3 : (t : ℕ) → item-check-lts.Need-returns-3 (item-check-calls t) (item-check-at t) item-check.Post
+item-check-returns-3 t c = c .leaf .ensures ∙ bare-read _ _ _ _ (c .before .before .before .before .before .before .before .before .before .look .ensures) (c .before .before .before .before .before .before .before .before .before .before .before .before .before .pre .1 .0) (c .before .before .before .before .if2 .taken) _ _ (sym (c .before .enum-told2 .given .1) ∙ c .before .before .before .select .ensures)
+
+item-check-returns-4 : (t : ℕ) → item-check-lts.Need-returns-4 (item-check-calls t) (item-check-at t) item-check.Post
+item-check-returns-4 t c = c .with-selector .ensures ∙ ap (andThen (one 1 0)) (c .before .item-check .ensures) ∙ body-read _ _ _ _ (c .before .before .before .before .before .before .before .before .before .before .before .before .look .ensures) (c .before .before .before .before .before .before .before .before .before .before .before .before .before .before .before .before .pre .1 .0) (c .before .before .before .before .before .before .before .if2 .taken) _ _ (sym (c .before .before .before .before .c .given .1) ∙ c .before .before .before .before .before .before .select .ensures) _
+
+item-check-returns-5 : (t : ℕ) → item-check-lts.Need-returns-5 (item-check-calls t) (item-check-at t) item-check.Post
+item-check-returns-5 t c = wrong-read _ _ _ _ (c .before .before .before .before .before .before .before .before .before .look .ensures) (c .before .before .before .before .before .before .before .before .before .before .before .before .before .pre .1 .0) (c .before .before .before .before .if2 .taken) _ _ _ (sym (c .before .c2 .given .1) ∙ c .before .before .before .select .ensures)
+
+item-check-returns-6 : (t : ℕ) → item-check-lts.Need-returns-6 (item-check-calls t) (item-check-at t) item-check.Post
+item-check-returns-6 t c = rw (as-leaf _ _ _ (c .before .before .before .before .before .before .look .ensures) (c .before .before .before .if1 .left) (c .before .if2 .left)) (c .leaf-check .ensures)
+
+pub +field-check+item-check-spec : {M : Type 1} → statement M
++field-check+item-check-spec = close μ-field-check μ-item-check (λ t. field-check-lts.spec (field-check-calls t)
+    (field-check-at t)
+    field-check.Post
+    field-check-Inv-loop
+    field-check-μ-loop
+    (field-check-loop-holds t)
+    (field-check-word-at-requires t)
+    (field-check-locate-requires t)
+    (field-check-add-at t)
+    (field-check-sub-item-check t)
+    (field-check-part-item-check-start t)
+    (field-check-part-item-check-end t)
+    (field-check-item-check-requires t)
+    (field-check-enum-known-r t)
+    (field-check-add-requires t)
+    (field-check-enum-known-r-2 t)
+    (field-check-returns t)
+    (field-check-add-a t)
+    (field-check-sub-left t)
+    (field-check-loop-less t)
+    (field-check-loop-again t)
+    (field-check-returns-2 t))
+    λ t. item-check-lts.spec (item-check-calls t)
+    (item-check-at t)
+    item-check.Post
+    (item-check-look-requires t)
+    (item-check-add-first t)
+    (item-check-lay-out-requires t)
+    (item-check-enum-told t)
+    (item-check-field-check-requires t)
+    (item-check-enum-known-told t)
+    (item-check-select-requires t)
+    (item-check-enum-told-2 t)
+    (item-check-leaf-requires t)
+    (item-check-enum-known-c t)
+    (item-check-add-inside t)
+    (item-check-sub-item-check t)
+    (item-check-part-item-check-start t)
+    (item-check-part-item-check-end t)
+    (item-check-item-check-requires t)
+    (item-check-with-selector-requires t)
+    (item-check-enum-known-c-2 t)
+    (item-check-leaf-check-requires t)
+    (item-check-returns t)
+    (item-check-returns-2 t)
+    (item-check-returns-3 t)
+    (item-check-returns-4 t)
+    (item-check-returns-5 t)
+    (item-check-returns-6 t)

@@ -1,0 +1,228 @@
+-- Items and fields call each other; the type number falls. The loop over the fields keeps `Storing`. Assumes nothing.
+use mathlib.Core.Path.{_≡_, refl, sym, ap, _∙_}
+use native.Mathlib.Omega.{arith}
+use borrow.Author.Needs.{needs}
+use Prim.Native.Nat.{_+_, _*_}
+use mathlib.Core.List.{[]}
+use lib.ListN.{length-take, length-drop}
+use Rattle.standard.proofs.Store.{stored-then, stored-none, room-then}
+use Rattle.message.proofs.Rows.{row-below, row-under, under-below, span-ok, span-length}
+use Rattle.message.proofs.Bodies.{node-ok, container-row, body-below}
+use Rattle.message.proofs.Entries.{Storing, storing-accepted, storing-room, storing-next, storing-end, stored-length, room-long, list-container, list-leaf, container-accepted, union-bare, union-body, union-never, body-accepted}
+use Prim.Native.Nat.{ℕ, _<_}
+use borrow.Fn.Kinds.{In}
+use borrow.Fn.PlainCycle.{Measures, is, falls, and}
+use Rattle.message.proofs.listing.list_fields.Reads as list-fields
+use Rattle.message.proofs.listing.list_fields.Kinds as list-fields-kinds
+use Rattle.message.proofs.listing.+list_fields+list_item.Lts-list_fields as list-fields-lts
+use Rattle.message.proofs.listing.list_item.Reads as list-item
+use Rattle.message.proofs.listing.list_item.Kinds as list-item-kinds
+use Rattle.message.proofs.listing.+list_fields+list_item.Lts-list_item as list-item-lts
+use Rattle.layout.proofs.look.Reads as look-reads
+use Rattle.message.proofs.fields.locate.Reads as locate-reads
+use Rattle.message.proofs.items.select.Reads as select-reads
+use Rattle.message.proofs.listing.put_entry.Reads as put-entry-reads
+use Rattle.standard.proofs.words.word_at.Reads as word-at-reads
+use Rattle.message.proofs.listing.+list_fields+list_item.{statement}
+use Rattle.message.proofs.listing.+list_fields+list_item.Tie.{close}
+
+abbrev μ-list-fields : Measures 4 list-fields-kinds.ps ℕ
+μ-list-fields κs a = 2 * a .1 .1 .1 .1 .0
+
+abbrev μ-list-item : Measures 4 list-item-kinds.ps ℕ
+μ-list-item κs a = 2 * a .1 .1 .1 .1 .0 + 1
+
+abbrev list-fields-at : ℕ → In 4 list-fields-kinds.ps
+list-fields-at t =
+    and 4 list-fields-kinds.ps (is 4 list-fields-kinds.ps μ-list-fields t) list-fields.Pre
+
+abbrev list-fields-below : ℕ → In 4 list-fields-kinds.ps
+list-fields-below t =
+    and 4 list-fields-kinds.ps (falls 4 list-fields-kinds.ps _<_ μ-list-fields t) list-fields.Pre
+
+abbrev list-item-at : ℕ → In 4 list-item-kinds.ps
+list-item-at t = and 4 list-item-kinds.ps (is 4 list-item-kinds.ps μ-list-item t) list-item.Pre
+
+abbrev list-item-below : ℕ → In 4 list-item-kinds.ps
+list-item-below t =
+    and 4 list-item-kinds.ps (falls 4 list-item-kinds.ps _<_ μ-list-item t) list-item.Pre
+
+abbrev list-fields-Inv-loop : list-fields-lts.InvT-loop
+list-fields-Inv-loop out₀ at0 lens layout t a0 n b start at₀ a₀ left₀ p₀ out at a left p = Storing lens layout t a0 n b start out₀ at0 out at a left p
+
+abbrev list-fields-μ-loop : list-fields-lts.MeasureT-loop
+list-fields-μ-loop out₀ at0 lens layout t a0 n b start at₀ a₀ left₀ p₀ out at a left p = left
+
+-- what `list_fields` calls, at the measure t
+abbrev list-fields-calls : ℕ → list-fields-lts.Claims
+list-fields-calls t = (word-at-reads.Asked, word-at-reads.Learnt, locate-reads.Asked, locate-reads.Learnt, list-item-below t, list-item.Post)
+
+-- what `list_item` calls, at the measure t
+abbrev list-item-calls : ℕ → list-item-lts.Claims
+list-item-calls t = (put-entry-reads.Asked, put-entry-reads.Learnt, look-reads.Asked, look-reads.Learnt, list-fields-below t, list-fields.Post, select-reads.Asked, select-reads.Learnt, list-item-below t, list-item.Post)
+
+list-fields-loop-holds : (t : ℕ) → list-fields-lts.Need-loop-holds (list-fields-calls t) (list-fields-at t) list-fields.Post list-fields-Inv-loop list-fields-μ-loop
+list-fields-loop-holds t c = record { row = c .before .before .before .before .pre .1 .0; ranges = c .before .before .before .before .pre .1 .2; accepted = c .before .before .before .before .pre .1 .3; room = c .before .before .before .before .pre .1 .4; done = []; stored = stored-none _ _ [] refl; whole = refl }
+
+list-fields-word-at-requires : (t : ℕ) → list-fields-lts.Need-word-at-requires (list-fields-calls t) (list-fields-at t) list-fields.Post list-fields-Inv-loop list-fields-μ-loop
+list-fields-word-at-requires t c κs = search needs
+
+list-fields-locate-requires : (t : ℕ) → list-fields-lts.Need-locate-requires (list-fields-calls t) (list-fields-at t) list-fields.Post list-fields-Inv-loop list-fields-μ-loop
+list-fields-locate-requires t c κs = (c .before .before .loop .inv .row, c .before .loop-test .taken, c .word-at .ensures .0, c .before .before .loop .inv .ranges)
+
+list-fields-add-place : (t : ℕ) → list-fields-lts.Need-add-place (list-fields-calls t) (list-fields-at t) list-fields.Post list-fields-Inv-loop list-fields-μ-loop
+list-fields-add-place t c = omega (arith, span-ok _ _ _ _ _ _ _ _ (c .before .before .before .loop .inv .row) (c .before .before .loop-test .taken) (c .before .word-at .ensures .0) (c .before .before .before .loop .inv .ranges) _ (c .locate .ensures), c .before .before .before .before .before .before .before .before .pre .1 .1)
+
+list-fields-sub-list-item : (t : ℕ) → list-fields-lts.Need-sub-list-item (list-fields-calls t) (list-fields-at t) list-fields.Post list-fields-Inv-loop list-fields-μ-loop
+list-fields-sub-list-item t c = omega (arith, span-ok _ _ _ _ _ _ _ _ (c .before .before .before .before .loop .inv .row) (c .before .before .before .loop-test .taken) (c .before .before .word-at .ensures .0) (c .before .before .before .before .loop .inv .ranges) _ (c .before .locate .ensures))
+
+list-fields-part-list-item-start : (t : ℕ) → list-fields-lts.Need-part-list-item-start (list-fields-calls t) (list-fields-at t) list-fields.Post list-fields-Inv-loop list-fields-μ-loop
+list-fields-part-list-item-start t c = span-ok _ _ _ _ _ _ _ _ (c .before .before .before .before .loop .inv .row) (c .before .before .before .loop-test .taken) (c .before .before .word-at .ensures .0) (c .before .before .before .before .loop .inv .ranges) _ (c .before .locate .ensures) .0
+
+list-fields-part-list-item-end : (t : ℕ) → list-fields-lts.Need-part-list-item-end (list-fields-calls t) (list-fields-at t) list-fields.Post list-fields-Inv-loop list-fields-μ-loop
+list-fields-part-list-item-end t c = span-ok _ _ _ _ _ _ _ _ (c .before .before .before .before .loop .inv .row) (c .before .before .before .loop-test .taken) (c .before .before .word-at .ensures .0) (c .before .before .before .before .loop .inv .ranges) _ (c .before .locate .ensures) .1
+
+list-fields-list-item-requires : (t : ℕ) → list-fields-lts.Need-list-item-requires (list-fields-calls t) (list-fields-at t) list-fields.Post list-fields-Inv-loop list-fields-μ-loop
+list-fields-list-item-requires t c κs = (omega (arith, row-below _ _ _ _ _ _ (c .before .before .before .before .before .loop .inv .row) (c .before .before .before .before .loop-test .taken) (c .before .before .before .word-at .ensures .0), c .before .before .before .before .before .before .before .before .before .before .pre .0), (row-under _ _ _ _ _ _ (c .before .before .before .before .before .loop .inv .row) (c .before .before .before .before .loop-test .taken) (c .before .before .before .word-at .ensures .0), omega (arith, span-ok _ _ _ _ _ _ _ _ (c .before .before .before .before .before .loop .inv .row) (c .before .before .before .before .loop-test .taken) (c .before .before .before .word-at .ensures .0) (c .before .before .before .before .before .loop .inv .ranges) _ (c .before .before .locate .ensures), span-length _ _ _ _ _ _ _ _ (c .before .before .before .before .before .loop .inv .row) (c .before .before .before .before .loop-test .taken) (c .before .before .before .word-at .ensures .0) (c .before .before .before .before .before .loop .inv .ranges) _ (c .before .before .locate .ensures), c .before .before .before .before .before .before .before .before .before .before .pre .1 .1), storing-accepted _ _ _ _ _ _ _ _ _ _ _ _ _ _ _ (c .before .before .before .before .before .loop .inv) (c .before .before .before .before .loop-test .taken) (c .before .before .before .word-at .ensures .0) _ (c .before .before .locate .ensures), storing-room _ _ _ _ _ _ _ _ _ _ _ _ _ _ _ (c .before .before .before .before .before .loop .inv) (c .before .before .before .before .loop-test .taken) (c .before .before .before .word-at .ensures .0) _ (c .before .before .locate .ensures)))
+
+list-fields-add-a : (t : ℕ) → list-fields-lts.Need-add-a (list-fields-calls t) (list-fields-at t) list-fields.Post list-fields-Inv-loop list-fields-μ-loop
+list-fields-add-a t c = omega (arith, c .before .before .before .before .before .before .before .before .loop .inv .row .near)
+
+list-fields-sub-left : (t : ℕ) → list-fields-lts.Need-sub-left (list-fields-calls t) (list-fields-at t) list-fields.Post list-fields-Inv-loop list-fields-μ-loop
+list-fields-sub-left t c = omega arith
+
+list-fields-loop-less : (t : ℕ) → list-fields-lts.Need-loop-less (list-fields-calls t) (list-fields-at t) list-fields.Post list-fields-Inv-loop list-fields-μ-loop
+list-fields-loop-less t c = omega arith
+
+list-fields-loop-again : (t : ℕ) → list-fields-lts.Need-loop-again (list-fields-calls t) (list-fields-at t) list-fields.Post list-fields-Inv-loop list-fields-μ-loop
+list-fields-loop-again t c = storing-next _ _ _ _ _ _ _ _ _ _ _ _ _ _ _ (c .before .before .before .before .before .before .before .before .loop .inv) (c .before .before .before .before .before .before .before .loop-test .taken) (c .before .before .before .before .before .before .word-at .ensures .0) _ (c .before .before .before .before .before .locate .ensures) _ _ (c .before .before .list-item .ensures)
+
+list-fields-same-length : (t : ℕ) → list-fields-lts.Need-same-length (list-fields-calls t) (list-fields-at t) list-fields.Post list-fields-Inv-loop list-fields-μ-loop
+list-fields-same-length t c = stored-length _ _ _ _ _ (c .before .loop .inv .stored)
+
+list-fields-returns : (t : ℕ) → list-fields-lts.Need-returns (list-fields-calls t) (list-fields-at t) list-fields.Post list-fields-Inv-loop list-fields-μ-loop
+list-fields-returns t c = storing-end _ _ _ _ _ _ _ _ _ _ _ _ _ _ (c .before .loop .inv) (c .loop-test .left)
+
+list-item-put-entry-requires : (t : ℕ) → list-item-lts.Need-put-entry-requires (list-item-calls t) (list-item-at t) list-item.Post
+list-item-put-entry-requires t c κs = (room-long _ _ _ _ _ (c .before .before .before .before .before .pre .1 .3), c .before .before .before .before .before .pre .1 .1)
+
+list-item-add-next : (t : ℕ) → list-item-lts.Need-add-next (list-item-calls t) (list-item-at t) list-item.Post
+list-item-add-next t c = omega (arith, room-long _ _ _ _ _ (c .before .before .before .before .before .before .before .before .pre .1 .3))
+
+list-item-look-requires : (t : ℕ) → list-item-lts.Need-look-requires (list-item-calls t) (list-item-at t) list-item.Post
+list-item-look-requires t c κs = search needs
+
+list-item-add-first : (t : ℕ) → list-item-lts.Need-add-first (list-item-calls t) (list-item-at t) list-item.Post
+list-item-add-first t c = omega (arith, node-ok _ _ _ _ (c .before .look .ensures) (c .before .before .before .before .before .before .before .before .before .before .pre .1 .0) .near)
+
+list-item-list-fields-requires : (t : ℕ) → list-item-lts.Need-list-fields-requires (list-item-calls t) (list-item-at t) list-item.Post
+list-item-list-fields-requires t c κs =
+    let k = container-accepted _ _ _ _ (c .before .before .before .before .look .ensures) (c .before .before .before .before .before .before .before .before .before .before .before .before .before .pre .1 .0) _ _ (c .before .before .before .before .before .before .before .before .before .before .before .before .before .pre .1 .2) (c .before .if1 .taken) in
+    (omega (arith, c .before .before .before .before .before .before .before .before .before .before .before .before .before .pre .0), (container-row _ _ _ _ (c .before .before .before .before .look .ensures) (c .before .before .before .before .before .before .before .before .before .before .before .before .before .pre .1 .0) (c .before .if1 .taken), c .before .before .before .before .before .before .before .before .before .before .before .before .before .pre .1 .1, k .0, k .1, room-then _ _ _ _ _ _ _ (c .before .before .before .before .before .before .before .before .before .before .before .before .before .pre .1 .3) (list-container _ _ _ (c .before .before .before .before .look .ensures) _ _ (c .before .if1 .taken)) (c .before .before .before .before .before .before .before .put-entry .ensures)))
+
+list-item-select-requires : (t : ℕ) → list-item-lts.Need-select-requires (list-item-calls t) (list-item-at t) list-item.Post
+list-item-select-requires t c κs = omega (arith, node-ok _ _ _ _ (c .before .before .before .before .before .look .ensures) (c .before .before .before .before .before .before .before .before .before .before .before .before .before .before .pre .1 .0) .near)
+
+list-item-enum-told : (t : ℕ) → list-item-lts.Need-enum-told (list-item-calls t) (list-item-at t) list-item.Post
+list-item-enum-told t c = search needs
+
+list-item-enum-known-c : (t : ℕ) → list-item-lts.Need-enum-known-c (list-item-calls t) (list-item-at t) list-item.Post
+list-item-enum-known-c t c = search needs
+
+list-item-add-inside : (t : ℕ) → list-item-lts.Need-add-inside (list-item-calls t) (list-item-at t) list-item.Post
+list-item-add-inside t c = omega (arith, body-below _ _ _ _ (c .before .before .before .before .before .before .before .before .before .look .ensures) (c .before .before .before .before .before .before .before .before .before .before .before .before .before .before .before .before .before .before .pre .1 .0) (c .before .before .before .before .if2 .taken) _ _ (sym (c .before .c .given .1) ∙ c .before .before .before .select .ensures), c .before .before .before .before .before .before .before .before .before .before .before .before .before .before .before .before .before .before .pre .1 .1)
+
+list-item-sub-list-item : (t : ℕ) → list-item-lts.Need-sub-list-item (list-item-calls t) (list-item-at t) list-item.Post
+list-item-sub-list-item t c = omega (arith, body-below _ _ _ _ (c .before .before .before .before .before .before .before .before .before .before .look .ensures) (c .before .before .before .before .before .before .before .before .before .before .before .before .before .before .before .before .before .before .before .pre .1 .0) (c .before .before .before .before .before .if2 .taken) _ _ (sym (c .before .before .c .given .1) ∙ c .before .before .before .before .select .ensures))
+
+list-item-part-list-item-start : (t : ℕ) → list-item-lts.Need-part-list-item-start (list-item-calls t) (list-item-at t) list-item.Post
+list-item-part-list-item-start t c = omega (arith, body-below _ _ _ _ (c .before .before .before .before .before .before .before .before .before .before .look .ensures) (c .before .before .before .before .before .before .before .before .before .before .before .before .before .before .before .before .before .before .before .pre .1 .0) (c .before .before .before .before .before .if2 .taken) _ _ (sym (c .before .before .c .given .1) ∙ c .before .before .before .before .select .ensures))
+
+list-item-part-list-item-end : (t : ℕ) → list-item-lts.Need-part-list-item-end (list-item-calls t) (list-item-at t) list-item.Post
+list-item-part-list-item-end t c = omega arith
+
+list-item-list-item-requires : (t : ℕ) → list-item-lts.Need-list-item-requires (list-item-calls t) (list-item-at t) list-item.Post
+list-item-list-item-requires t c κs =
+    let z = body-below _ _ _ _ (c .before .before .before .before .before .before .before .before .before .before .before .look .ensures) (c .before .before .before .before .before .before .before .before .before .before .before .before .before .before .before .before .before .before .before .before .pre .1 .0) (c .before .before .before .before .before .before .if2 .taken) _ _ (sym (c .before .before .before .c .given .1) ∙ c .before .before .before .before .before .select .ensures) in
+    (omega (arith, c .before .before .before .before .before .before .before .before .before .before .before .before .before .before .before .before .before .before .before .before .pre .0, z), (under-below _ _ _ _ (omega (arith, z)) (c .before .before .before .before .before .before .before .before .before .before .before .before .before .before .before .before .before .before .before .before .pre .1 .0), simp (length-take, length-drop) (omega (arith, c .before .before .before .before .before .before .before .before .before .before .before .before .before .before .before .before .before .before .before .before .pre .1 .1, z)), body-accepted _ _ _ _ (c .before .before .before .before .before .before .before .before .before .before .before .look .ensures) (c .before .before .before .before .before .before .before .before .before .before .before .before .before .before .before .before .before .before .before .before .pre .1 .0) _ _ (c .before .before .before .before .before .before .before .before .before .before .before .before .before .before .before .before .before .before .before .before .pre .1 .2) (c .before .before .before .before .before .before .if2 .taken) _ (sym (c .before .before .before .c .given .1) ∙ c .before .before .before .before .before .select .ensures), room-then _ _ _ _ _ _ _ (c .before .before .before .before .before .before .before .before .before .before .before .before .before .before .before .before .before .before .before .before .pre .1 .3) (union-body _ _ _ _ (c .before .before .before .before .before .before .before .before .before .before .before .look .ensures) (c .before .before .before .before .before .before .before .before .before .before .before .before .before .before .before .before .before .before .before .before .pre .1 .0) _ _ (c .before .before .before .before .before .before .before .before .before .before .before .before .before .before .before .before .before .before .before .before .pre .1 .2) (c .before .before .before .before .before .before .if2 .taken) _ (sym (c .before .before .before .c .given .1) ∙ c .before .before .before .before .before .select .ensures)) (c .before .before .before .before .before .before .before .before .before .before .before .before .before .before .put-entry .ensures)))
+
+list-item-enum-told-2 : (t : ℕ) → list-item-lts.Need-enum-told-2 (list-item-calls t) (list-item-at t) list-item.Post
+list-item-enum-told-2 t c = search needs
+
+list-item-same-length : (t : ℕ) → list-item-lts.Need-same-length (list-item-calls t) (list-item-at t) list-item.Post
+list-item-same-length t c = stored-length _ _ _ _ _ (c .before .before .list-fields .ensures) ∙ stored-length _ _ _ _ _ (c .before .before .before .before .before .before .before .before .before .before .put-entry .ensures)
+
+list-item-returns : (t : ℕ) → list-item-lts.Need-returns (list-item-calls t) (list-item-at t) list-item.Post
+list-item-returns t c = stored-then _ _ _ _ _ _ _ _ _ (c .before .before .before .before .before .before .before .before .before .before .put-entry .ensures) (c .before .before .list-fields .ensures) (list-container _ _ _ (c .before .before .before .before .before .before .before .look .ensures) _ _ (c .before .before .before .before .if1 .taken))
+
+list-item-same-length-2 : (t : ℕ) → list-item-lts.Need-same-length-2 (list-item-calls t) (list-item-at t) list-item.Post
+list-item-same-length-2 t c = stored-length _ _ _ _ _ (c .before .before .before .before .before .before .before .before .before .before .before .put-entry .ensures)
+
+list-item-returns-2 : (t : ℕ) → list-item-lts.Need-returns-2 (list-item-calls t) (list-item-at t) list-item.Post
+list-item-returns-2 t c = rw (union-bare _ _ _ _ (c .before .before .before .before .before .before .before .before .look .ensures) (c .before .before .before .before .before .before .before .before .before .before .before .before .before .before .before .before .before .pre .1 .0) _ _ (c .before .before .before .before .before .before .before .before .before .before .before .before .before .before .before .before .before .pre .1 .2) (c .before .before .before .if2 .taken) (sym (c .enum-told .given .1) ∙ c .before .before .select .ensures)) (c .before .before .before .before .before .before .before .before .before .before .before .put-entry .ensures)
+
+list-item-same-length-3 : (t : ℕ) → list-item-lts.Need-same-length-3 (list-item-calls t) (list-item-at t) list-item.Post
+list-item-same-length-3 t c = stored-length _ _ _ _ _ (c .before .before .list-item .ensures) ∙ stored-length _ _ _ _ _ (c .before .before .before .before .before .before .before .before .before .before .before .before .before .before .before .before .before .put-entry .ensures)
+
+list-item-returns-3 : (t : ℕ) → list-item-lts.Need-returns-3 (list-item-calls t) (list-item-at t) list-item.Post
+list-item-returns-3 t c = stored-then _ _ _ _ _ _ _ _ _ (c .before .before .before .before .before .before .before .before .before .before .before .before .before .before .before .before .before .put-entry .ensures) (c .before .before .list-item .ensures) (union-body _ _ _ _ (c .before .before .before .before .before .before .before .before .before .before .before .before .before .before .look .ensures) (c .before .before .before .before .before .before .before .before .before .before .before .before .before .before .before .before .before .before .before .before .before .before .before .pre .1 .0) _ _ (c .before .before .before .before .before .before .before .before .before .before .before .before .before .before .before .before .before .before .before .before .before .before .before .pre .1 .2) (c .before .before .before .before .before .before .before .before .before .if2 .taken) _ (sym (c .before .before .before .before .before .before .c .given .1) ∙ c .before .before .before .before .before .before .before .before .select .ensures))
+
+list-item-same-length-4 : (t : ℕ) → list-item-lts.Need-same-length-4 (list-item-calls t) (list-item-at t) list-item.Post
+list-item-same-length-4 t c = stored-length _ _ _ _ _ (c .before .before .before .before .before .before .before .before .before .before .before .put-entry .ensures)
+
+list-item-returns-4 : (t : ℕ) → list-item-lts.Need-returns-4 (list-item-calls t) (list-item-at t) list-item.Post
+list-item-returns-4 t c = union-never _ _ _ _ (c .before .before .before .before .before .before .before .before .look .ensures) (c .before .before .before .before .before .before .before .before .before .before .before .before .before .before .before .before .before .pre .1 .0) _ _ (c .before .before .before .before .before .before .before .before .before .before .before .before .before .before .before .before .before .pre .1 .2) (c .before .before .before .if2 .taken) _ (sym (c .enum-told2 .given .1) ∙ c .before .before .select .ensures)
+
+list-item-same-length-5 : (t : ℕ) → list-item-lts.Need-same-length-5 (list-item-calls t) (list-item-at t) list-item.Post
+list-item-same-length-5 t c = stored-length _ _ _ _ _ (c .before .before .before .before .before .before .before .before .put-entry .ensures)
+
+list-item-returns-5 : (t : ℕ) → list-item-lts.Need-returns-5 (list-item-calls t) (list-item-at t) list-item.Post
+list-item-returns-5 t c = rw (list-leaf _ _ _ (c .before .before .before .before .before .look .ensures) _ _ (c .before .before .if1 .left) (c .if2 .left)) (c .before .before .before .before .before .before .before .before .put-entry .ensures)
+
+pub +list-fields+list-item-spec : {M : Type 1} → statement M
++list-fields+list-item-spec = close μ-list-fields μ-list-item (λ t. list-fields-lts.spec (list-fields-calls t)
+    (list-fields-at t)
+    list-fields.Post
+    list-fields-Inv-loop
+    list-fields-μ-loop
+    (list-fields-loop-holds t)
+    (list-fields-word-at-requires t)
+    (list-fields-locate-requires t)
+    (list-fields-add-place t)
+    (list-fields-sub-list-item t)
+    (list-fields-part-list-item-start t)
+    (list-fields-part-list-item-end t)
+    (list-fields-list-item-requires t)
+    (list-fields-add-a t)
+    (list-fields-sub-left t)
+    (list-fields-loop-less t)
+    (list-fields-loop-again t)
+    (list-fields-same-length t)
+    (list-fields-returns t))
+    λ t. list-item-lts.spec (list-item-calls t)
+    (list-item-at t)
+    list-item.Post
+    (list-item-put-entry-requires t)
+    (list-item-add-next t)
+    (list-item-look-requires t)
+    (list-item-add-first t)
+    (list-item-list-fields-requires t)
+    (list-item-select-requires t)
+    (list-item-enum-told t)
+    (list-item-enum-known-c t)
+    (list-item-add-inside t)
+    (list-item-sub-list-item t)
+    (list-item-part-list-item-start t)
+    (list-item-part-list-item-end t)
+    (list-item-list-item-requires t)
+    (list-item-enum-told-2 t)
+    (list-item-same-length t)
+    (list-item-returns t)
+    (list-item-same-length-2 t)
+    (list-item-returns-2 t)
+    (list-item-same-length-3 t)
+    (list-item-returns-3 t)
+    (list-item-same-length-4 t)
+    (list-item-returns-4 t)
+    (list-item-same-length-5 t)
+    (list-item-returns-5 t)

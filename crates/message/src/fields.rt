@@ -1,0 +1,113 @@
+// The fields of a container: their registration, and where each of them lies.
+use decode::builder::Progress;
+use decode::builder::Step;
+use decode::builder::finalize;
+use decode::builder::register_head;
+use layout::head_of;
+use standard::Head;
+use standard::Span;
+use standard::Told;
+use standard::words::four_at;
+use standard::words::word_at;
+ghost use mathlib.Core.Path.{_≡_};
+ghost use Prim.Native.Nat.{_+_, _-_, _<_, _^_};
+ghost use lib.ListN.{length};
+ghost use Rattle.standard.specs.Bytes.{wordAt};
+ghost use Rattle.standard.specs.Types.{head};
+ghost use Rattle.standard.specs.Parts.{next, spanOf, InRange};
+ghost use Rattle.decode.specs.Builder.{layOut};
+ghost use Rattle.layout.specs.Tree.{treeOf};
+ghost use Rattle.message.specs.Steps.{Row, headsOf};
+
+// Registers the n fields that the words from a0 on name, and builds.
+pub(crate) fn lay_out(
+    lens: &[usize],
+    layout: &[u8],
+    t: usize,
+    a0: usize,
+    n: usize,
+    b: &[u8],
+) -> Told
+    requires { ⌜ Row (now lens) (now layout) t a0 n × (length (now b) < 2 ^ 32) ⌝ }
+    ensures { λ r. ⌜ r ≡ layOut (headsOf (now (layout .entry)) t a0 n) (now (b .entry)) ⌝ }
+{
+    let mut x = Progress::new();
+    let mut a = a0;
+    let mut left = n;
+    while left > 0 {
+        let f = word_at(layout, a);
+        let h = head_of(lens[f]);
+        let s = register_head(x, h, b);
+        match s {
+            Step::Next(y) => {
+                x = y;
+            }
+            Step::Refused(r) => {
+                return Told::Refused(r);
+            }
+        }
+        a += 1;
+        left -= 1;
+    }
+    finalize(x, b.len())
+}
+
+// Where the next variable item starts, from the field at the position p0 on.
+fn next_start(
+    lens: &[usize],
+    layout: &[u8],
+    t: usize,
+    a0: usize,
+    n: usize,
+    b: &[u8],
+    p0: usize,
+) -> usize
+    requires { ⌜ Row (now lens) (now layout) t a0 n × InRange (headsOf (now layout) t a0 n) (now b) p0 0 ⌝ }
+    ensures { λ r. ⌜ r ≡ next (headsOf (now (layout .entry)) t a0 n) (now (b .entry)) p0 ⌝ }
+{
+    let mut a = a0;
+    let mut left = n;
+    let mut p = p0;
+    while left > 0 {
+        let f = word_at(layout, a);
+        let k = lens[f];
+        if k == 0 {
+            return four_at(b, p);
+        }
+        p += k;
+        a += 1;
+        left -= 1;
+    }
+    b.len()
+}
+
+// Where the first of some fields lies, whose type is f.
+pub(crate) fn locate(
+    lens: &[usize],
+    layout: &[u8],
+    t: usize,
+    a: usize,
+    left: usize,
+    f: usize,
+    b: &[u8],
+    p: usize,
+) -> Span
+    requires { ⌜ Row (now lens) (now layout) t a left × (0 < left) × (f ≡ wordAt (now layout) a) × InRange (headsOf (now layout) t a left) (now b) p 0 ⌝ }
+    ensures { λ r. ⌜ r ≡ spanOf (head (treeOf (now (layout .entry)) f)) (headsOf (now (layout .entry)) t (a + 1) (left - 1)) (now (b .entry)) p ⌝ }
+{
+    let k = lens[f];
+    if k == 0 {
+        let from = four_at(b, p);
+        let next = p + 4;
+        let after = a + 1;
+        let rest = left - 1;
+        let to = next_start(lens, layout, t, after, rest, b, next);
+        return Span { from, to, next };
+    }
+    let to = p + k;
+    Span {
+        from: p,
+        to,
+        next: to,
+    }
+}

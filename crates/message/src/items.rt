@@ -1,0 +1,283 @@
+// The items of a message: leaves, unions, and containers with their fields.
+use crate::Answer;
+use crate::Counts;
+use crate::fields::lay_out;
+use crate::fields::locate;
+use bitfield::BodyBits;
+use bitfield::body::bitlist_body;
+use bitfield::body::bitvector_body;
+use decode::split_union_bytes;
+use decode::union_selector::SelectorResult;
+use layout::NO_BODY;
+use layout::Node;
+use layout::look;
+use standard::Refusal;
+use standard::Told;
+use standard::words::word_at;
+ghost use mathlib.Core.Path.{_≡_};
+ghost use Prim.Native.Nat.{_+_, _≤_, _<_, _^_};
+ghost use lib.ListN.{length};
+ghost use Rattle.standard.specs.Types.{boolean, freeBytes, bitVector, bitList};
+ghost use Rattle.standard.specs.Parts.{InRange};
+ghost use Rattle.layout.specs.Tree.{leafOf, treeOf};
+ghost use Rattle.message.specs.Read.{rawBytes, one, plus, andThen, readExact, readItem, readFields};
+ghost use Rattle.message.specs.declared.Counts.{Counts};
+ghost use Rattle.message.specs.declared.Answer.the-variants.{Accepted};
+ghost use Rattle.message.specs.Steps.{Under, Row, rowOf, headsOf, optionAt, choose, Small};
+
+// What a union's selector chooses: an option without body, the type of a body, or a refusal.
+pub(crate) enum Choice {
+    Bare,
+    Body(usize),
+    Wrong(Refusal),
+}
+
+// The raw bytes of so many bits.
+fn raw_bytes(bits: usize) -> usize
+    ensures { λ r. ⌜ r ≡ rawBytes bits ⌝ }
+{
+    let q = bits / 8;
+    if bits % 8 != 0 {
+        return q + 1;
+    }
+    if q == 0 {
+        return 1;
+    }
+    q
+}
+
+// One item with so many contents words and body bytes.
+fn leaf(words: usize, bytes: usize) -> Answer
+    ensures { λ r. ⌜ r ≡ one words bytes ⌝ }
+{
+    Answer::Accepted(Counts {
+        records: 1,
+        words,
+        bytes,
+    })
+}
+
+// A number or fixed bytes: w bytes.
+fn exact_check(w: usize, t: usize, b: &[u8], start: usize) -> Answer
+    ensures { λ r. ⌜ r ≡ readExact w t (now (b .entry)) start ⌝ }
+{
+    let len = b.len();
+    if len == w {
+        leaf(0, len)
+    } else {
+        Answer::Refused(Refusal::InvalidByteLength(len, w), t, start)
+    }
+}
+
+// A boolean: one byte, 0 or 1.
+fn boolean_check(t: usize, b: &[u8], start: usize) -> Answer
+    ensures { λ r. ⌜ r ≡ readItem (boolean t) (now (b .entry)) start ⌝ }
+{
+    let len = b.len();
+    if len != 1 {
+        return Answer::Refused(Refusal::InvalidByteLength(len, 1), t, start);
+    }
+    let x = b[0];
+    if x < 2 {
+        leaf(0, 1)
+    } else {
+        Answer::Refused(Refusal::BadBoolean(x), t, start)
+    }
+}
+
+// Free bytes up to their limit; they are not looked at.
+fn free_check(limit: usize, t: usize, b: &[u8], start: usize) -> Answer
+    ensures { λ r. ⌜ r ≡ readItem (freeBytes t limit) (now (b .entry)) start ⌝ }
+{
+    let len = b.len();
+    if len <= limit {
+        leaf(1, len)
+    } else {
+        Answer::Refused(Refusal::OverLimit(len, limit), t, start)
+    }
+}
+
+// A bit vector of n bits.
+fn vector_check(n: usize, t: usize, b: &[u8], start: usize) -> Answer
+    ensures { λ r. ⌜ r ≡ readItem (bitVector t n) (now (b .entry)) start ⌝ }
+{
+    let told = bitvector_body(b, n);
+    match told {
+        bitfield::Told::Fine => leaf(0, b.len()),
+        bitfield::Told::Refused(r) => Answer::Refused(r, t, start),
+    }
+}
+
+// A bit list of at most limit bits.
+fn list_check(limit: usize, t: usize, b: &[u8], start: usize) -> Answer
+    ensures { λ r. ⌜ r ≡ readItem (bitList t limit) (now (b .entry)) start ⌝ }
+{
+    let bits = bitlist_body(b, limit);
+    match bits {
+        BodyBits::Bits(k) => leaf(1, raw_bytes(k)),
+        BodyBits::Refused(r) => Answer::Refused(r, t, start),
+    }
+}
+
+// An item of a type that has no lower types.
+fn leaf_check(n: Node, t: usize, b: &[u8], start: usize) -> Answer
+    ensures { λ r. ⌜ r ≡ readItem (leafOf t n) (now (b .entry)) start ⌝ }
+{
+    let kind = n.kind;
+    let second = n.second;
+    if kind == 0 {
+        return exact_check(second, t, b, start);
+    }
+    if kind == 1 {
+        return boolean_check(t, b, start);
+    }
+    if kind == 2 {
+        return exact_check(second, t, b, start);
+    }
+    if kind == 3 {
+        return free_check(second, t, b, start);
+    }
+    if kind == 4 {
+        return vector_check(second, t, b, start);
+    }
+    list_check(second, t, b, start)
+}
+
+// The option whose word is w: without body it is its selector byte alone.
+fn option_at(w: usize, len: usize) -> Choice
+    requires { ⌜ 1 ≤ len ⌝ }
+    ensures { λ r. ⌜ r ≡ optionAt w len ⌝ }
+{
+    if w != NO_BODY {
+        return Choice::Body(w);
+    }
+    if len == 1 {
+        return Choice::Bare;
+    }
+    let left = len - 1;
+    Choice::Wrong(Refusal::InvalidByteLength(left, 0))
+}
+
+// What the selector of a union chooses among the n options that the words from a on name.
+pub(crate) fn select(layout: &[u8], a: usize, n: usize, b: &[u8]) -> Choice
+    requires { ⌜ a < 2 ^ 34 ⌝ }
+    ensures { λ r. ⌜ r ≡ choose (now (layout .entry)) a n (now (b .entry)) ⌝ }
+{
+    let s = split_union_bytes(b);
+    match s {
+        SelectorResult::Refused(r) => Choice::Wrong(r),
+        SelectorResult::Selector(selector) => {
+            let byte = selector.get();
+            let k = byte as usize;
+            if k >= n {
+                return Choice::Wrong(Refusal::UnionSelectorInvalid(byte));
+            }
+            let place = a + k;
+            let w = word_at(layout, place);
+            option_at(w, b.len())
+        }
+    }
+}
+
+// Counts of two parts together.
+fn add(c: Counts, d: Counts) -> Counts
+    requires { ⌜ Small c (2 ^ 50) × Small d (2 ^ 50) ⌝ }
+    ensures { λ r. ⌜ r ≡ plus c d ⌝ }
+{
+    Counts {
+        records: c.records + d.records,
+        words: c.words + d.words,
+        bytes: c.bytes + d.bytes,
+    }
+}
+
+// A union's own record and selector, with what its body has.
+fn with_selector(r: Answer) -> Answer
+    requires { ⌜ ((c : Counts) → r ≡ Accepted c → Small c (2 ^ 50)) ⌝ }
+    ensures { λ x. ⌜ x ≡ andThen (one 1 0) r ⌝ }
+{
+    match r {
+        Answer::Accepted(c) => {
+            let own = Counts {
+                records: 1,
+                words: 1,
+                bytes: 0,
+            };
+            let all = add(own, c);
+            Answer::Accepted(all)
+        }
+        Answer::Refused(x, u, v) => Answer::Refused(x, u, v),
+    }
+}
+
+// Checks the item b of the type t, which starts at start.
+pub(crate) fn item_check(lens: &[usize], layout: &[u8], t: usize, b: &[u8], start: usize) -> Answer
+    requires { ⌜ Under (now lens) (now layout) (t + 1) × (start + length (now b) < 2 ^ 32) ⌝ }
+    ensures { λ r. ⌜ r ≡ readItem (treeOf (now (layout .entry)) t) (now (b .entry)) start ⌝ }
+{
+    let n = look(layout, t);
+    let first = n.at + 2;
+    if n.kind == 6 {
+        let told = lay_out(lens, layout, t, first, n.second, b);
+        match told {
+            Told::Fine => field_check(lens, layout, t, first, n.second, b, start),
+            Told::Refused(r) => Answer::Refused(r, t, start),
+        }
+    } else if n.kind == 7 {
+        let c = select(layout, first, n.second, b);
+        match c {
+            Choice::Bare => leaf(1, 0),
+            Choice::Body(o) => {
+                let inside = start + 1;
+                let r = item_check(lens, layout, o, &b[1..], inside);
+                with_selector(r)
+            }
+            Choice::Wrong(r) => Answer::Refused(r, t, start),
+        }
+    } else {
+        leaf_check(n, t, b, start)
+    }
+}
+
+// Checks the n fields of type t that the words from a0 on name, and counts them with their container.
+fn field_check(
+    lens: &[usize],
+    layout: &[u8],
+    t: usize,
+    a0: usize,
+    n: usize,
+    b: &[u8],
+    start: usize,
+) -> Answer
+    requires { ⌜ Row (now lens) (now layout) t a0 n × (n ≤ 64) × (start + length (now b) < 2 ^ 32) × InRange (headsOf (now layout) t a0 n) (now b) 0 0 ⌝ }
+    ensures { λ r. ⌜ r ≡ andThen (one 0 0) (readFields (rowOf (now (layout .entry)) t a0 n) (now (b .entry)) 0 start) ⌝ }
+{
+    let mut sum = Counts {
+        records: 1,
+        words: 0,
+        bytes: 0,
+    };
+    let mut a = a0;
+    let mut left = n;
+    let mut p = 0;
+    while left > 0 {
+        let f = word_at(layout, a);
+        let w = locate(lens, layout, t, a, left, f, b, p);
+        let from = w.from;
+        let to = w.to;
+        let at = start + from;
+        let r = item_check(lens, layout, f, &b[from..to], at);
+        match r {
+            Answer::Accepted(c) => {
+                sum = add(sum, c);
+            }
+            Answer::Refused(x, u, v) => {
+                return Answer::Refused(x, u, v);
+            }
+        }
+        p = w.next;
+        a += 1;
+        left -= 1;
+    }
+    Answer::Accepted(sum)
+}
