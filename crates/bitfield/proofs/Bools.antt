@@ -21,7 +21,7 @@ odd false m = omega arith
 
 -- One pair of bits, and the rest
 step-and : (x y : Bool) (m n : ℕ) → bitAnd (bit x + 2 * m) (bit y + 2 * n) ≡ bit (andAlso x y) + 2 * bitAnd m n
-step-and x y m n = rw (and-step, half-bit x m, half-bit y n, odd x m, odd y n, pair x y) (omega arith)
+step-and x y m n = rw (and-step (bit x + 2 * m) (bit y + 2 * n), half-bit x m, half-bit y n, odd x m, odd y n, pair x y) (omega arith)
   where
     pair : (x y : Bool) → min (bit x) (bit y) ≡ bit (andAlso x y)
     pair true true = refl
@@ -30,7 +30,7 @@ step-and x y m n = rw (and-step, half-bit x m, half-bit y n, odd x m, odd y n, p
     pair false false = refl
 
 step-or : (x y : Bool) (m n : ℕ) → bitOr (bit x + 2 * m) (bit y + 2 * n) ≡ bit (orElse x y) + 2 * bitOr m n
-step-or x y m n = rw (or-step, half-bit x m, half-bit y n, odd x m, odd y n, pair x y) (omega arith)
+step-or x y m n = rw (or-step (bit x + 2 * m) (bit y + 2 * n), half-bit x m, half-bit y n, odd x m, odd y n, pair x y) (omega arith)
   where
     pair : (x y : Bool) → max (bit x) (bit y) ≡ bit (orElse x y)
     pair true true = refl

@@ -7,3 +7,8 @@ pub mod Numbers
 pub mod Places
 pub mod Loops
 pub mod Clean
+pub mod Ties
+pub mod Marks
+pub mod Tolds
+pub mod Results
+pub mod Serial

@@ -1,10 +1,10 @@
 -- Bodies and the standard: bytes are accepted exactly if some bits serialize to them, and those bits are the only ones. Assumes nothing.
 use mathlib.Core.Path.{_≡_, refl, sym, ap, _∙_}
-use mathlib.Core.Logic.{_↔_}
+use mathlib.Core.Logic.{_↔_, ⊎-elim}
 use mathlib.Core.List.{List}
 use mathlib.Core.Bool.{Bool, true, false}
 use Prim.Native.Nat.{ℕ, zero, suc, _+_, _-_, _*_, _/_, _%_, _^_, _<_, _≤_}
-use native.Mathlib.Nat.{pow-succ'}
+use native.Mathlib.Nat.{pow-succ', eq-zero-or-pos}
 use native.Mathlib.Omega.{arith}
 use borrow.Author.Tests.{eqb-true, leb-true, ltb-true, eq-eqb, ne-eqb, le-leb, lt-ltb}
 use lib.Dec.{eqb, leb, ltb}
@@ -36,6 +36,11 @@ topped : (s : Bool) (t : Top) (given n k : ℕ) → pick s (Refused ExcessBits) 
 topped true t given n k e = let w : _≡_ {A = ℕ} 0 1 = cc in absurd (omega arith)
 topped false Nothing given n k e = let w : _≡_ {A = ℕ} 0 1 = cc in absurd (omega arith)
 topped false (At j) given n k e = let p = placed j given n k _ _ _ _ refl refl e in (ap At (p .0), rw (p .0) at (p .1), rw (p .0) at (p .2))
+
+-- What an accepted body has
+pub list-says : (l : List ℕ) (n k : ℕ) → bitListBody l n ≡ Bits k → (length l ≡ k / 8 + 1) × (k ≤ n)
+unfolding bitListBody
+list-says l n k e = let t = topped (eqb (length l) 0) (highest (allBits l)) (length l) n k e in (t .1, t .2)
 
 -- A bit list's body: sound, complete, and one
 pub list-sound : (l : List ℕ) (n k : ℕ) → Bytes l → bitListBody l n ≡ Bits k → (marked (bitsOf k (num l)) ≡ l) × (k ≤ n)
@@ -81,6 +86,21 @@ kept : (s t : Bool) (x : Refusal) → pick s (pick t Fine (Refusing ExcessBits))
 kept true true x e = (refl, refl)
 kept true false x e = let w : _≡_ {A = ℕ} 0 1 = cc in absurd (omega arith)
 kept false t x e = let w : _≡_ {A = ℕ} 0 1 = cc in absurd (omega arith)
+
+-- Where n bits are accepted there are bytes for them; for none there is one.
+pub vector-says : (l : List ℕ) (n : ℕ) → bitVectorBody l n ≡ Fine → bytesFor n ≤ length l
+unfolding bitVectorBody
+vector-says l n e = ⊎-elim none some (eq-zero-or-pos n)
+  where
+    none : n ≡ 0 → bytesFor n ≤ length l
+    none z = rw z (omega arith)
+
+    some : 0 < n → bytesFor n ≤ length l
+    some p =
+        let f = rw (ne-eqb n 0 (omega arith)) at e in
+        let k = kept (eqb (length l) (bytesFor n)) (ltb (num l) (2 ^ n)) _ f in
+        let q : length l ≡ bytesFor n = eqb-true _ _ (k .0) in
+        omega arith
 
 pub vector-sound : (l : List ℕ) (n : ℕ) → Bytes l → 1 ≤ n → bitVectorBody l n ≡ Fine → pack (bitsOf n (num l)) ≡ l
 unfolding bitVectorBody

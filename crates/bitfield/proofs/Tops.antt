@@ -73,7 +73,7 @@ zero-before l (suc i) h b z e =
     let g = rw q at e in
     rw (q, drop-cons l i 0 b, g, z)
 
-top-number : (l : List ℕ) (i h : ℕ) → Bytes l → i < length l → num (drop (suc i) l) ≡ 0 → TopOf (getD l i 0) h
+pub top-number : (l : List ℕ) (i h : ℕ) → Bytes l → i < length l → num (drop (suc i) l) ≡ 0 → TopOf (getD l i 0) h
     → (2 ^ (8 * i + h) ≤ num l) × (num l < 2 ^ suc (8 * i + h))
 top-number l i h b k z t =
     let e : num l ≡ num (take i l ++ (getD l i 0 ∷ [])) = num-used l (suc i) k z ∙ ap num (take-suc l i 0 k) in

@@ -6,7 +6,7 @@ use lib.ListN.{length}
 use lib.Dec.{eqb, leb, ltb}
 use Rattle.standard.specs.Bytes.{num}
 use Rattle.standard.specs.Choice.{pick, andAlso}
-use Rattle.standard.proofs.Bits.{bitsOf}
+use Rattle.standard.specs.Bits.{bitsOf}
 use Rattle.standard.specs.declared.Refusal.the-variants.{OutOfBounds, MissingLengthInformation, ExcessBits, InvalidByteCount}
 use Rattle.bitfield.specs.declared.Top.{Top}
 use Rattle.bitfield.specs.declared.Top.the-variants.{At, Nothing}

@@ -24,3 +24,9 @@ pub record TopOf (x h : ℕ) : Type 0 where
 pub record Put (l : List ℕ) (i : ℕ) (v : Bool) (l′ : List ℕ) : Type 0 where
   pub raw : Raw l′
   pub number : num l′ + 2 ^ i * (num l / 2 ^ i % 2) ≡ num l + 2 ^ i * bit v
+
+-- Raw bytes with nothing set behind len bits
+pub record Kept (l : List ℕ) (len : ℕ) : Type 0 where
+  pub raw : Raw l
+  pub few : len ≤ 2048
+  pub small : num l < 2 ^ len

@@ -4,16 +4,17 @@ use super::Told;
 use standard::Refusal;
 ghost use mathlib.Core.Path.{_≡_};
 ghost use Prim.Native.Nat.{ℕ, _+_, _-_, _*_, _/_, _<_, _≤_};
-ghost use lib.ListN.{length, getD};
-ghost use Rattle.standard.specs.Bytes.{Bytes};
+ghost use lib.ListN.{length, getD, drop};
+ghost use Rattle.standard.specs.Bytes.{Bytes, num};
 ghost use Rattle.bitfield.specs.Body.{bitListBody, bitVectorBody, bytesFor, listBits, within};
 ghost use Rattle.bitfield.specs.Facts.{Used, TopOf};
 
-// How many bytes there are up to the last one that is not zero.
-pub(crate) fn used_bytes(bytes: &[u8]) -> usize
+// How many bytes there are up to the last one that is not zero, where those from the end on are.
+pub(crate) fn used_bytes(bytes: &[u8], end: usize) -> usize
+    requires { ⌜ (end ≤ length (now bytes)) × (num (drop end (now bytes)) ≡ 0) ⌝ }
     ensures { λ r. ⌜ Used (now (bytes .entry)) r ⌝ }
 {
-    let mut i = bytes.len();
+    let mut i = end;
     while i > 0 {
         if bytes[i - 1] != 0 {
             return i;
@@ -61,7 +62,7 @@ fn unmarked(bytes: &[u8]) -> BodyBits
     requires { ⌜ (0 < length (now bytes)) × (getD (now bytes) (length (now bytes) - 1) 0 ≡ 0) ⌝ }
     ensures { λ r. ⌜ ((n : ℕ) → r ≡ bitListBody (now (bytes .entry)) n) ⌝ }
 {
-    let used = used_bytes(bytes);
+    let used = used_bytes(bytes, bytes.len());
     if used == 0 {
         BodyBits::Refused(Refusal::MissingLengthInformation)
     } else {

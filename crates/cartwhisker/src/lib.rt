@@ -55,13 +55,7 @@ pub extern "C" fn cartwhisker_list(
     }
     let r = list(layout, message, records);
     match r {
-        Listed::Records(n) => {
-            if which == 1 {
-                n as u64
-            } else {
-                0
-            }
-        }
+        Listed::Records(n) => { if which == 1 { n as u64 } else { 0 } }
         Listed::Refused(x, t, start) => which_of(which, x.numbers(), t, start),
     }
 }

@@ -10,6 +10,7 @@ use lib.Pow.{pow-pos, pow-mono, pow-add}
 use lib.Pow as Pow
 use lib.ListN.{length, take, drop, length-append, length-take}
 use Rattle.standard.specs.Bytes.{Bytes, le, num}
+unfoldable pub use Rattle.standard.specs.Bits.{bitsOf}
 use Rattle.standard.specs.Bits.{bit, bitNum, packs, pack, marked}
 use Rattle.standard.proofs.Bytes.{length-le, bytes-le, bytes-append, le-num, num-le, num-bound}
 
@@ -76,11 +77,7 @@ num-packs n bs h =
     let e = pow-bytes n in
     rw (packs-le n bs) (num-le n (bitNum bs) (omega arith))
 
--- The k lowest bits of n, the lowest first
-unfoldable pub bitsOf : ℕ → ℕ → List Bool
-bitsOf zero n = []
-bitsOf (suc k) n = eqb (n % 2) 1 ∷ bitsOf k (n / 2)
-
+-- The lowest bits of a number.
 pub length-bitsOf : (k n : ℕ) → length (bitsOf k n) ≡ k
 unfolding bitsOf
 length-bitsOf zero n = refl

@@ -7,39 +7,28 @@ use Rattle.message.proofs.Rows.{under-table}
 use borrow.Author.Needs.{needs}
 use Rattle.message.proofs.check.Statement.{statement}
 use Rattle.message.proofs.check.Tie as tie
-use Rattle.message.proofs.check.Reads as reads
-use Rattle.message.proofs.check.Lts as lts
-use Rattle.layout.proofs.table_of.Reads as table-of-reads
-use Rattle.message.proofs.check_under.Reads as check-under-reads
 
--- src/lib.rt:50:9
 table-of-requires : tie.Need-table-of-requires
 table-of-requires c κs = search needs
 
--- src/lib.rt:54:22
 enum-known-c : tie.Need-enum-known-c
 enum-known-c c = search needs
 
--- src/lib.rt:55:23
 enum-known-c-2 : tie.Need-enum-known-c-2
 enum-known-c-2 c = search needs
 
--- src/lib.rt:55:41
 slice-aggregate-check-under : tie.Need-slice-aggregate-check-under
 slice-aggregate-check-under c = search needs
 
--- src/lib.rt:55:29
 check-under-requires : tie.Need-check-under-requires
 check-under-requires c κs =
     let k = table-known _ _ (c .before .before .before .before .before .table-of .ensures) _ (bytes-known _ (λ i. c .before .before .before .before .before .before .before .shared-slice-known .given i .fits)) (c .before .before .c2 .given .1) in
     (under-table _ _ _ (k .0), k .1)
 
--- src/lib.rt:47:1
 returns : tie.Need-returns
 unfolding checkMessage
 returns c = rw (← table-checked _ _ (c .before .before .before .before .table-of .ensures), c .before .c .given .1)
 
--- src/lib.rt:47:1
 returns-2 : tie.Need-returns-2
 unfolding checkMessage
 returns-2 c = rw (← table-checked _ _ (c .before .before .before .before .before .before .table-of .ensures), c .before .before .before .c2 .given .1) (c .check-under .ensures)

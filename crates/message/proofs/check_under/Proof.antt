@@ -6,25 +6,18 @@ use Prim.Native.Nat.{_+_, _-_}
 use borrow.Author.Needs.{needs}
 use Rattle.message.proofs.check_under.Statement.{statement}
 use Rattle.message.proofs.check_under.Tie as tie
-use Rattle.message.proofs.check_under.Reads as reads
-use Rattle.message.proofs.check_under.Lts as lts
-use Rattle.message.proofs.items.item_check.Reads as item-check-reads
 
--- src/lib.rt:40:9
 returns : tie.Need-returns
 returns c = rw (lt-ltb _ _ (c .if1 .taken))
 
--- src/lib.rt:42:16
 sub-last : tie.Need-sub-last
 sub-last c = search needs
 
--- src/lib.rt:43:5
 item-check-requires : tie.Need-item-check-requires
 item-check-requires c κs =
     let e : c .before .before .before .before .args .n - 1 + 1 ≡ c .before .before .before .before .args .n = omega (arith, c .before .before .before .before .pre .1) in
     (rw e (c .before .before .before .before .pre .0), omega (arith, c .if1 .left))
 
--- src/lib.rt:35:1
 returns-2 : tie.Need-returns-2
 returns-2 c = rw (le-ltb _ _ (c .before .if1 .left)) (c .item-check .ensures)
 

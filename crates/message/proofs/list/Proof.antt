@@ -7,43 +7,31 @@ use Rattle.message.proofs.Rows.{under-table}
 use borrow.Author.Needs.{needs}
 use Rattle.message.proofs.list.Statement.{statement}
 use Rattle.message.proofs.list.Tie as tie
-use Rattle.message.proofs.list.Reads as reads
-use Rattle.message.proofs.list.Lts as lts
-use Rattle.layout.proofs.table_of.Reads as table-of-reads
-use Rattle.message.proofs.list_under.Reads as list-under-reads
 
--- src/lib.rt:94:9
 table-of-requires : tie.Need-table-of-requires
 table-of-requires c κs = search needs
 
--- src/lib.rt:98:22
 enum-known-c : tie.Need-enum-known-c
 enum-known-c c = search needs
 
--- src/lib.rt:99:23
 enum-known-c-2 : tie.Need-enum-known-c-2
 enum-known-c-2 c = search needs
 
--- src/lib.rt:99:49
 slice-aggregate-list-under : tie.Need-slice-aggregate-list-under
 slice-aggregate-list-under c = search needs
 
--- src/lib.rt:99:29
 list-under-requires : tie.Need-list-under-requires
-list-under-requires c κs = 
+list-under-requires c κs =
     let k = table-known _ _ (c .before .before .before .before .before .before .table-of .ensures) _ (bytes-known _ (λ i. c .before .before .before .before .before .before .before .before .before .shared-slice-known .given i .fits)) (c .before .before .before .c2 .given .1) in
     (under-table _ _ _ (k .0), k .1)
 
--- src/lib.rt:90:1
 returns : tie.Need-returns
 unfolding listMessage listedRecords checkMessage
 returns c = (rw (← table-checked _ _ (c .before .before .before .before .table-of .ensures), c .before .c .given .1), rw (← table-checked _ _ (c .before .before .before .before .table-of .ensures), c .before .c .given .1))
 
--- src/lib.rt:90:1
 same-length : tie.Need-same-length
 same-length c = search needs
 
--- src/lib.rt:90:1
 returns-2 : tie.Need-returns-2
 unfolding listMessage listedRecords checkMessage
 returns-2 c = (rw (← table-checked _ _ (c .before .before .before .before .before .before .before .before .before .table-of .ensures), c .before .before .before .before .before .before .c2 .given .1) (c .before .before .list-under .ensures .0), rw (← table-checked _ _ (c .before .before .before .before .before .before .before .before .before .table-of .ensures), c .before .before .before .before .before .before .c2 .given .1) (c .before .before .list-under .ensures .1))

@@ -7,47 +7,34 @@ use Rattle.message.proofs.Entries.{under-accepted, records-room, stored
 use borrow.Author.Needs.{needs}
 use Rattle.message.proofs.list_under.Statement.{statement}
 use Rattle.message.proofs.list_under.Tie as tie
-use Rattle.message.proofs.list_under.Reads as reads
-use Rattle.message.proofs.list_under.Lts as lts
-use Rattle.message.proofs.check_under.Reads as check-under-reads
-use Rattle.message.proofs.listing.list_item.Reads as list-item-reads
 
--- src/lib.rt:73:9
 check-under-requires : tie.Need-check-under-requires
 check-under-requires c κs = search needs
 
--- src/lib.rt:75:25
 enum-known-r : tie.Need-enum-known-r
 enum-known-r c = search needs
 
--- src/lib.rt:76:26
 enum-known-r-2 : tie.Need-enum-known-r-2
 enum-known-r-2 c = search needs
 
--- src/lib.rt:80:17
 returns : tie.Need-returns
 returns c = (rw (← c .before .before .before .before .check-under .ensures, c .before .before .r2 .given .1, lt-ltb _ _ (c .if1 .taken)), rw (← c .before .before .before .before .check-under .ensures, c .before .before .r2 .given .1, lt-ltb _ _ (c .if1 .taken)))
 
--- src/lib.rt:82:24
 sub-last : tie.Need-sub-last
 sub-last c = search needs
 
--- src/lib.rt:83:13
 list-item-requires : tie.Need-list-item-requires
-list-item-requires c κs = 
+list-item-requires c κs =
     let e : c .before .before .before .before .before .before .before .before .before .before .args .n - 1 + 1 ≡ c .before .before .before .before .before .before .before .before .before .before .args .n = omega (arith, c .before .before .before .before .before .before .before .before .before .before .pre .1) in
     let q = under-accepted (c .before .before .before .before .before .before .before .before .before .before .args .layout .now) (c .before .before .before .before .before .before .before .before .before .before .args .message .now) (c .before .before .before .before .before .before .before .before .before .before .args .n) _ (sym (c .before .before .before .before .before .check-under .ensures) ∙ c .before .before .before .r2 .given .1) in
     (rw e (c .before .before .before .before .before .before .before .before .before .before .pre .0), omega (arith, q .1), rw (q .0) tt, records-room _ _ _ _ (q .0) (c .before .if1 .left))
 
--- src/lib.rt:62:1
 returns-2 : tie.Need-returns-2
 returns-2 c = (rw (← c .before .before .before .check-under .ensures, c .before .r .given .1), rw (← c .before .before .before .check-under .ensures, c .before .r .given .1))
 
--- src/lib.rt:62:1
 same-length : tie.Need-same-length
 same-length c = stored-length _ _ _ _ _ (c .before .before .list-item .ensures)
 
--- src/lib.rt:62:1
 returns-3 : tie.Need-returns-3
 returns-3 c = (rw (← c .before .before .before .before .before .before .before .before .check-under .ensures, c .before .before .before .before .before .before .r2 .given .1, le-ltb _ _ (c .before .before .before .before .if1 .left)), rw (← c .before .before .before .before .before .before .before .before .check-under .ensures, c .before .before .before .before .before .before .r2 .given .1, le-ltb _ _ (c .before .before .before .before .if1 .left)) (c .before .before .list-item .ensures .list))
 

@@ -1,12 +1,13 @@
 -- `bitfield::body::unmarked` meets its contract: the highest set bit is in the last byte in use, which is not the last one. Assumes nothing.
 use borrow.Author.Needs.{needs}
-use Rattle.bitfield.proofs.Tops.{bytes-known}
+use native.Mathlib.Omega.{arith}
+use Rattle.bitfield.proofs.Tops.{bytes-known, used-all}
 use Rattle.bitfield.proofs.Bodies.{none-marked, marked-short}
 use Rattle.bitfield.proofs.body.unmarked.Statement.{statement}
 use Rattle.bitfield.proofs.body.unmarked.Tie as tie
 
 used-bytes-requires : tie.Need-used-bytes-requires
-used-bytes-requires c κs = search needs
+used-bytes-requires c κs = (omega arith, used-all (c .before .args .bytes .now))
 
 returns : tie.Need-returns
 returns c =

@@ -4,18 +4,18 @@ use Prim.Native.Nat.{_≤_}
 use native.Mathlib.Omega.{arith}
 use lib.ListN.{length, drop}
 use Rattle.standard.specs.Bytes.{num}
-use Rattle.bitfield.proofs.Tops.{zero-before, used-all, used-upto, used-none}
+use Rattle.bitfield.proofs.Tops.{zero-before, used-upto, used-none}
 use Rattle.bitfield.proofs.body.used_bytes.Statement.{statement}
 use Rattle.bitfield.proofs.body.used_bytes.Tie as tie
 
 abbrev Inv-loop : tie.InvT-loop
-Inv-loop bytes i₀ i = (i ≤ length bytes) × (num (drop i bytes) ≡ 0)
+Inv-loop bytes end i₀ i = (i ≤ length bytes) × (num (drop i bytes) ≡ 0)
 
 abbrev μ-loop : tie.MeasureT-loop
-μ-loop bytes i₀ i = i
+μ-loop bytes end i₀ i = i
 
 loop-holds : tie.Need-loop-holds Inv-loop μ-loop
-loop-holds c = (omega arith, used-all (c .args .bytes .now))
+loop-holds c = c .pre
 
 sub-if1 : tie.Need-sub-if1 Inv-loop μ-loop
 sub-if1 c = omega arith

@@ -5,13 +5,6 @@ use borrow.Author.Needs.{needs}
 use Rattle.message.proofs.Rows.{Laying, row-index, laying-next, laying-bad, laying-end}
 use Rattle.message.proofs.fields.lay_out.Statement.{statement}
 use Rattle.message.proofs.fields.lay_out.Tie as tie
-use Rattle.message.proofs.fields.lay_out.Reads as reads
-use Rattle.message.proofs.fields.lay_out.Lts as lts
-use Rattle.decode.proofs.builder.Progress.new.Reads as new-reads
-use Rattle.decode.proofs.builder.finalize.Reads as finalize-reads
-use Rattle.decode.proofs.builder.register_head.Reads as register-head-reads
-use Rattle.layout.proofs.head_of.Reads as head-of-reads
-use Rattle.standard.proofs.words.word_at.Reads as word-at-reads
 
 abbrev Inv-loop : tie.InvT-loop
 Inv-loop lens layout t a0 n b x₀ a₀ left₀ x a left = Laying lens layout t a0 n b x a left
@@ -19,67 +12,51 @@ Inv-loop lens layout t a0 n b x₀ a₀ left₀ x a left = Laying lens layout t 
 abbrev μ-loop : tie.MeasureT-loop
 μ-loop lens layout t a0 n b x₀ a₀ left₀ x a left = left
 
--- src/fields.rt:34:9
 new-requires : tie.Need-new-requires Inv-loop μ-loop
 new-requires c κs = search needs
 
--- src/fields.rt:37:5
 loop-holds : tie.Need-loop-holds Inv-loop μ-loop
 loop-holds c = record { row = c .before .before .before .before .pre .0; within = rw (c .new .ensures) (omega arith); same = rw (c .new .ensures) }
 
--- src/fields.rt:38:13
 word-at-requires : tie.Need-word-at-requires Inv-loop μ-loop
 word-at-requires c κs = search needs
 
--- src/fields.rt:39:25
 mul-head-of : tie.Need-mul-head-of Inv-loop μ-loop
 mul-head-of c = omega (arith, c .word-at .ensures .1)
 
--- src/fields.rt:39:25
 shared-slice-read-head-of : tie.Need-shared-slice-read-head-of Inv-loop μ-loop
 shared-slice-read-head-of c = row-index _ _ _ _ _ _ (c .before .before .before .loop .inv .row) (c .before .before .loop-test .taken) (c .before .word-at .ensures .0)
 
--- src/fields.rt:39:13
 head-of-requires : tie.Need-head-of-requires Inv-loop μ-loop
 head-of-requires c κs = search needs
 
--- src/fields.rt:40:13
 register-head-requires : tie.Need-register-head-requires Inv-loop μ-loop
 register-head-requires c κs = search needs
 
--- src/fields.rt:42:24
 enum-known-s : tie.Need-enum-known-s Inv-loop μ-loop
 enum-known-s c = search needs
 
--- src/fields.rt:45:27
 enum-known-s-2 : tie.Need-enum-known-s-2 Inv-loop μ-loop
 enum-known-s-2 c = search needs
 
--- src/fields.rt:46:17
 returns : tie.Need-returns Inv-loop μ-loop
 returns c = laying-bad _ _ _ _ _ _ _ _ _ _ _ (c .before .before .before .before .before .before .before .before .before .before .before .before .before .pre .1) (c .before .before .before .before .before .before .before .before .loop .inv) (c .before .before .before .before .before .before .before .loop-test .taken) (c .before .before .before .before .before .before .word-at .ensures .0) (c .before .before .before .before .head-of .ensures) _ (sym (c .before .s2 .given .1) ∙ c .before .before .before .register-head .ensures)
 
--- src/fields.rt:49:9
 add-a : tie.Need-add-a Inv-loop μ-loop
 add-a c = omega (arith, c .before .before .before .before .before .before .before .before .loop .inv .row .near)
 
--- src/fields.rt:50:9
 sub-left : tie.Need-sub-left Inv-loop μ-loop
 sub-left c = omega arith
 
--- src/fields.rt:37:5
 loop-less : tie.Need-loop-less Inv-loop μ-loop
 loop-less c = omega arith
 
--- src/fields.rt:37:5
 loop-again : tie.Need-loop-again Inv-loop μ-loop
 loop-again c = laying-next _ _ _ _ _ _ _ _ _ _ _ (c .before .before .before .before .before .before .before .before .before .before .before .before .before .pre .1) (c .before .before .before .before .before .before .before .before .loop .inv) (c .before .before .before .before .before .before .before .loop-test .taken) (c .before .before .before .before .before .before .word-at .ensures .0) (c .before .before .before .before .head-of .ensures) _ (sym (c .before .s .given .1) ∙ c .before .before .before .register-head .ensures)
 
--- src/fields.rt:52:5
 finalize-requires : tie.Need-finalize-requires Inv-loop μ-loop
 finalize-requires c κs = search needs
 
--- src/fields.rt:23:1
 returns-2 : tie.Need-returns-2 Inv-loop μ-loop
 returns-2 c = c .finalize .ensures ∙ laying-end _ _ _ _ _ _ _ _ _ (c .before .before .loop .inv) (c .before .loop-test .left)
 

@@ -5,48 +5,34 @@ use Rattle.message.proofs.Rows.{row-below, row-index, row-variable, row
 use borrow.Author.Needs.{needs}
 use Rattle.message.proofs.fields.locate.Statement.{statement}
 use Rattle.message.proofs.fields.locate.Tie as tie
-use Rattle.message.proofs.fields.locate.Reads as reads
-use Rattle.message.proofs.fields.locate.Lts as lts
-use Rattle.message.proofs.fields.next_start.Reads as next-start-reads
-use Rattle.standard.proofs.words.four_at.Reads as four-at-reads
 
--- src/fields.rt:98:13
 mul-k : tie.Need-mul-k
 mul-k c = omega (arith, row-below _ _ _ _ _ _ (c .before .before .before .pre .0) (c .before .before .before .pre .1) (c .before .before .before .pre .2), c .before .before .before .pre .0 .under .few)
 
--- src/fields.rt:98:13
 shared-slice-read-k : tie.Need-shared-slice-read-k
 shared-slice-read-k c = row-index _ _ _ _ _ _ (c .before .before .before .before .pre .0) (c .before .before .before .before .pre .1) (c .before .before .before .before .pre .2)
 
--- src/fields.rt:100:13
 four-at-requires : tie.Need-four-at-requires
 four-at-requires c κs = search needs
 
--- src/fields.rt:101:20
 add-next : tie.Need-add-next
 add-next c = omega (arith, first-room _ _ _ _ _ _ _ _ (c .before .before .before .before .before .before .pre .0) (c .before .before .before .before .before .before .pre .1) (c .before .before .before .before .before .before .pre .2) (c .before .before .before .before .before .before .pre .3) (row-variable _ _ _ _ _ _ (c .before .before .before .before .before .before .pre .0) (c .before .before .before .before .before .before .pre .1) (c .before .before .before .before .before .before .pre .2) _ refl (c .before .if1 .taken)))
 
--- src/fields.rt:102:21
 add-after : tie.Need-add-after
 add-after c = omega (arith, c .before .before .before .before .before .before .pre .0 .near)
 
--- src/fields.rt:103:20
 sub-rest : tie.Need-sub-rest
 sub-rest c = search needs
 
--- src/fields.rt:104:13
 next-start-requires : tie.Need-next-start-requires
 next-start-requires c κs = (row-next _ _ _ _ _ _ (c .before .before .before .before .before .before .pre .0) (c .before .before .before .before .before .before .pre .1) (c .before .before .before .before .before .before .pre .2), first-rest _ _ _ _ _ _ _ _ (c .before .before .before .before .before .before .pre .0) (c .before .before .before .before .before .before .pre .1) (c .before .before .before .before .before .before .pre .2) (c .before .before .before .before .before .before .pre .3) (row-variable _ _ _ _ _ _ (c .before .before .before .before .before .before .pre .0) (c .before .before .before .before .before .before .pre .1) (c .before .before .before .before .before .before .pre .2) _ refl (c .before .if1 .taken)))
 
--- src/fields.rt:105:9
 returns : tie.Need-returns
 returns c = rw (← row-variable _ _ _ _ _ _ (c .before .before .before .before .before .before .before .pre .0) (c .before .before .before .before .before .before .before .pre .1) (c .before .before .before .before .before .before .before .pre .2) _ refl (c .before .before .if1 .taken), ← c .before .four-at .ensures .0, ← c .next-start .ensures)
 
--- src/fields.rt:107:14
 add-to : tie.Need-add-to
 add-to c = omega (arith, first-fits _ _ _ _ _ _ _ _ (c .before .before .before .before .before .pre .0) (c .before .before .before .before .before .pre .1) (c .before .before .before .before .before .pre .2) (c .before .before .before .before .before .pre .3) _ (row-fixed _ _ _ _ _ _ (c .before .before .before .before .before .pre .0) (c .before .before .before .before .before .pre .1) (c .before .before .before .before .before .pre .2) _ refl (c .if1 .left)))
 
--- src/fields.rt:85:1
 returns-2 : tie.Need-returns-2
 returns-2 c = rw (← row-fixed _ _ _ _ _ _ (c .before .before .before .before .before .pre .0) (c .before .before .before .before .before .pre .1) (c .before .before .before .before .before .pre .2) _ refl (c .if1 .left))
 

@@ -5,10 +5,6 @@ use borrow.Author.Needs.{needs}
 use Rattle.message.proofs.Rows.{Seeking, row-index, seeking-found, seeking-fits, seeking-next, seeking-end}
 use Rattle.message.proofs.fields.next_start.Statement.{statement}
 use Rattle.message.proofs.fields.next_start.Tie as tie
-use Rattle.message.proofs.fields.next_start.Reads as reads
-use Rattle.message.proofs.fields.next_start.Lts as lts
-use Rattle.standard.proofs.words.four_at.Reads as four-at-reads
-use Rattle.standard.proofs.words.word_at.Reads as word-at-reads
 
 abbrev Inv-loop : tie.InvT-loop
 Inv-loop lens layout t a0 n b p0 a₀ left₀ p₀ a left p = Seeking lens layout t a0 n b p0 a left p
@@ -16,51 +12,39 @@ Inv-loop lens layout t a0 n b p0 a₀ left₀ p₀ a left p = Seeking lens layou
 abbrev μ-loop : tie.MeasureT-loop
 μ-loop lens layout t a0 n b p0 a₀ left₀ p₀ a left p = left
 
--- src/fields.rt:71:5
 loop-holds : tie.Need-loop-holds Inv-loop μ-loop
 loop-holds c = record { row = c .before .before .before .pre .0; ranges = c .before .before .before .pre .1; same = refl }
 
--- src/fields.rt:72:13
 word-at-requires : tie.Need-word-at-requires Inv-loop μ-loop
 word-at-requires c κs = search needs
 
--- src/fields.rt:73:17
 mul-k : tie.Need-mul-k Inv-loop μ-loop
 mul-k c = omega (arith, c .word-at .ensures .1)
 
--- src/fields.rt:73:17
 shared-slice-read-k : tie.Need-shared-slice-read-k Inv-loop μ-loop
 shared-slice-read-k c = row-index _ _ _ _ _ _ (c .before .before .before .loop .inv .row) (c .before .before .loop-test .taken) (c .before .word-at .ensures .0)
 
--- src/fields.rt:75:13
 four-at-requires : tie.Need-four-at-requires Inv-loop μ-loop
 four-at-requires c κs = search needs
 
--- src/fields.rt:75:13
 returns : tie.Need-returns Inv-loop μ-loop
 returns c = c .four-at .ensures .0 ∙ seeking-found _ _ _ _ _ _ _ _ _ _ _ _ (c .before .before .before .before .before .loop .inv) (c .before .before .before .before .loop-test .taken) (c .before .before .before .word-at .ensures .0) refl (c .before .if1 .taken)
 
--- src/fields.rt:77:9
 add-p : tie.Need-add-p Inv-loop μ-loop
 add-p c = omega (arith, seeking-fits _ _ _ _ _ _ _ _ _ _ _ _ (c .before .before .before .before .loop .inv) (c .before .before .before .loop-test .taken) (c .before .before .word-at .ensures .0) refl (c .if1 .left))
 
--- src/fields.rt:78:9
 add-a : tie.Need-add-a Inv-loop μ-loop
 add-a c = omega (arith, c .before .before .before .before .loop .inv .row .near)
 
--- src/fields.rt:79:9
 sub-left : tie.Need-sub-left Inv-loop μ-loop
 sub-left c = omega arith
 
--- src/fields.rt:71:5
 loop-less : tie.Need-loop-less Inv-loop μ-loop
 loop-less c = omega arith
 
--- src/fields.rt:71:5
 loop-again : tie.Need-loop-again Inv-loop μ-loop
 loop-again c = seeking-next _ _ _ _ _ _ _ _ _ _ _ _ (c .before .before .before .before .loop .inv) (c .before .before .before .loop-test .taken) (c .before .before .word-at .ensures .0) refl (c .if1 .left)
 
--- src/fields.rt:56:1
 returns-2 : tie.Need-returns-2 Inv-loop μ-loop
 returns-2 c = seeking-end _ _ _ _ _ _ _ _ _ _ (c .before .loop .inv) (c .loop-test .left)
 

@@ -4,29 +4,21 @@ use Rattle.message.specs.Read.{readItem}
 use borrow.Author.Needs.{needs}
 use Rattle.message.proofs.items.boolean_check.Statement.{statement}
 use Rattle.message.proofs.items.boolean_check.Tie as tie
-use Rattle.message.proofs.items.boolean_check.Reads as reads
-use Rattle.message.proofs.items.boolean_check.Lts as lts
-use Rattle.message.proofs.items.leaf.Reads as leaf-reads
 
--- src/items.rt:78:9
 returns : tie.Need-returns
 unfolding readItem
 returns c = rw (ne-eqb _ _ (c .if1 .taken))
 
--- src/items.rt:80:13
 shared-slice-read-x : tie.Need-shared-slice-read-x
 shared-slice-read-x c = search needs
 
--- src/items.rt:82:9
 leaf-requires : tie.Need-leaf-requires
 leaf-requires c κs = search needs
 
--- src/items.rt:73:1
 returns-2 : tie.Need-returns-2
 unfolding readItem
 returns-2 c = rw (eq-eqb _ _ (c .before .before .before .if1 .left), lt-ltb _ _ (c .before .if2 .taken)) (c .leaf .ensures)
 
--- src/items.rt:73:1
 returns-3 : tie.Need-returns-3
 unfolding readItem
 returns-3 c = rw (eq-eqb _ _ (c .before .before .if1 .left), le-ltb _ _ (c .if2 .left))

@@ -3,22 +3,16 @@ use borrow.Author.Tests.{eq-eqb, ne-eqb}
 use borrow.Author.Needs.{needs}
 use Rattle.message.proofs.items.option_at.Statement.{statement}
 use Rattle.message.proofs.items.option_at.Tie as tie
-use Rattle.message.proofs.items.option_at.Reads as reads
-use Rattle.message.proofs.items.option_at.Lts as lts
 
--- src/items.rt:152:9
 returns : tie.Need-returns
 returns c = rw (ne-eqb _ _ (c .if1 .taken))
 
--- src/items.rt:155:9
 returns-2 : tie.Need-returns-2
 returns-2 c = rw (eq-eqb _ _ (c .before .if1 .left), eq-eqb _ _ (c .if2 .taken))
 
--- src/items.rt:157:16
 sub-left : tie.Need-sub-left
 sub-left c = search needs
 
--- src/items.rt:147:1
 returns-3 : tie.Need-returns-3
 returns-3 c = rw (eq-eqb _ _ (c .before .if1 .left), ne-eqb _ _ (c .if2 .left))
 

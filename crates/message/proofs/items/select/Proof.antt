@@ -6,56 +6,39 @@ use Rattle.message.proofs.Bodies.{split-some}
 use borrow.Author.Needs.{needs}
 use Rattle.message.proofs.items.select.Statement.{statement}
 use Rattle.message.proofs.items.select.Tie as tie
-use Rattle.message.proofs.items.select.Reads as reads
-use Rattle.message.proofs.items.select.Lts as lts
-use Rattle.decode.proofs.split_union_bytes.Reads as split-union-bytes-reads
-use Rattle.decode.proofs.union_selector.UnionSelector.get.Reads as get-reads
-use Rattle.message.proofs.items.option_at.Reads as option-at-reads
-use Rattle.standard.proofs.words.word_at.Reads as word-at-reads
 
--- src/items.rt:166:9
 split-union-bytes-requires : tie.Need-split-union-bytes-requires
 split-union-bytes-requires c κs = search needs
 
--- src/items.rt:168:33
 enum-known-s : tie.Need-enum-known-s
 enum-known-s c = search needs
 
--- src/items.rt:169:34
 enum-known-s-2 : tie.Need-enum-known-s-2
 enum-known-s-2 c = search needs
 
--- src/items.rt:170:17
 get-requires : tie.Need-get-requires
 get-requires c κs = search needs
 
--- src/items.rt:171:21
 cast-k : tie.Need-cast-k
 cast-k c = search needs
 
--- src/items.rt:173:17
 returns : tie.Need-returns
 unfolding choose
 returns c = rw (← c .before .before .before .before .before .split-union-bytes .ensures, c .before .before .before .s2 .given .1, ← c .before .get .ensures, le-ltb _ _ (c .if1 .taken))
 
--- src/items.rt:175:25
 add-place : tie.Need-add-place
 add-place c = search needs
 
--- src/items.rt:176:17
 word-at-requires : tie.Need-word-at-requires
 word-at-requires c κs = search needs
 
--- src/items.rt:177:13
 option-at-requires : tie.Need-option-at-requires
 option-at-requires c κs = split-some (c .before .before .before .before .before .before .before .before .before .args .b .now) _ (sym (c .before .before .before .before .before .before .split-union-bytes .ensures) ∙ c .before .before .before .before .s2 .given .1)
 
--- src/items.rt:162:1
 returns-2 : tie.Need-returns-2
 unfolding choose
 returns-2 c = rw (← c .before .before .before .split-union-bytes .ensures, c .before .s .given .1)
 
--- src/items.rt:162:1
 returns-3 : tie.Need-returns-3
 unfolding choose
 returns-3 c = rw (← c .before .before .before .before .before .before .before .split-union-bytes .ensures, c .before .before .before .before .before .s2 .given .1, ← c .before .before .before .get .ensures, lt-ltb _ _ (c .before .before .if1 .left), ← c .before .word-at .ensures .0) (c .option-at .ensures)

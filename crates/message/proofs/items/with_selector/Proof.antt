@@ -3,27 +3,19 @@ use native.Mathlib.Omega.{arith}
 use borrow.Author.Needs.{needs}
 use Rattle.message.proofs.items.with_selector.Statement.{statement}
 use Rattle.message.proofs.items.with_selector.Tie as tie
-use Rattle.message.proofs.items.with_selector.Reads as reads
-use Rattle.message.proofs.items.with_selector.Lts as lts
-use Rattle.message.proofs.items.add.Reads as add-reads
 
--- src/items.rt:200:26
 enum-known-r : tie.Need-enum-known-r
 enum-known-r c = search needs
 
--- src/items.rt:206:17
 add-requires : tie.Need-add-requires
 add-requires c κs = (record { records = omega arith; words = omega arith; bytes = omega arith }, c .before .before .before .pre _ (c .before .r .given .1))
 
--- src/items.rt:209:25
 enum-known-r-2 : tie.Need-enum-known-r-2
 enum-known-r-2 c = search needs
 
--- src/items.rt:195:1
 returns : tie.Need-returns
 returns c = rw (c .before .before .r .given .1, c .add .ensures)
 
--- src/items.rt:195:1
 returns-2 : tie.Need-returns-2
 returns-2 c = rw (c .before .r2 .given .1)
 

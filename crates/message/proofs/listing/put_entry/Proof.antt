@@ -3,39 +3,28 @@ use Rattle.message.proofs.Entries.{entry-stored}
 use borrow.Author.Needs.{needs}
 use Rattle.message.proofs.listing.put_entry.Statement.{statement}
 use Rattle.message.proofs.listing.put_entry.Tie as tie
-use Rattle.message.proofs.listing.put_entry.Reads as reads
-use Rattle.message.proofs.listing.put_entry.Lts as lts
-use Rattle.standard.proofs.words.put_four.Reads as put-four-reads
 
--- src/listing.rt:23:5
 put-four-requires : tie.Need-put-four-requires
 put-four-requires c κs = search needs
 
--- src/listing.rt:24:18
 add-second : tie.Need-add-second
 add-second c = search needs
 
--- src/listing.rt:25:5
 put-four-requires-2 : tie.Need-put-four-requires-2
 put-four-requires-2 c κs = search needs
 
--- src/listing.rt:26:17
 add-third : tie.Need-add-third
 add-third c = search needs
 
--- src/listing.rt:27:15
 add-end : tie.Need-add-end
 add-end c = search needs
 
--- src/listing.rt:28:5
 put-four-requires-3 : tie.Need-put-four-requires-3
 put-four-requires-3 c κs = search needs
 
--- src/listing.rt:19:1
 same-length : tie.Need-same-length
 same-length c = search needs
 
--- src/listing.rt:19:1
 returns : tie.Need-returns
 returns c = entry-stored _ _ _ _ _ _ _ _ (c .before .before .before .before .before .before .before .before .before .before .put-four .ensures) (c .before .before .before .before .before .before .put-four2 .ensures) (c .before .before .put-four3 .ensures)
 

@@ -1,0 +1,42 @@
+-- `bitfield::BitList::merge_with` meets its contract: the first tests, and the call on the bytes. Assumes nothing.
+use mathlib.Core.Path.{sym, _∙_}
+use Prim.Native.Nat.{ℕ}
+use borrow.Author.Needs.{needs}
+use Rattle.bitfield.specs.Raw.{Raw}
+use Rattle.bitfield.specs.declared.Told.the-variants.{Fine}
+use Rattle.bitfield.specs.Held.{held, opBits}
+use Rattle.bitfield.specs.Lists.{bits, listMerge, listsTold}
+use Rattle.bitfield.proofs.Tolds.{lists-kept}
+use Rattle.bitfield.proofs.Results.{raw-known, list-done}
+use Rattle.bitfield.proofs.BitList.merge_with.Statement.{statement}
+use Rattle.bitfield.proofs.BitList.merge_with.Tie as tie
+
+raw : (c : tie.Start) → Raw (c .args .t1 .bytes)
+raw c = raw-known _ (search needs) (λ (i : ℕ). search needs)
+
+its-raw : (c : tie.Start) → Raw (c .args .t2 .bytes)
+its-raw c = raw-known _ (search needs) (λ (i : ℕ). search needs)
+
+pair-told-requires : tie.Need-pair-told-requires
+pair-told-requires c κs = (raw (c .before .before .before .before), its-raw (c .before .before .before .before))
+
+merge-requires : tie.Need-merge-requires
+merge-requires c κs =
+    λ told.
+    let s = c .before .before .before .before .before .before .before .before .before in
+    lists-kept _ _ (s .args .t1 .len) (s .args .t1 .n) (s .args .t2 .len) (s .args .t2 .n) (raw s) (its-raw s) (sym (c .before .before .before .before .pair-told .ensures) ∙ told)
+
+result-of-requires : tie.Need-result-of-requires
+result-of-requires c κs = search needs
+
+returns : tie.Need-returns
+unfolding listMerge listsTold
+returns c =
+    let s = c .before .before .before .before .before .before .before .before .before .before .before in
+    let a = s .args .t1 in
+    let b = s .args .t2 in
+    let made = rw (c .before .before .before .before .before .before .pair-told .ensures) at (c .before .merge .ensures) in
+    list-done a _ (a .n) _ (listsTold a b) (held (opBits (s .args .op) (bits a) (bits b))) (c .result-of .ensures) made
+
+pub merge-with-spec : {M : Type 1} → statement M
+merge-with-spec = tie.close (tie.spec pair-told-requires merge-requires result-of-requires returns)

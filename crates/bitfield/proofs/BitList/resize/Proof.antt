@@ -1,0 +1,39 @@
+-- `bitfield::BitList::resize` meets its contract: the first tests, and the call on the bytes. Assumes nothing.
+use mathlib.Core.Path.{sym, _∙_}
+use Prim.Native.Nat.{ℕ}
+use borrow.Author.Needs.{needs}
+use Rattle.bitfield.specs.Raw.{Raw}
+use Rattle.bitfield.specs.declared.Told.the-variants.{Fine}
+use Rattle.bitfield.specs.Bools.{widened}
+use Rattle.bitfield.specs.Held.{held, limited, notBelow, andThen}
+use Rattle.bitfield.specs.Lists.{bits, listResize, listTold}
+use Rattle.bitfield.proofs.Tolds.{list-kept}
+use Rattle.bitfield.proofs.Results.{raw-known, list-done}
+use Rattle.bitfield.proofs.BitList.resize.Statement.{statement}
+use Rattle.bitfield.proofs.BitList.resize.Tie as tie
+
+raw : (c : tie.Start) → Raw (c .args .t1 .bytes)
+raw c = raw-known _ (search needs) (λ (i : ℕ). search needs)
+
+first-told-requires : tie.Need-first-told-requires
+first-told-requires c κs = raw (c .before .before)
+
+resize-to-requires : tie.Need-resize-to-requires
+resize-to-requires c κs =
+    λ told. list-kept _ ((c .before .before .before .before .before) .args .t1 .len) ((c .before .before .before .before .before) .args .t1 .n) (raw (c .before .before .before .before .before)) (sym (c .before .before .first-told .ensures) ∙ told)
+
+result-of-requires : tie.Need-result-of-requires
+result-of-requires c κs = search needs
+
+returns : tie.Need-returns
+unfolding listResize listTold
+returns c =
+    let s = c .before .before .before .before .before .before .before in
+    let a = s .args .t1 in
+    let made = rw (c .before .before .before .before .first-told .ensures) at (c .before .resize-to .ensures) in
+    let told = andThen (listTold a) (andThen (limited (s .args .m)) (notBelow (s .args .m) (a .n))) in
+    list-done a _ (s .args .m) _ told (held (widened (s .args .m) (bits a))) (c .result-of .ensures) made
+
+pub resize-spec : {M : Type 1} → statement M
+resize-spec =
+    tie.close (tie.spec first-told-requires resize-to-requires result-of-requires returns)

@@ -1,0 +1,36 @@
+-- `bitfield::BitVector::not` meets its contract: the first tests, and the call on the bytes. Assumes nothing.
+use mathlib.Core.Path.{sym, _∙_}
+use Prim.Native.Nat.{ℕ}
+use borrow.Author.Needs.{needs}
+use Rattle.bitfield.specs.Raw.{Raw}
+use Rattle.bitfield.specs.declared.Told.the-variants.{Fine}
+use Rattle.bitfield.specs.Bools.{flipped}
+use Rattle.bitfield.specs.Held.{held, opBits}
+use Rattle.bitfield.specs.Vectors.{bits, vectorNot, vectorTold}
+use Rattle.bitfield.proofs.Tolds.{vector-kept}
+use Rattle.bitfield.proofs.Results.{raw-known, vector-done}
+use Rattle.bitfield.proofs.BitVector.not.Statement.{statement}
+use Rattle.bitfield.proofs.BitVector.not.Tie as tie
+
+raw : (c : tie.Start) → Raw (c .args .t1 .bytes)
+raw c = raw-known _ (search needs) (λ (i : ℕ). search needs)
+
+first-told-requires : tie.Need-first-told-requires
+first-told-requires c κs = raw (c .before .before)
+
+merge-requires : tie.Need-merge-requires
+merge-requires c κs =
+    λ told. let k = vector-kept _ ((c .before .before .before .before .before .before) .args .t1 .len) ((c .before .before .before .before .before .before) .args .t1 .n) (raw (c .before .before .before .before .before .before)) (sym (c .before .before .before .first-told .ensures) ∙ told) in (k, k)
+
+result-of-requires : tie.Need-result-of-requires
+result-of-requires c κs = search needs
+
+returns : tie.Need-returns
+unfolding vectorNot vectorTold opBits
+returns c =
+    let a = c .before .before .before .before .before .before .before .before .args .t1 in
+    let made = rw (c .before .before .before .before .before .first-told .ensures) at (c .before .merge .ensures) in
+    vector-done a _ (a .n) _ (vectorTold a) (held (flipped (bits a))) (c .result-of .ensures) made
+
+pub not-spec : {M : Type 1} → statement M
+not-spec = tie.close (tie.spec first-told-requires merge-requires result-of-requires returns)

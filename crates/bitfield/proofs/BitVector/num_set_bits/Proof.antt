@@ -1,0 +1,28 @@
+-- `bitfield::BitVector::num_set_bits` meets its contract: the first tests, and the call on the bytes. Assumes nothing.
+use mathlib.Core.Path.{sym, _∙_}
+use Prim.Native.Nat.{ℕ}
+use borrow.Author.Needs.{needs}
+use Rattle.bitfield.specs.Raw.{Raw}
+use Rattle.bitfield.specs.declared.Told.the-variants.{Fine}
+use Rattle.bitfield.specs.Vectors.{vectorNumSetBits, vectorTold}
+use Rattle.bitfield.proofs.Tolds.{vector-kept}
+use Rattle.bitfield.proofs.Results.{raw-known}
+use Rattle.bitfield.proofs.BitVector.num_set_bits.Statement.{statement}
+use Rattle.bitfield.proofs.BitVector.num_set_bits.Tie as tie
+
+raw : (c : tie.Start) → Raw (c .args .t1 .bytes)
+raw c = raw-known _ (search needs) (λ (i : ℕ). search needs)
+
+first-told-requires : tie.Need-first-told-requires
+first-told-requires c κs = raw (c .before .before)
+
+count-told-requires : tie.Need-count-told-requires
+count-told-requires c κs =
+    λ told. vector-kept _ ((c .before .before .before .before .before) .args .t1 .len) ((c .before .before .before .before .before) .args .t1 .n) (raw (c .before .before .before .before .before)) (sym (c .before .before .first-told .ensures) ∙ told)
+
+returns : tie.Need-returns
+unfolding vectorNumSetBits vectorTold
+returns c = rw (c .before .before .before .first-told .ensures) at (c .count-told .ensures)
+
+pub num-set-bits-spec : {M : Type 1} → statement M
+num-set-bits-spec = tie.close (tie.spec first-told-requires count-told-requires returns)

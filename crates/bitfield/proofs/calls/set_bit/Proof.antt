@@ -1,0 +1,49 @@
+-- `bitfield::calls::set_bit` meets its contract: the work where the tests went well, else their refusal. Assumes nothing.
+use mathlib.Core.Path.{sym, _∙_}
+use borrow.Author.Needs.{needs}
+use Rattle.bitfield.specs.Held.{inside}
+use Rattle.bitfield.proofs.Tolds.{then-fine, inside-fine}
+use Rattle.bitfield.proofs.calls.set_bit.Statement.{statement}
+use Rattle.bitfield.proofs.calls.set_bit.Tie as tie
+
+inside-told-requires : tie.Need-inside-told-requires
+inside-told-requires c κs = search needs
+
+enum-told : tie.Need-enum-told
+enum-told c = search needs
+
+changed-requires : tie.Need-changed-requires
+changed-requires c κs =
+    let s = c .before .before .before in
+    let fine = then-fine (s .args .told) (inside (s .args .i) (s .args .len)) (sym (c .before .before .inside-told .ensures) ∙ c .enum-told .given .1) in
+    (s .pre (fine .0), inside-fine _ _ (fine .1))
+
+made-requires : tie.Need-made-requires
+made-requires c κs = search needs
+
+enum-told-2 : tie.Need-enum-told-2
+enum-told-2 c = search needs
+
+refused-requires : tie.Need-refused-requires
+refused-requires c κs = search needs
+
+returns : tie.Need-returns
+returns c =
+    c .made .ensures
+    ∙ rw (c .before .changed .ensures, ← c .before .before .before .before .inside-told .ensures, c .before .before .enum-told .given .1)
+
+returns-2 : tie.Need-returns-2
+returns-2 c = c .refused .ensures ∙ rw (← c .before .before .before .inside-told .ensures, c .before .enum-told2 .given .1)
+
+pub set-bit-spec : {M : Type 1} → statement M
+set-bit-spec =
+    tie.close
+    (tie.spec
+    inside-told-requires
+    enum-told
+    changed-requires
+    made-requires
+    enum-told-2
+    refused-requires
+    returns
+    returns-2)

@@ -1,0 +1,175 @@
+// Operations 10 to 25: bit lists.
+use crate::answers::is_empty;
+use crate::answers::is_fine;
+use crate::answers::is_refusal;
+use crate::answers::lend;
+use crate::answers::room_for;
+use crate::bits::bit;
+use crate::bits::bytes_of;
+use crate::bits::count;
+use crate::bits::has;
+use crate::bits::highest;
+use crate::bits::is_bit;
+use crate::bits::is_held;
+use crate::bits::len_of;
+use crate::bits::n_of;
+use bitfield::BitList;
+use bitfield::CountResult;
+use bitfield::ListResult;
+use bitfield::Told;
+use cases::Verdict;
+use cases::is_formed;
+use cases::is_number;
+use cases::number;
+use cases::part;
+use cases::told;
+use standard::Maybe;
+
+fn field_of(held: &[u8]) -> BitList {
+    BitList {
+        bytes: bytes_of(held),
+        len: len_of(held),
+        n: n_of(held),
+    }
+}
+
+fn made(head: &[u8], result: &[u8], answer: ListResult) -> Verdict {
+    let field = answer.field;
+    let bytes = field.bytes;
+    let said = answer.told;
+    match said {
+        Told::Fine => told(is_fine(head) && has(result, bytes, field.len, field.n)),
+        Told::Refused(e) => told(is_refusal(head, e) && is_empty(result)),
+    }
+}
+
+// 10: bits, N. Held.
+pub(crate) fn with_capacity(b: &[u8]) -> Verdict {
+    if !is_formed(b, 2, 4) {
+        return Verdict::Malformed;
+    }
+    let Maybe::Just(len) = number(part(b, 0)) else {
+        return Verdict::Malformed;
+    };
+    let Maybe::Just(n) = number(part(b, 1)) else {
+        return Verdict::Malformed;
+    };
+    made(part(b, 2), part(b, 3), BitList::with_capacity(len, n))
+}
+
+// 11: bytes, N. Held.
+pub(crate) fn from_bytes(b: &[u8]) -> Verdict {
+    if !is_formed(b, 2, 4) {
+        return Verdict::Malformed;
+    }
+    let Maybe::Just(n) = number(part(b, 1)) else {
+        return Verdict::Malformed;
+    };
+    made(part(b, 2), part(b, 3), BitList::from_bytes(part(b, 0), n))
+}
+
+fn write(b: &[u8], room: &mut [u8]) -> Verdict {
+    lend(room, part(b, 1));
+    let answer = field_of(part(b, 0)).into_bytes(room);
+    let is_lent = check::same(room, part(b, 4));
+    let head = part(b, 2);
+    let result = part(b, 3);
+    match answer {
+        CountResult::Count(n) => told(is_lent && is_fine(head) && is_number(result, n)),
+        CountResult::Refused(e) => told(is_lent && is_refusal(head, e) && is_empty(result)),
+    }
+}
+
+// 12: held, buffer. Bytes written, buffer.
+pub(crate) fn into_bytes(b: &[u8], room: &mut [u8]) -> Verdict {
+    if !is_formed(b, 2, 5) {
+        return Verdict::Malformed;
+    }
+    if !is_held(part(b, 0)) {
+        return Verdict::Malformed;
+    }
+    let n = room_for(part(b, 1).len(), room);
+    write(b, &mut room[..n])
+}
+
+// 13, 14, 15, 23: held, held. Held, or 0 or 1.
+pub(crate) fn with_other(b: &[u8], operation: usize) -> Verdict {
+    if !is_formed(b, 2, 4) {
+        return Verdict::Malformed;
+    }
+    if !is_held(part(b, 0)) {
+        return Verdict::Malformed;
+    }
+    if !is_held(part(b, 1)) {
+        return Verdict::Malformed;
+    }
+    let f = field_of(part(b, 0));
+    let g = field_of(part(b, 1));
+    let head = part(b, 2);
+    let result = part(b, 3);
+    match operation {
+        13 => made(head, result, f.intersection(g)),
+        14 => made(head, result, f.union(g)),
+        15 => bit(head, result, f.is_subset(g)),
+        _ => made(head, result, f.difference(g)),
+    }
+}
+
+// 16, 19, 25: held, number. Held, or 0 or 1.
+pub(crate) fn with_number(b: &[u8], operation: usize) -> Verdict {
+    if !is_formed(b, 2, 4) {
+        return Verdict::Malformed;
+    }
+    if !is_held(part(b, 0)) {
+        return Verdict::Malformed;
+    }
+    let Maybe::Just(x) = number(part(b, 1)) else {
+        return Verdict::Malformed;
+    };
+    let f = field_of(part(b, 0));
+    let head = part(b, 2);
+    let result = part(b, 3);
+    match operation {
+        16 => made(head, result, f.resize(x)),
+        19 => bit(head, result, f.get(x)),
+        _ => made(head, result, f.shift_up(x)),
+    }
+}
+
+// 17, 20, 21, 22, 24: held. Held, or a number.
+pub(crate) fn alone(b: &[u8], operation: usize) -> Verdict {
+    if !is_formed(b, 1, 3) {
+        return Verdict::Malformed;
+    }
+    if !is_held(part(b, 0)) {
+        return Verdict::Malformed;
+    }
+    let f = field_of(part(b, 0));
+    let head = part(b, 1);
+    let result = part(b, 2);
+    match operation {
+        17 => made(head, result, f.clone_zeroed()),
+        20 => highest(head, result, f.highest_set_bit()),
+        21 => bit(head, result, f.is_zero()),
+        22 => count(head, result, f.num_set_bits()),
+        _ => made(head, result, f.not()),
+    }
+}
+
+// 18: held, i, 0 or 1. Held.
+pub(crate) fn set(b: &[u8]) -> Verdict {
+    if !is_formed(b, 3, 5) {
+        return Verdict::Malformed;
+    }
+    if !is_held(part(b, 0)) {
+        return Verdict::Malformed;
+    }
+    let Maybe::Just(i) = number(part(b, 1)) else {
+        return Verdict::Malformed;
+    };
+    if !is_bit(part(b, 2)) {
+        return Verdict::Malformed;
+    }
+    let is_one = is_number(part(b, 2), 1);
+    made(part(b, 3), part(b, 4), field_of(part(b, 0)).set(i, is_one))
+}

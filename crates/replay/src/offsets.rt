@@ -1,0 +1,98 @@
+// Operations 1 to 4: offsets, lengths and the split of a union.
+use crate::answers::is_empty;
+use crate::answers::is_fine;
+use crate::answers::is_refusal;
+use cases::Verdict;
+use cases::is_formed;
+use cases::is_number;
+use cases::number;
+use cases::part;
+use cases::told;
+use decode::OffsetResult;
+use decode::union_selector::SelectorResult;
+use standard::Maybe;
+use standard::Told;
+
+// Whether the expected answer is this offset or refusal.
+fn is_offset(head: &[u8], result: &[u8], answer: OffsetResult) -> bool {
+    match answer {
+        OffsetResult::Offset(n) => is_fine(head) && is_number(result, n),
+        OffsetResult::Refused(e) => is_refusal(head, e) && is_empty(result),
+    }
+}
+
+// 1: bytes. Offset.
+pub(crate) fn read_offset(b: &[u8]) -> Verdict {
+    if !is_formed(b, 1, 3) {
+        return Verdict::Malformed;
+    }
+    told(is_offset(part(b, 1), part(b, 2), decode::read_offset(part(b, 0))))
+}
+
+// 2: length. Four bytes.
+pub(crate) fn encode_length(b: &[u8]) -> Verdict {
+    if !is_formed(b, 1, 3) {
+        return Verdict::Malformed;
+    }
+    let Maybe::Just(len) = number(part(b, 0)) else {
+        return Verdict::Malformed;
+    };
+    let answer = encode::encode_length(len);
+    let bytes = answer.bytes;
+    let said = answer.told;
+    let result = part(b, 2);
+    match said {
+        Told::Fine => told(is_fine(part(b, 1)) && check::same(&bytes, result)),
+        Told::Refused(e) => told(is_refusal(part(b, 1), e) && is_empty(result)),
+    }
+}
+
+// A number that a part may leave out by having no bytes.
+fn is_optional(part: &[u8]) -> bool {
+    part.len() == 0 || part.len() == 8
+}
+
+// 3: offset, previous offset or nothing, number of bytes, number of fixed bytes or nothing. Offset.
+pub(crate) fn sanitize_offset(b: &[u8]) -> Verdict {
+    if !is_formed(b, 4, 6) {
+        return Verdict::Malformed;
+    }
+    let Maybe::Just(offset) = number(part(b, 0)) else {
+        return Verdict::Malformed;
+    };
+    let Maybe::Just(bytes) = number(part(b, 2)) else {
+        return Verdict::Malformed;
+    };
+    if !is_optional(part(b, 1)) {
+        return Verdict::Malformed;
+    }
+    if !is_optional(part(b, 3)) {
+        return Verdict::Malformed;
+    }
+    let previous = number(part(b, 1));
+    let fixed = number(part(b, 3));
+    told(is_offset(
+        part(b, 4),
+        part(b, 5),
+        decode::sanitize_offset(offset, previous, bytes, fixed),
+    ))
+}
+
+// 4: bytes. Selector, body.
+pub(crate) fn split_union_bytes(b: &[u8]) -> Verdict {
+    if !is_formed(b, 1, 4) {
+        return Verdict::Malformed;
+    }
+    let question = part(b, 0);
+    let answer = decode::split_union_bytes(question);
+    match answer {
+        SelectorResult::Selector(s) => told(
+            is_fine(part(b, 1))
+                && is_number(part(b, 2), s.get() as usize)
+                && check::same(decode::union_body(question), part(b, 3)),
+        ),
+        SelectorResult::Refused(e) => told(
+            is_refusal(part(b, 1), e) && is_empty(part(b, 2)) && is_empty(part(b, 3)),
+        ),
+    }
+}
