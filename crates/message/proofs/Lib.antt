@@ -5,5 +5,8 @@ pub mod Rows
 pub mod Bodies
 pub mod Records
 pub mod Entries
+pub mod UnfoldLeaves
+pub mod Unfolds
+pub mod UnfoldCounts
 pub mod Theorem
 pub mod Cases

@@ -3,3 +3,4 @@ pub mod Form
 pub mod Listing
 pub mod Check
 pub mod Steps
+pub mod Unfold

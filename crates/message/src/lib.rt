@@ -2,17 +2,21 @@
 mod fields;
 mod items;
 mod listing;
+mod unfolding;
 
 use items::item_check;
 use layout::Checked;
 use layout::table_of;
 use listing::list_item;
 use standard::Refusal;
+use unfolding::Place;
+use unfolding::unfold_item;
 ghost use mathlib.Core.Path.{_≡_};
 ghost use Prim.Native.Nat.{_-_, _+_, _≤_, _<_, _^_};
 ghost use Rattle.layout.specs.declared.Checked.the-variants.{Upto};
 ghost use Rattle.message.specs.Check.{messageType, underTable, checkMessage, listedOf, recordsOf, listMessage, listedRecords};
 ghost use Rattle.message.specs.Steps.{Under};
+ghost use Rattle.message.specs.Unfold.{unfoldWords, unfoldBytes, unfoldedOf, filledOf, unfoldMessage, unfoldedWords, unfoldedBytes};
 
 // How much there is of an accepted message: records of its listing, contents words and body bytes of its value form.
 pub struct Counts {
@@ -30,6 +34,12 @@ pub enum Answer {
 // What a listing answers: how many records, or the refusal with its item's type and start.
 pub enum Listed {
     Records(usize),
+    Refused(Refusal, usize, usize),
+}
+
+// What an unfolding answers: how many contents words and body bytes were filled, or the refusal with its item's type and start.
+pub enum Unfolded {
+    Sizes(usize, usize),
     Refused(Refusal, usize, usize),
 }
 
@@ -91,5 +101,54 @@ pub fn list(layout: &[u8], message: &[u8], records: &mut [u8]) -> Listed
     match c {
         Checked::Bad(w) => Listed::Refused(Refusal::BadLayout(w), 0, 0),
         Checked::Upto(n) => list_under(records, &lens, layout, n, message),
+    }
+}
+
+// Stores the value form of a message that was checked, where there is room for it.
+fn unfold_under(
+    contents: &mut [u32],
+    bodies: &mut [u8],
+    lens: &[usize],
+    layout: &[u8],
+    n: usize,
+    message: &[u8],
+) -> Unfolded
+    requires { ⌜ Under (now lens) (now layout) n × (1 ≤ n) ⌝ }
+    ensures { λ r. ⌜ r ≡ unfoldedOf (underTable (Upto n) (now (layout .entry)) (now (message .entry))) (now (contents .entry)) (now (bodies .entry)) ⌝ }
+    ensures { λ _. ⌜ now (contents .exit) ≡ filledOf (underTable (Upto n) (now (layout .entry)) (now (message .entry))) (now (contents .entry)) (now (bodies .entry)) (now (contents .entry)) (unfoldWords (messageType (now (layout .entry)) n) (now (message .entry))) ⌝ }
+    ensures { λ _. ⌜ now (bodies .exit) ≡ filledOf (underTable (Upto n) (now (layout .entry)) (now (message .entry))) (now (contents .entry)) (now (bodies .entry)) (now (bodies .entry)) (unfoldBytes (messageType (now (layout .entry)) n) (now (message .entry))) ⌝ }
+{
+    let r = check_under(lens, layout, n, message);
+    match r {
+        Answer::Refused(x, u, v) => Unfolded::Refused(x, u, v),
+        Answer::Accepted(c) => {
+            let words = c.words;
+            let bytes = c.bytes;
+            if words > contents.len() {
+                return Unfolded::Refused(Refusal::NoRoom(words, bytes), 0, 0);
+            }
+            if bytes > bodies.len() {
+                return Unfolded::Refused(Refusal::NoRoom(words, bytes), 0, 0);
+            }
+            let last = n - 1;
+            let start = Place { word: 0, byte: 0 };
+            unfold_item(contents, bodies, start, lens, layout, last, message);
+            Unfolded::Sizes(words, bytes)
+        }
+    }
+}
+
+// Unfolds a message into contents words and body bytes: the check's refusals, then 22 (words needed, bytes needed) if either room is short.
+pub fn unfold(layout: &[u8], message: &[u8], contents: &mut [u32], bodies: &mut [u8]) -> Unfolded
+    ensures { λ r. ⌜ r ≡ unfoldMessage (now (layout .entry)) (now (message .entry)) (now (contents .entry)) (now (bodies .entry)) ⌝ }
+    ensures { λ _. ⌜ now (contents .exit) ≡ unfoldedWords (now (layout .entry)) (now (message .entry)) (now (contents .entry)) (now (bodies .entry)) ⌝ }
+    ensures { λ _. ⌜ now (bodies .exit) ≡ unfoldedBytes (now (layout .entry)) (now (message .entry)) (now (contents .entry)) (now (bodies .entry)) ⌝ }
+{
+    let table = table_of(layout);
+    let c = table.checked;
+    let lens = table.lens;
+    match c {
+        Checked::Bad(w) => Unfolded::Refused(Refusal::BadLayout(w), 0, 0),
+        Checked::Upto(n) => unfold_under(contents, bodies, &lens, layout, n, message),
     }
 }

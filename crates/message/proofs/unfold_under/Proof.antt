@@ -1,0 +1,63 @@
+-- As the check goes; then by the room. Assumes nothing.
+use mathlib.Core.Path.{_≡_, refl, sym, ap, _∙_}
+use native.Mathlib.Omega.{arith}
+use borrow.Author.Needs.{needs}
+use borrow.Author.Tests.{lt-ltb, le-ltb}
+use Prim.Native.Nat.{_+_, _-_}
+use Rattle.message.proofs.Entries.{under-accepted}
+use Rattle.message.proofs.UnfoldLeaves.{stored-length}
+use Rattle.message.proofs.UnfoldCounts.{form-rooms}
+use Rattle.message.proofs.unfold_under.Statement.{statement}
+use Rattle.message.proofs.unfold_under.Tie as tie
+
+check-under-requires : tie.Need-check-under-requires
+check-under-requires c κs = search needs
+
+enum-known-r : tie.Need-enum-known-r
+enum-known-r c = search needs
+
+enum-known-r-2 : tie.Need-enum-known-r-2
+enum-known-r-2 c = search needs
+
+returns : tie.Need-returns
+returns c = (rw (← c .before .before .before .before .check-under .ensures, c .before .before .r2 .given .1, lt-ltb _ _ (c .if1 .taken)), (rw (← c .before .before .before .before .check-under .ensures, c .before .before .r2 .given .1, lt-ltb _ _ (c .if1 .taken)), rw (← c .before .before .before .before .check-under .ensures, c .before .before .r2 .given .1, lt-ltb _ _ (c .if1 .taken))))
+
+returns-2 : tie.Need-returns-2
+returns-2 c = (rw (← c .before .before .before .before .before .check-under .ensures, c .before .before .before .r2 .given .1, le-ltb _ _ (c .before .if1 .left), lt-ltb _ _ (c .if2 .taken)), (rw (← c .before .before .before .before .before .check-under .ensures, c .before .before .before .r2 .given .1, le-ltb _ _ (c .before .if1 .left), lt-ltb _ _ (c .if2 .taken)), rw (← c .before .before .before .before .before .check-under .ensures, c .before .before .before .r2 .given .1, le-ltb _ _ (c .before .if1 .left), lt-ltb _ _ (c .if2 .taken))))
+
+sub-last : tie.Need-sub-last
+sub-last c = omega (arith, c .before .before .before .before .before .before .before .before .before .before .before .pre .1)
+
+unfold-item-requires : tie.Need-unfold-item-requires
+unfold-item-requires c κs =
+    let e : c .before .before .before .before .before .before .before .before .before .before .before .before .before .args .n - 1 + 1 ≡ c .before .before .before .before .before .before .before .before .before .before .before .before .before .args .n = omega (arith, c .before .before .before .before .before .before .before .before .before .before .before .before .before .pre .1) in
+    let q = under-accepted (c .before .before .before .before .before .before .before .before .before .before .before .before .before .args .layout .now) (c .before .before .before .before .before .before .before .before .before .before .before .before .before .args .message .now) (c .before .before .before .before .before .before .before .before .before .before .before .before .before .args .n) _ (sym (c .before .before .before .before .before .before .before .check-under .ensures) ∙ c .before .before .before .before .before .r2 .given .1) in
+    (rw e (c .before .before .before .before .before .before .before .before .before .before .before .before .before .pre .0), q .1, record { accepted = rw (q .0) tt }, form-rooms _ _ _ _ _ (q .0) (c .before .before .before .if1 .left) (c .before .before .if2 .left))
+
+returns-3 : tie.Need-returns-3
+returns-3 c = (rw (← c .before .before .before .check-under .ensures, c .before .r .given .1), (rw (← c .before .before .before .check-under .ensures, c .before .r .given .1), rw (← c .before .before .before .check-under .ensures, c .before .r .given .1)))
+
+same-length : tie.Need-same-length
+same-length c = stored-length _ _ _ _ _ (c .before .before .before .before .unfold-item .ensures .words)
+
+same-length-2 : tie.Need-same-length-2
+same-length-2 c = stored-length _ _ _ _ _ (c .before .before .before .before .unfold-item .ensures .bytes)
+
+returns-4 : tie.Need-returns-4
+returns-4 c = (rw (← c .before .before .before .before .before .before .before .before .before .before .before .before .check-under .ensures, c .before .before .before .before .before .before .before .before .before .before .r2 .given .1, le-ltb _ _ (c .before .before .before .before .before .before .before .before .if1 .left), le-ltb _ _ (c .before .before .before .before .before .before .before .if2 .left)), (rw (← c .before .before .before .before .before .before .before .before .before .before .before .before .check-under .ensures, c .before .before .before .before .before .before .before .before .before .before .r2 .given .1, le-ltb _ _ (c .before .before .before .before .before .before .before .before .if1 .left), le-ltb _ _ (c .before .before .before .before .before .before .before .if2 .left)) (c .before .before .before .before .unfold-item .ensures .words .list), rw (← c .before .before .before .before .before .before .before .before .before .before .before .before .check-under .ensures, c .before .before .before .before .before .before .before .before .before .before .r2 .given .1, le-ltb _ _ (c .before .before .before .before .before .before .before .before .if1 .left), le-ltb _ _ (c .before .before .before .before .before .before .before .if2 .left)) (c .before .before .before .before .unfold-item .ensures .bytes .list)))
+
+pub unfold-under-spec : {M : Type 1} → statement M
+unfold-under-spec =
+    tie.close
+    (tie.spec
+    check-under-requires
+    enum-known-r
+    enum-known-r-2
+    returns
+    returns-2
+    sub-last
+    unfold-item-requires
+    returns-3
+    same-length
+    same-length-2
+    returns-4)

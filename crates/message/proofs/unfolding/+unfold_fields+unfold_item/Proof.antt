@@ -1,0 +1,234 @@
+-- Items and fields call each other; the type number falls. The loop over the fields keeps `Filling`. Assumes nothing.
+use mathlib.Core.Path.{_≡_, refl, sym, ap, _∙_}
+use native.Mathlib.Omega.{arith}
+use borrow.Author.Needs.{needs}
+use Prim.Native.Nat.{_+_, _*_}
+use mathlib.Core.List.{[]}
+use lib.ListN.{length-take, length-drop}
+use Rattle.message.proofs.Rows.{row-below, row-under, under-below, span-ok, span-length}
+use Rattle.message.proofs.Bodies.{node-ok, container-row, body-below}
+use Rattle.message.proofs.UnfoldLeaves.{stored-length}
+use Rattle.message.proofs.Unfolds.{Filling, filled-none, filled-then, rooms-then, selector-filled, filling-accepts, filling-rooms, filling-next, filling-end, fields-accepts, container-rooms, container-filled, leaf-accepts, leaf-rooms, leaf-filled, union-room, union-long, bare-filled, never, body-words, body-bytes, body-accepts}
+use Prim.Native.Nat.{ℕ, _<_}
+use borrow.Fn.Kinds.{In}
+use borrow.Fn.PlainCycle.{Measures, is, falls, and}
+use Rattle.message.proofs.unfolding.unfold_fields.Reads as unfold-fields
+use Rattle.message.proofs.unfolding.unfold_fields.Kinds as unfold-fields-kinds
+use Rattle.message.proofs.unfolding.+unfold_fields+unfold_item.Lts-unfold_fields as unfold-fields-lts
+use Rattle.message.proofs.unfolding.unfold_item.Reads as unfold-item
+use Rattle.message.proofs.unfolding.unfold_item.Kinds as unfold-item-kinds
+use Rattle.message.proofs.unfolding.+unfold_fields+unfold_item.Lts-unfold_item as unfold-item-lts
+use Rattle.standard.proofs.words.word_at.Reads as word-at-reads
+use Rattle.message.proofs.fields.locate.Reads as locate-reads
+use Rattle.layout.proofs.look.Reads as look-reads
+use Rattle.message.proofs.items.select.Reads as select-reads
+use Rattle.message.proofs.unfolding.put_selector.Reads as put-selector-reads
+use Rattle.message.proofs.unfolding.unfold_leaf.Reads as unfold-leaf-reads
+use Rattle.message.proofs.unfolding.+unfold_fields+unfold_item.{statement}
+use Rattle.message.proofs.unfolding.+unfold_fields+unfold_item.Tie.{close}
+
+abbrev μ-unfold-fields : Measures 5 unfold-fields-kinds.ps ℕ
+μ-unfold-fields κs a = 2 * a .1 .1 .1 .1 .1 .0
+
+abbrev μ-unfold-item : Measures 5 unfold-item-kinds.ps ℕ
+μ-unfold-item κs a = 2 * a .1 .1 .1 .1 .1 .0 + 1
+
+abbrev unfold-fields-at : ℕ → In 5 unfold-fields-kinds.ps
+unfold-fields-at t = and 5 unfold-fields-kinds.ps (is 5 unfold-fields-kinds.ps μ-unfold-fields t) unfold-fields.Pre
+
+abbrev unfold-fields-below : ℕ → In 5 unfold-fields-kinds.ps
+unfold-fields-below t = and 5 unfold-fields-kinds.ps (falls 5 unfold-fields-kinds.ps _<_ μ-unfold-fields t) unfold-fields.Pre
+
+abbrev unfold-item-at : ℕ → In 5 unfold-item-kinds.ps
+unfold-item-at t = and 5 unfold-item-kinds.ps (is 5 unfold-item-kinds.ps μ-unfold-item t) unfold-item.Pre
+
+abbrev unfold-item-below : ℕ → In 5 unfold-item-kinds.ps
+unfold-item-below t = and 5 unfold-item-kinds.ps (falls 5 unfold-item-kinds.ps _<_ μ-unfold-item t) unfold-item.Pre
+
+abbrev unfold-fields-Inv-loop : unfold-fields-lts.InvT-loop
+unfold-fields-Inv-loop contents₀ bodies₀ lens layout t a0 n b at₀ a₀ left₀ p₀ contents bodies at a left p = Filling lens layout t a0 n b contents₀ bodies₀ at₀ contents bodies at a left p
+
+abbrev unfold-fields-μ-loop : unfold-fields-lts.MeasureT-loop
+unfold-fields-μ-loop contents₀ bodies₀ lens layout t a0 n b at₀ a₀ left₀ p₀ contents bodies at a left p = left
+
+-- what `unfold_fields` calls, at the measure t
+abbrev unfold-fields-calls : ℕ → unfold-fields-lts.Claims
+unfold-fields-calls t = (word-at-reads.Asked, word-at-reads.Learnt, locate-reads.Asked, locate-reads.Learnt, unfold-item-below t, unfold-item.Post)
+
+-- what `unfold_item` calls, at the measure t
+abbrev unfold-item-calls : ℕ → unfold-item-lts.Claims
+unfold-item-calls t = (look-reads.Asked, look-reads.Learnt, unfold-fields-below t, unfold-fields.Post, select-reads.Asked, select-reads.Learnt, put-selector-reads.Asked, put-selector-reads.Learnt, unfold-item-below t, unfold-item.Post, unfold-leaf-reads.Asked, unfold-leaf-reads.Learnt)
+
+unfold-fields-loop-holds : (t : ℕ) → unfold-fields-lts.Need-loop-holds (unfold-fields-calls t) (unfold-fields-at t) unfold-fields.Post unfold-fields-Inv-loop unfold-fields-μ-loop
+unfold-fields-loop-holds t c = record { row = c .before .before .before .before .before .pre .1 .0; ranges = c .before .before .before .before .before .pre .1 .2; accepted = c .before .before .before .before .before .pre .1 .3; rooms = c .before .before .before .before .before .pre .1 .4; words = []; bytes = []; filled = filled-none _ _ _; all-words = refl; all-bytes = refl }
+
+unfold-fields-word-at-requires : (t : ℕ) → unfold-fields-lts.Need-word-at-requires (unfold-fields-calls t) (unfold-fields-at t) unfold-fields.Post unfold-fields-Inv-loop unfold-fields-μ-loop
+unfold-fields-word-at-requires t c κs = search needs
+
+unfold-fields-locate-requires : (t : ℕ) → unfold-fields-lts.Need-locate-requires (unfold-fields-calls t) (unfold-fields-at t) unfold-fields.Post unfold-fields-Inv-loop unfold-fields-μ-loop
+unfold-fields-locate-requires t c κs = (c .before .before .loop .inv .row, c .before .loop-test .taken, c .word-at .ensures .0, c .before .before .loop .inv .ranges)
+
+unfold-fields-sub-unfold-item : (t : ℕ) → unfold-fields-lts.Need-sub-unfold-item (unfold-fields-calls t) (unfold-fields-at t) unfold-fields.Post unfold-fields-Inv-loop unfold-fields-μ-loop
+unfold-fields-sub-unfold-item t c = omega (arith, span-ok _ _ _ _ _ _ _ _ (c .before .before .before .before .before .loop .inv .row) (c .before .before .before .before .loop-test .taken) (c .before .before .before .word-at .ensures .0) (c .before .before .before .before .before .loop .inv .ranges) _ (c .before .before .locate .ensures))
+
+unfold-fields-part-unfold-item-start : (t : ℕ) → unfold-fields-lts.Need-part-unfold-item-start (unfold-fields-calls t) (unfold-fields-at t) unfold-fields.Post unfold-fields-Inv-loop unfold-fields-μ-loop
+unfold-fields-part-unfold-item-start t c = span-ok _ _ _ _ _ _ _ _ (c .before .before .before .before .before .loop .inv .row) (c .before .before .before .before .loop-test .taken) (c .before .before .before .word-at .ensures .0) (c .before .before .before .before .before .loop .inv .ranges) _ (c .before .before .locate .ensures) .0
+
+unfold-fields-part-unfold-item-end : (t : ℕ) → unfold-fields-lts.Need-part-unfold-item-end (unfold-fields-calls t) (unfold-fields-at t) unfold-fields.Post unfold-fields-Inv-loop unfold-fields-μ-loop
+unfold-fields-part-unfold-item-end t c = span-ok _ _ _ _ _ _ _ _ (c .before .before .before .before .before .loop .inv .row) (c .before .before .before .before .loop-test .taken) (c .before .before .before .word-at .ensures .0) (c .before .before .before .before .before .loop .inv .ranges) _ (c .before .before .locate .ensures) .1
+
+unfold-fields-unfold-item-requires : (t : ℕ) → unfold-fields-lts.Need-unfold-item-requires (unfold-fields-calls t) (unfold-fields-at t) unfold-fields.Post unfold-fields-Inv-loop unfold-fields-μ-loop
+unfold-fields-unfold-item-requires t c κs = (omega (arith, row-below _ _ _ _ _ _ (c .before .before .before .before .before .before .loop .inv .row) (c .before .before .before .before .before .loop-test .taken) (c .before .before .before .before .word-at .ensures .0), c .before .before .before .before .before .before .before .before .before .before .before .before .pre .0), (row-under _ _ _ _ _ _ (c .before .before .before .before .before .before .loop .inv .row) (c .before .before .before .before .before .loop-test .taken) (c .before .before .before .before .word-at .ensures .0), omega (arith, span-ok _ _ _ _ _ _ _ _ (c .before .before .before .before .before .before .loop .inv .row) (c .before .before .before .before .before .loop-test .taken) (c .before .before .before .before .word-at .ensures .0) (c .before .before .before .before .before .before .loop .inv .ranges) _ (c .before .before .before .locate .ensures), span-length _ _ _ _ _ _ _ _ (c .before .before .before .before .before .before .loop .inv .row) (c .before .before .before .before .before .loop-test .taken) (c .before .before .before .before .word-at .ensures .0) (c .before .before .before .before .before .before .loop .inv .ranges) _ (c .before .before .before .locate .ensures), c .before .before .before .before .before .before .before .before .before .before .before .before .pre .1 .1), filling-accepts _ _ _ _ _ _ _ _ _ _ _ _ _ _ _ _ (c .before .before .before .before .before .before .loop .inv) (c .before .before .before .before .before .loop-test .taken) (c .before .before .before .before .word-at .ensures .0) _ (c .before .before .before .locate .ensures), filling-rooms _ _ _ _ _ _ _ _ _ _ _ _ _ _ _ _ (c .before .before .before .before .before .before .loop .inv) (c .before .before .before .before .before .loop-test .taken) (c .before .before .before .before .word-at .ensures .0) _ (c .before .before .before .locate .ensures)))
+
+unfold-fields-add-a : (t : ℕ) → unfold-fields-lts.Need-add-a (unfold-fields-calls t) (unfold-fields-at t) unfold-fields.Post unfold-fields-Inv-loop unfold-fields-μ-loop
+unfold-fields-add-a t c = omega (arith, c .before .before .before .before .before .before .before .before .before .before .before .loop .inv .row .near)
+
+unfold-fields-sub-left : (t : ℕ) → unfold-fields-lts.Need-sub-left (unfold-fields-calls t) (unfold-fields-at t) unfold-fields.Post unfold-fields-Inv-loop unfold-fields-μ-loop
+unfold-fields-sub-left t c = omega arith
+
+unfold-fields-loop-less : (t : ℕ) → unfold-fields-lts.Need-loop-less (unfold-fields-calls t) (unfold-fields-at t) unfold-fields.Post unfold-fields-Inv-loop unfold-fields-μ-loop
+unfold-fields-loop-less t c = omega arith
+
+unfold-fields-loop-again : (t : ℕ) → unfold-fields-lts.Need-loop-again (unfold-fields-calls t) (unfold-fields-at t) unfold-fields.Post unfold-fields-Inv-loop unfold-fields-μ-loop
+unfold-fields-loop-again t c = filling-next _ _ _ _ _ _ _ _ _ _ _ _ _ _ _ _ (c .before .before .before .before .before .before .before .before .before .before .before .loop .inv) (c .before .before .before .before .before .before .before .before .before .before .loop-test .taken) (c .before .before .before .before .before .before .before .before .before .word-at .ensures .0) _ (c .before .before .before .before .before .before .before .before .locate .ensures) _ _ _ (c .before .before .before .before .unfold-item .ensures)
+
+unfold-fields-same-length : (t : ℕ) → unfold-fields-lts.Need-same-length (unfold-fields-calls t) (unfold-fields-at t) unfold-fields.Post unfold-fields-Inv-loop unfold-fields-μ-loop
+unfold-fields-same-length t c = stored-length _ _ _ _ _ (c .before .loop .inv .filled .words)
+
+unfold-fields-same-length-2 : (t : ℕ) → unfold-fields-lts.Need-same-length-2 (unfold-fields-calls t) (unfold-fields-at t) unfold-fields.Post unfold-fields-Inv-loop unfold-fields-μ-loop
+unfold-fields-same-length-2 t c = stored-length _ _ _ _ _ (c .before .loop .inv .filled .bytes)
+
+unfold-fields-returns : (t : ℕ) → unfold-fields-lts.Need-returns (unfold-fields-calls t) (unfold-fields-at t) unfold-fields.Post unfold-fields-Inv-loop unfold-fields-μ-loop
+unfold-fields-returns t c = filling-end _ _ _ _ _ _ _ _ _ _ _ _ _ _ _ (c .before .loop .inv) (c .loop-test .left)
+
+unfold-item-look-requires : (t : ℕ) → unfold-item-lts.Need-look-requires (unfold-item-calls t) (unfold-item-at t) unfold-item.Post
+unfold-item-look-requires t c κs = search needs
+
+unfold-item-add-first : (t : ℕ) → unfold-item-lts.Need-add-first (unfold-item-calls t) (unfold-item-at t) unfold-item.Post
+unfold-item-add-first t c = omega (arith, node-ok _ _ _ _ (c .before .look .ensures) (c .before .before .before .before .before .before .before .pre .1 .0) .near)
+
+unfold-item-unfold-fields-requires : (t : ℕ) → unfold-item-lts.Need-unfold-fields-requires (unfold-item-calls t) (unfold-item-at t) unfold-item.Post
+unfold-item-unfold-fields-requires t c κs =
+    let k = fields-accepts _ _ _ _ (c .before .before .before .before .before .look .ensures) (c .before .before .before .before .before .before .before .before .before .before .before .pre .1 .0) _ (c .before .before .before .before .before .before .before .before .before .before .before .pre .1 .2) (c .before .before .if1 .taken) in
+    (omega (arith, c .before .before .before .before .before .before .before .before .before .before .before .pre .0), (container-row _ _ _ _ (c .before .before .before .before .before .look .ensures) (c .before .before .before .before .before .before .before .before .before .before .before .pre .1 .0) (c .before .before .if1 .taken), c .before .before .before .before .before .before .before .before .before .before .before .pre .1 .1, k .0, k .1, container-rooms _ _ _ _ (c .before .before .before .before .before .look .ensures) (c .before .before .before .before .before .before .before .before .before .before .before .pre .1 .0) _ (c .before .before .before .before .before .before .before .before .before .before .before .pre .1 .2) (c .before .before .if1 .taken) _ _ _ (c .before .before .before .before .before .before .before .before .before .before .before .pre .1 .3)))
+
+unfold-item-select-requires : (t : ℕ) → unfold-item-lts.Need-select-requires (unfold-item-calls t) (unfold-item-at t) unfold-item.Post
+unfold-item-select-requires t c κs = omega (arith, node-ok _ _ _ _ (c .before .before .before .before .before .look .ensures) (c .before .before .before .before .before .before .before .before .before .before .before .pre .1 .0) .near)
+
+unfold-item-enum-told : (t : ℕ) → unfold-item-lts.Need-enum-told (unfold-item-calls t) (unfold-item-at t) unfold-item.Post
+unfold-item-enum-told t c = search needs
+
+unfold-item-put-selector-requires : (t : ℕ) → unfold-item-lts.Need-put-selector-requires (unfold-item-calls t) (unfold-item-at t) unfold-item.Post
+unfold-item-put-selector-requires t c κs = (union-room _ _ _ _ (c .before .before .before .before .before .before .before .before .before .look .ensures) (c .before .before .before .before .before .before .before .before .before .before .before .before .before .before .before .pre .1 .0) _ (c .before .before .before .before .before .before .before .before .before .before .before .before .before .before .before .pre .1 .2) (c .before .before .before .before .if2 .taken) _ _ _ (c .before .before .before .before .before .before .before .before .before .before .before .before .before .before .before .pre .1 .3), union-long _ _ _ _ (c .before .before .before .before .before .before .before .before .before .look .ensures) (c .before .before .before .before .before .before .before .before .before .before .before .before .before .before .before .pre .1 .0) _ (c .before .before .before .before .before .before .before .before .before .before .before .before .before .before .before .pre .1 .2) (c .before .before .before .before .if2 .taken))
+
+unfold-item-enum-known-c : (t : ℕ) → unfold-item-lts.Need-enum-known-c (unfold-item-calls t) (unfold-item-at t) unfold-item.Post
+unfold-item-enum-known-c t c = search needs
+
+unfold-item-put-selector-requires-2 : (t : ℕ) → unfold-item-lts.Need-put-selector-requires-2 (unfold-item-calls t) (unfold-item-at t) unfold-item.Post
+unfold-item-put-selector-requires-2 t c κs = (union-room _ _ _ _ (c .before .before .before .before .before .before .before .before .before .before .look .ensures) (c .before .before .before .before .before .before .before .before .before .before .before .before .before .before .before .before .pre .1 .0) _ (c .before .before .before .before .before .before .before .before .before .before .before .before .before .before .before .before .pre .1 .2) (c .before .before .before .before .before .if2 .taken) _ _ _ (c .before .before .before .before .before .before .before .before .before .before .before .before .before .before .before .before .pre .1 .3), union-long _ _ _ _ (c .before .before .before .before .before .before .before .before .before .before .look .ensures) (c .before .before .before .before .before .before .before .before .before .before .before .before .before .before .before .before .pre .1 .0) _ (c .before .before .before .before .before .before .before .before .before .before .before .before .before .before .before .before .pre .1 .2) (c .before .before .before .before .before .if2 .taken))
+
+unfold-item-sub-unfold-item : (t : ℕ) → unfold-item-lts.Need-sub-unfold-item (unfold-item-calls t) (unfold-item-at t) unfold-item.Post
+unfold-item-sub-unfold-item t c = omega (arith, body-below _ _ _ _ (c .before .before .before .before .before .before .before .before .before .before .before .before .before .before .before .look .ensures) (c .before .before .before .before .before .before .before .before .before .before .before .before .before .before .before .before .before .before .before .before .before .pre .1 .0) (c .before .before .before .before .before .before .before .before .before .before .if2 .taken) _ _ (sym (c .before .before .before .before .before .before .before .c .given .1) ∙ c .before .before .before .before .before .before .before .before .before .select .ensures))
+
+unfold-item-part-unfold-item-start : (t : ℕ) → unfold-item-lts.Need-part-unfold-item-start (unfold-item-calls t) (unfold-item-at t) unfold-item.Post
+unfold-item-part-unfold-item-start t c = omega (arith, body-below _ _ _ _ (c .before .before .before .before .before .before .before .before .before .before .before .before .before .before .before .look .ensures) (c .before .before .before .before .before .before .before .before .before .before .before .before .before .before .before .before .before .before .before .before .before .pre .1 .0) (c .before .before .before .before .before .before .before .before .before .before .if2 .taken) _ _ (sym (c .before .before .before .before .before .before .before .c .given .1) ∙ c .before .before .before .before .before .before .before .before .before .select .ensures))
+
+unfold-item-part-unfold-item-end : (t : ℕ) → unfold-item-lts.Need-part-unfold-item-end (unfold-item-calls t) (unfold-item-at t) unfold-item.Post
+unfold-item-part-unfold-item-end t c = omega arith
+
+unfold-item-unfold-item-requires : (t : ℕ) → unfold-item-lts.Need-unfold-item-requires (unfold-item-calls t) (unfold-item-at t) unfold-item.Post
+unfold-item-unfold-item-requires t c κs =
+    let z = body-below _ _ _ _ (c .before .before .before .before .before .before .before .before .before .before .before .before .before .before .before .before .look .ensures) (c .before .before .before .before .before .before .before .before .before .before .before .before .before .before .before .before .before .before .before .before .before .before .pre .1 .0) (c .before .before .before .before .before .before .before .before .before .before .before .if2 .taken) _ _ (sym (c .before .before .before .before .before .before .before .before .c .given .1) ∙ c .before .before .before .before .before .before .before .before .before .before .select .ensures) in
+    (omega (arith, c .before .before .before .before .before .before .before .before .before .before .before .before .before .before .before .before .before .before .before .before .before .before .pre .0, z), (under-below _ _ _ _ (omega (arith, z)) (c .before .before .before .before .before .before .before .before .before .before .before .before .before .before .before .before .before .before .before .before .before .before .pre .1 .0), simp (length-take, length-drop) (omega (arith, c .before .before .before .before .before .before .before .before .before .before .before .before .before .before .before .before .before .before .before .before .before .before .pre .1 .1, z)), body-accepts _ _ _ _ (c .before .before .before .before .before .before .before .before .before .before .before .before .before .before .before .before .look .ensures) (c .before .before .before .before .before .before .before .before .before .before .before .before .before .before .before .before .before .before .before .before .before .before .pre .1 .0) _ (c .before .before .before .before .before .before .before .before .before .before .before .before .before .before .before .before .before .before .before .before .before .before .pre .1 .2) (c .before .before .before .before .before .before .before .before .before .before .before .if2 .taken) _ (sym (c .before .before .before .before .before .before .before .before .c .given .1) ∙ c .before .before .before .before .before .before .before .before .before .before .select .ensures), rooms-then _ _ _ _ _ _ _ _ _ _ _ _ (c .before .before .before .before .before .before .before .before .before .before .before .before .before .before .before .before .before .before .before .before .before .before .pre .1 .3) (body-words _ _ _ _ (c .before .before .before .before .before .before .before .before .before .before .before .before .before .before .before .before .look .ensures) (c .before .before .before .before .before .before .before .before .before .before .before .before .before .before .before .before .before .before .before .before .before .before .pre .1 .0) _ (c .before .before .before .before .before .before .before .before .before .before .before .before .before .before .before .before .before .before .before .before .before .before .pre .1 .2) (c .before .before .before .before .before .before .before .before .before .before .before .if2 .taken) _ (sym (c .before .before .before .before .before .before .before .before .c .given .1) ∙ c .before .before .before .before .before .before .before .before .before .before .select .ensures)) (body-bytes _ _ _ _ (c .before .before .before .before .before .before .before .before .before .before .before .before .before .before .before .before .look .ensures) (c .before .before .before .before .before .before .before .before .before .before .before .before .before .before .before .before .before .before .before .before .before .before .pre .1 .0) _ (c .before .before .before .before .before .before .before .before .before .before .before .before .before .before .before .before .before .before .before .before .before .before .pre .1 .2) (c .before .before .before .before .before .before .before .before .before .before .before .if2 .taken) _ (sym (c .before .before .before .before .before .before .before .before .c .given .1) ∙ c .before .before .before .before .before .before .before .before .before .before .select .ensures)) (selector-filled _ _ _ _ _ _ (c .before .before .before .before .before .put-selector2 .ensures .0) (c .before .before .before .before .before .put-selector2 .ensures .1))))
+
+unfold-item-enum-told-2 : (t : ℕ) → unfold-item-lts.Need-enum-told-2 (unfold-item-calls t) (unfold-item-at t) unfold-item.Post
+unfold-item-enum-told-2 t c = search needs
+
+unfold-item-unfold-leaf-requires : (t : ℕ) → unfold-item-lts.Need-unfold-leaf-requires (unfold-item-calls t) (unfold-item-at t) unfold-item.Post
+unfold-item-unfold-leaf-requires t c κs = (node-ok _ _ _ _ (c .before .before .before .before .before .before .before .look .ensures) (c .before .before .before .before .before .before .before .before .before .before .before .before .before .pre .1 .0) .small, c .before .before .before .before .before .before .before .before .before .before .before .before .before .pre .1 .1, leaf-accepts _ _ _ _ (c .before .before .before .before .before .before .before .look .ensures) (c .before .before .before .before .before .before .before .before .before .before .before .before .before .pre .1 .0) _ (c .before .before .before .before .before .before .before .before .before .before .before .before .before .pre .1 .2) (c .before .before .before .before .if1 .left) (c .before .before .if2 .left), leaf-rooms _ _ _ _ (c .before .before .before .before .before .before .before .look .ensures) (c .before .before .before .before .before .before .before .before .before .before .before .before .before .pre .1 .0) _ (c .before .before .before .before .before .before .before .before .before .before .before .before .before .pre .1 .2) (c .before .before .before .before .if1 .left) (c .before .before .if2 .left) _ _ _ (c .before .before .before .before .before .before .before .before .before .before .before .before .before .pre .1 .3))
+
+unfold-item-same-length : (t : ℕ) → unfold-item-lts.Need-same-length (unfold-item-calls t) (unfold-item-at t) unfold-item.Post
+unfold-item-same-length t c = stored-length _ _ _ _ _ (c .before .before .before .before .unfold-fields .ensures .words)
+
+unfold-item-same-length-2 : (t : ℕ) → unfold-item-lts.Need-same-length-2 (unfold-item-calls t) (unfold-item-at t) unfold-item.Post
+unfold-item-same-length-2 t c = stored-length _ _ _ _ _ (c .before .before .before .before .unfold-fields .ensures .bytes)
+
+unfold-item-returns : (t : ℕ) → unfold-item-lts.Need-returns (unfold-item-calls t) (unfold-item-at t) unfold-item.Post
+unfold-item-returns t c = container-filled _ _ _ _ (c .before .before .before .before .before .before .before .before .before .before .look .ensures) (c .before .before .before .before .before .before .before .before .before .before .before .before .before .before .before .before .pre .1 .0) _ (c .before .before .before .before .before .before .before .before .before .before .before .before .before .before .before .before .pre .1 .2) (c .before .before .before .before .before .before .before .if1 .taken) _ _ _ _ _ _ (c .before .before .before .before .unfold-fields .ensures)
+
+unfold-item-same-length-3 : (t : ℕ) → unfold-item-lts.Need-same-length-3 (unfold-item-calls t) (unfold-item-at t) unfold-item.Post
+unfold-item-same-length-3 t c = stored-length _ _ _ _ _ (c .before .before .put-selector .ensures .0)
+
+unfold-item-returns-2 : (t : ℕ) → unfold-item-lts.Need-returns-2 (unfold-item-calls t) (unfold-item-at t) unfold-item.Post
+unfold-item-returns-2 t c = bare-filled _ _ _ _ (c .before .before .before .before .before .before .before .before .before .before .before .before .look .ensures) (c .before .before .before .before .before .before .before .before .before .before .before .before .before .before .before .before .before .before .pre .1 .0) _ (c .before .before .before .before .before .before .before .before .before .before .before .before .before .before .before .before .before .before .pre .1 .2) (c .before .before .before .before .before .before .before .if2 .taken) (sym (c .before .before .before .before .enum-told .given .1) ∙ c .before .before .before .before .before .before .select .ensures) _ _ _ _ _ _ (selector-filled _ _ _ _ _ _ (c .before .before .put-selector .ensures .0) (c .before .before .put-selector .ensures .1))
+
+unfold-item-same-length-4 : (t : ℕ) → unfold-item-lts.Need-same-length-4 (unfold-item-calls t) (unfold-item-at t) unfold-item.Post
+unfold-item-same-length-4 t c = stored-length _ _ _ _ _ (c .before .before .before .before .unfold-item .ensures .words) ∙ stored-length _ _ _ _ _ (c .before .before .before .before .before .before .before .before .before .before .put-selector2 .ensures .0)
+
+unfold-item-same-length-5 : (t : ℕ) → unfold-item-lts.Need-same-length-5 (unfold-item-calls t) (unfold-item-at t) unfold-item.Post
+unfold-item-same-length-5 t c = stored-length _ _ _ _ _ (c .before .before .before .before .unfold-item .ensures .bytes)
+
+unfold-item-returns-3 : (t : ℕ) → unfold-item-lts.Need-returns-3 (unfold-item-calls t) (unfold-item-at t) unfold-item.Post
+unfold-item-returns-3 t c = filled-then _ _ _ _ _ _ _ _ _ _ _ _ _ _ _ (selector-filled _ _ _ _ _ _ (c .before .before .before .before .before .before .before .before .before .before .put-selector2 .ensures .0) (c .before .before .before .before .before .before .before .before .before .before .put-selector2 .ensures .1)) (c .before .before .before .before .unfold-item .ensures) (body-words _ _ _ _ (c .before .before .before .before .before .before .before .before .before .before .before .before .before .before .before .before .before .before .before .before .before .look .ensures) (c .before .before .before .before .before .before .before .before .before .before .before .before .before .before .before .before .before .before .before .before .before .before .before .before .before .before .before .pre .1 .0) _ (c .before .before .before .before .before .before .before .before .before .before .before .before .before .before .before .before .before .before .before .before .before .before .before .before .before .before .before .pre .1 .2) (c .before .before .before .before .before .before .before .before .before .before .before .before .before .before .before .before .if2 .taken) _ (sym (c .before .before .before .before .before .before .before .before .before .before .before .before .before .c .given .1) ∙ c .before .before .before .before .before .before .before .before .before .before .before .before .before .before .before .select .ensures)) (body-bytes _ _ _ _ (c .before .before .before .before .before .before .before .before .before .before .before .before .before .before .before .before .before .before .before .before .before .look .ensures) (c .before .before .before .before .before .before .before .before .before .before .before .before .before .before .before .before .before .before .before .before .before .before .before .before .before .before .before .pre .1 .0) _ (c .before .before .before .before .before .before .before .before .before .before .before .before .before .before .before .before .before .before .before .before .before .before .before .before .before .before .before .pre .1 .2) (c .before .before .before .before .before .before .before .before .before .before .before .before .before .before .before .before .if2 .taken) _ (sym (c .before .before .before .before .before .before .before .before .before .before .before .before .before .c .given .1) ∙ c .before .before .before .before .before .before .before .before .before .before .before .before .before .before .before .select .ensures))
+
+unfold-item-returns-4 : (t : ℕ) → unfold-item-lts.Need-returns-4 (unfold-item-calls t) (unfold-item-at t) unfold-item.Post
+unfold-item-returns-4 t c = never _ _ _ _ (c .before .before .before .before .before .before .before .before .look .ensures) (c .before .before .before .before .before .before .before .before .before .before .before .before .before .before .pre .1 .0) _ (c .before .before .before .before .before .before .before .before .before .before .before .before .before .before .pre .1 .2) (c .before .before .before .if2 .taken) _ (sym (c .enum-told2 .given .1) ∙ c .before .before .select .ensures)
+
+unfold-item-same-length-6 : (t : ℕ) → unfold-item-lts.Need-same-length-6 (unfold-item-calls t) (unfold-item-at t) unfold-item.Post
+unfold-item-same-length-6 t c = stored-length _ _ _ _ _ (c .before .before .before .before .unfold-leaf .ensures .words)
+
+unfold-item-same-length-7 : (t : ℕ) → unfold-item-lts.Need-same-length-7 (unfold-item-calls t) (unfold-item-at t) unfold-item.Post
+unfold-item-same-length-7 t c = stored-length _ _ _ _ _ (c .before .before .before .before .unfold-leaf .ensures .bytes)
+
+unfold-item-returns-5 : (t : ℕ) → unfold-item-lts.Need-returns-5 (unfold-item-calls t) (unfold-item-at t) unfold-item.Post
+unfold-item-returns-5 t c = leaf-filled _ _ _ _ (c .before .before .before .before .before .before .before .before .before .before .before .before .look .ensures) (c .before .before .before .before .before .before .before .before .before .before .before .before .before .before .before .before .before .before .pre .1 .0) _ (c .before .before .before .before .before .before .before .before .before .before .before .before .before .before .before .before .before .before .pre .1 .2) (c .before .before .before .before .before .before .before .before .before .if1 .left) (c .before .before .before .before .before .before .before .if2 .left) _ _ _ _ _ _ (c .before .before .before .before .unfold-leaf .ensures)
+
+pub +unfold-fields+unfold-item-spec : {M : Type 1} → statement M
++unfold-fields+unfold-item-spec = close μ-unfold-fields μ-unfold-item (λ t. unfold-fields-lts.spec (unfold-fields-calls t)
+    (unfold-fields-at t)
+    unfold-fields.Post
+    unfold-fields-Inv-loop
+    unfold-fields-μ-loop
+    (unfold-fields-loop-holds t)
+    (unfold-fields-word-at-requires t)
+    (unfold-fields-locate-requires t)
+    (unfold-fields-sub-unfold-item t)
+    (unfold-fields-part-unfold-item-start t)
+    (unfold-fields-part-unfold-item-end t)
+    (unfold-fields-unfold-item-requires t)
+    (unfold-fields-add-a t)
+    (unfold-fields-sub-left t)
+    (unfold-fields-loop-less t)
+    (unfold-fields-loop-again t)
+    (unfold-fields-same-length t)
+    (unfold-fields-same-length-2 t)
+    (unfold-fields-returns t))
+    λ t. unfold-item-lts.spec (unfold-item-calls t)
+    (unfold-item-at t)
+    unfold-item.Post
+    (unfold-item-look-requires t)
+    (unfold-item-add-first t)
+    (unfold-item-unfold-fields-requires t)
+    (unfold-item-select-requires t)
+    (unfold-item-enum-told t)
+    (unfold-item-put-selector-requires t)
+    (unfold-item-enum-known-c t)
+    (unfold-item-put-selector-requires-2 t)
+    (unfold-item-sub-unfold-item t)
+    (unfold-item-part-unfold-item-start t)
+    (unfold-item-part-unfold-item-end t)
+    (unfold-item-unfold-item-requires t)
+    (unfold-item-enum-told-2 t)
+    (unfold-item-unfold-leaf-requires t)
+    (unfold-item-same-length t)
+    (unfold-item-same-length-2 t)
+    (unfold-item-returns t)
+    (unfold-item-same-length-3 t)
+    (unfold-item-returns-2 t)
+    (unfold-item-same-length-4 t)
+    (unfold-item-same-length-5 t)
+    (unfold-item-returns-3 t)
+    (unfold-item-returns-4 t)
+    (unfold-item-same-length-6 t)
+    (unfold-item-same-length-7 t)
+    (unfold-item-returns-5 t)

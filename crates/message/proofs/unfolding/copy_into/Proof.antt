@@ -1,0 +1,61 @@
+-- The loop keeps `Copying`. Assumes nothing.
+use mathlib.Core.Path.{_≡_, refl, sym, ap, _∙_}
+use native.Mathlib.Omega.{arith}
+use Prim.Native.Nat.{_-_}
+use lib.ListN.{length}
+use Rattle.message.proofs.UnfoldLeaves.{Copying, copying-first, copying-next, copying-end, stored-length}
+use Rattle.message.proofs.unfolding.copy_into.Statement.{statement}
+use Rattle.message.proofs.unfolding.copy_into.Tie as tie
+
+abbrev Inv-loop : tie.InvT-loop
+Inv-loop out₀ at src i₀ out i = Copying out₀ at src out i
+
+abbrev μ-loop : tie.MeasureT-loop
+μ-loop out₀ at src i₀ out i = length src - i
+
+loop-holds : tie.Need-loop-holds Inv-loop μ-loop
+loop-holds c = copying-first _ _ _
+
+add-to : tie.Need-add-to Inv-loop μ-loop
+add-to c = omega (arith, c .before .before .pre .room)
+
+shared-slice-read-out : tie.Need-shared-slice-read-out Inv-loop μ-loop
+shared-slice-read-out c = omega arith
+
+slice-write-out : tie.Need-slice-write-out Inv-loop μ-loop
+slice-write-out c = omega (arith, c .before .before .before .pre .room, stored-length _ _ _ _ _ (c .before .before .loop .inv .stored))
+
+add-i : tie.Need-add-i Inv-loop μ-loop
+add-i c = omega arith
+
+loop-less : tie.Need-loop-less Inv-loop μ-loop
+loop-less c = omega arith
+
+loop-again : tie.Need-loop-again Inv-loop μ-loop
+loop-again c = copying-next _ _ _ _ _ (c .before .before .loop .inv) (c .before .loop-test .taken)
+
+add-result : tie.Need-add-result Inv-loop μ-loop
+add-result c = omega (arith, c .before .before .pre .room, c .before .loop .inv .within)
+
+same-length : tie.Need-same-length Inv-loop μ-loop
+same-length c = stored-length _ _ _ _ _ (c .before .loop .inv .stored)
+
+returns : tie.Need-returns Inv-loop μ-loop
+returns c = copying-end _ _ _ _ _ (c .before .loop .inv) (c .loop-test .left)
+
+pub copy-into-spec : {M : Type 1} → statement M
+copy-into-spec =
+    tie.close
+    (tie.spec
+    Inv-loop
+    μ-loop
+    loop-holds
+    add-to
+    shared-slice-read-out
+    slice-write-out
+    add-i
+    loop-less
+    loop-again
+    add-result
+    same-length
+    returns)
