@@ -1,121 +1,67 @@
-//! Speeds of bitfield operations: the crate's, built for release, and ours beside them.
+//! Speeds: the crate's, built for release, and ours beside them.
 //!
-//! Both sides get the same bits, on the same machine, in the same run. A figure is the median of
+//! Both sides get the same bytes, on the same machine, in the same run. A figure is the median of
 //! several timed runs after a warming one; a run repeats the call until it takes long enough for
 //! the clock. Where ours is not linked its column is empty: no figure is made up.
 
+mod bits;
 mod measure;
-mod oracle;
-mod ours;
+mod messages;
+mod plot;
 
-use std::time::Duration;
+use std::process::ExitCode;
 
-/// The bits that a call works on: every list is full, that is, its length is its N.
-pub struct Input {
-    pub bits: usize,
-    /// Raw bytes of two lists.
-    pub first: Vec<u8>,
-    pub second: Vec<u8>,
-    /// The first list as the standard writes it, with the set bit behind its last.
-    pub encoded: Vec<u8>,
-}
+const USAGE: &str = "usage:
+  bench               both tables
+  bench messages      the message check and the listing beside the crate's decoding
+  bench bits          the crate's bitfield operations
+  bench plot FILE     time against the length of a message, as an SVG picture
+  bench cases         the names of the messages
+  bench count CASE crate|check|listing N
+      calls it N times and measures nothing: for a tool that counts instructions (./instructions)";
 
-#[derive(Clone, Copy, PartialEq, Eq, Debug)]
-pub enum Call {
-    FromBytes,
-    IntoBytes,
-    Intersection,
-    Union,
-    Difference,
-    NumSetBits,
-    ShiftUp,
-}
-
-/// Repeats a call on the input so many times and says how long that took, preparations left out.
-pub type Timed = fn(&Input, u64) -> Duration;
-
-/// A side that can be measured: what it has for a call, or nothing.
-pub type Side = fn(Call, usize) -> Option<Timed>;
-
-const CALLS: [(Call, &str); 7] = [
-    (Call::FromBytes, "from_bytes"),
-    (Call::IntoBytes, "into_bytes"),
-    (Call::Intersection, "intersection"),
-    (Call::Union, "union"),
-    (Call::Difference, "difference"),
-    (Call::NumSetBits, "num_set_bits"),
-    (Call::ShiftUp, "shift_up"),
-];
-
-const SIZES: [usize; 3] = [64, 512, 2_048];
-
-/// Bits without a pattern that a processor could guess, the same in every run.
-fn scattered(bits: usize, seed: u64) -> Vec<u8> {
+/// Bytes without a pattern that a processor could guess, the same in every run.
+fn scattered(bytes: usize, seed: u64) -> Vec<u8> {
     let mut state = seed;
     let mut next = || {
         state =
             state.wrapping_mul(6_364_136_223_846_793_005).wrapping_add(1_442_695_040_888_963_407);
         (state >> 56) as u8
     };
-    (0..bits / 8).map(|_| next()).collect()
+    (0..bytes).map(|_| next()).collect()
 }
 
-impl Input {
-    /// For a number of bits that is a multiple of eight.
-    fn new(bits: usize) -> Self {
-        let first = scattered(bits, 1);
-        let mut encoded = first.clone();
-        encoded.push(1);
-        Self { bits, first, second: scattered(bits, 2), encoded }
-    }
-}
-
-fn figure(side: Side, call: Call, input: &Input) -> Option<f64> {
-    side(call, input.bits).map(|timed| measure::nanoseconds(timed, input))
-}
-
-fn line(name: &str, bits: usize, oracle: Option<f64>, ours: Option<f64>) -> String {
-    let column =
-        |figure: Option<f64>| figure.map_or("-".to_string(), |value| format!("{value:.1}"));
-    let ratio = oracle.zip(ours).map(|(oracle, ours)| ours / oracle);
-    let ratio = ratio.map_or("-".to_string(), |value| format!("{value:.2}"));
-    format!("{name:14}{bits:>6}{:>12}{:>12}{ratio:>8}", column(oracle), column(ours))
-}
-
-fn main() {
-    println!("nanoseconds a call, median of {} runs", measure::RUNS);
-    println!("{:14}{:>6}{:>12}{:>12}{:>8}", "call", "bits", "crate", "ours", "ratio");
-    for (call, name) in CALLS {
-        for bits in SIZES {
-            let input = Input::new(bits);
-            let oracle = figure(oracle::side, call, &input);
-            let ours = figure(ours::side, call, &input);
-            println!("{}", line(name, bits, oracle, ours));
+fn run(arguments: &[&str]) -> Result<(), String> {
+    match arguments {
+        [] => {
+            messages::print();
+            println!();
+            bits::print();
         }
+        ["messages"] => messages::print(),
+        ["bits"] => bits::print(),
+        ["cases"] => messages::cases().iter().for_each(|case| println!("{}", case.name)),
+        ["plot", file] => {
+            let picture = plot::svg(&messages::growth());
+            std::fs::write(file, picture).map_err(|error| format!("{file}: {error}"))?;
+        }
+        ["count", name, side, times] => {
+            let times = times.parse().map_err(|_| format!("no number: {times}"))?;
+            messages::count(name, side, times)?;
+        }
+        _ => return Err(USAGE.to_string()),
     }
+    Ok(())
 }
 
-#[cfg(test)]
-mod tests {
-    use super::*;
-
-    #[test]
-    fn no_figure_is_made_up() {
-        assert_eq!(line("union", 64, Some(20.0), None).split_whitespace().last(), Some("-"));
-        assert_eq!(
-            line("union", 64, Some(20.0), Some(10.0)).split_whitespace().last(),
-            Some("0.50")
-        );
-    }
-
-    #[test]
-    fn the_crate_has_every_call_at_every_size() {
-        for (call, name) in CALLS {
-            for bits in SIZES {
-                let timed = oracle::side(call, bits);
-                assert!(timed.is_some(), "{name} at {bits} bits");
-                timed.unwrap()(&Input::new(bits), 2);
-            }
+fn main() -> ExitCode {
+    let arguments: Vec<String> = std::env::args().skip(1).collect();
+    let arguments: Vec<&str> = arguments.iter().map(|argument| argument.as_str()).collect();
+    match run(&arguments) {
+        Ok(()) => ExitCode::SUCCESS,
+        Err(message) => {
+            eprintln!("{message}");
+            ExitCode::FAILURE
         }
     }
 }

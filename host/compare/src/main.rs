@@ -27,6 +27,12 @@ const USAGE: &str = "usage:
       cases whose answers are document 01's and not the crate's
   compare dump FILE [FIRST [COUNT]]
       the records as text
+  compare messages [--seed S] [--count N] [--depth D] [--short D]
+      our message check and listing beside the crate's decoding: every string of up to D bytes (2;
+      with --short 3 up to 3 bytes for the types that have such short messages), then N (1000000)
+      random values' encodings, damaged in every offset, cut at every length, extended and so on
+  compare messages --out FILE [--seed S] [--count N]
+      the shortest message of each type and answer among N (1000000), as cases of operations 71, 72
 LIST is as 1-4,11,50; without it all operations are asked.";
 
 struct Options {
@@ -189,10 +195,47 @@ fn print_dump(arguments: &[String]) -> Result<(), String> {
         .map_err(|error| format!("{path}: {error}"))
 }
 
+#[cfg(feature = "messages")]
+fn compare_messages(arguments: &[String]) -> Result<(), String> {
+    let mut options = messages::Options::default();
+    let mut out = None;
+    for pair in arguments.chunks(2) {
+        let [name, value] = pair else { return Err(format!("{} lacks its value", pair[0])) };
+        match name.as_str() {
+            "--seed" => options.seed = number(value)?,
+            "--count" => options.count = number(value)?,
+            "--depth" => options.depth = number(value)? as usize,
+            "--short" => options.short = number(value)? as usize,
+            "--out" => out = Some(value),
+            _ => return Err(format!("unknown option {name}")),
+        }
+    }
+    if let Some(path) = out {
+        let written = File::create(path).and_then(|file| {
+            messages::write_cases(options.seed, options.count, &mut BufWriter::new(file))
+        });
+        let cases = written.map_err(|error| format!("{path}: {error}"))?;
+        println!("{cases} cases");
+        return Ok(());
+    }
+    let report = messages::compared(options);
+    println!("{report}");
+    match report.differences() {
+        0 => Ok(()),
+        _ => Err("ours and the crate differ".to_string()),
+    }
+}
+
+#[cfg(not(feature = "messages"))]
+fn compare_messages(_: &[String]) -> Result<(), String> {
+    Err("this driver was built without the archive: build it with the feature messages".to_string())
+}
+
 fn run(arguments: &[String]) -> Result<(), String> {
     let (command, rest) = arguments.split_first().ok_or(USAGE)?;
     let written = match command.as_str() {
         "dump" => return print_dump(rest),
+        "messages" => return compare_messages(rest),
         "cases" => {
             let options = Options::parse(rest)?;
             if options.sample {

@@ -76,8 +76,15 @@ pub const OPS: &[Op] = &[
     op(60, "encoder", &[Number, Items, Buffer, Buffer], &[Count, Number, Buffer, Buffer]),
 ];
 
+/// Operations that this driver reads and does not ask by their parts: `messages` makes their cases.
+const MESSAGES: &[Op] = &[
+    op(70, "layout check", &[Bytes], &[]),
+    op(71, "message check", &[Bytes, Bytes], &[Number, Number, Number]),
+    op(72, "listing", &[Bytes, Bytes, Buffer], &[Number, Buffer]),
+];
+
 pub fn find(number: u32) -> Option<&'static Op> {
-    OPS.iter().find(|op| op.number == number)
+    OPS.iter().chain(MESSAGES).find(|op| op.number == number)
 }
 
 /// A BitVector's operation has the number of the BitList's plus 20.

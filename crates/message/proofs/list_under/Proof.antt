@@ -18,25 +18,52 @@ enum-known-r-2 : tie.Need-enum-known-r-2
 enum-known-r-2 c = search needs
 
 returns : tie.Need-returns
-returns c = (rw (← c .before .before .before .before .check-under .ensures, c .before .before .r2 .given .1, lt-ltb _ _ (c .if1 .taken)), rw (← c .before .before .before .before .check-under .ensures, c .before .before .r2 .given .1, lt-ltb _ _ (c .if1 .taken)))
+returns c =
+    let c2 = c .before .before in
+    let c4 = c2 .before .before in (
+      rw (← c4 .check-under .ensures, c2 .r2 .given .1, lt-ltb _ _ (c .if1 .taken)),
+      rw (
+        ← c4 .check-under .ensures,
+        c2 .r2 .given .1,
+        lt-ltb _ _ (c
+            .if1 .taken),
+      ),
+    )
 
 sub-last : tie.Need-sub-last
 sub-last c = search needs
 
 list-item-requires : tie.Need-list-item-requires
 list-item-requires c κs =
-    let e : c .before .before .before .before .before .before .before .before .before .before .args .n - 1 + 1 ≡ c .before .before .before .before .before .before .before .before .before .before .args .n = omega (arith, c .before .before .before .before .before .before .before .before .before .before .pre .1) in
-    let q = under-accepted (c .before .before .before .before .before .before .before .before .before .before .args .layout .now) (c .before .before .before .before .before .before .before .before .before .before .args .message .now) (c .before .before .before .before .before .before .before .before .before .before .args .n) _ (sym (c .before .before .before .before .before .check-under .ensures) ∙ c .before .before .before .r2 .given .1) in
-    (rw e (c .before .before .before .before .before .before .before .before .before .before .pre .0), omega (arith, q .1), rw (q .0) tt, records-room _ _ _ _ (q .0) (c .before .if1 .left))
+    let c3 = c .before .before .before in
+    let c5 = c3 .before .before in
+    let c10 = c5 .before .before .before .before .before in
+    let e : c10 .args .n - 1 + 1 ≡ c10 .args .n = omega (arith, c10 .pre .1) in
+    let q = under-accepted (c10 .args .layout .now) (c10 .args .message .now) (c10 .args .n) _ (sym (c5 .check-under .ensures) ∙ c3 .r2 .given .1) in
+    (rw e (c10 .pre .0), omega (arith, q .1), rw (q .0) tt, records-room _ _ _ _ (q .0) (c .before .if1 .left))
 
 returns-2 : tie.Need-returns-2
-returns-2 c = (rw (← c .before .before .before .check-under .ensures, c .before .r .given .1), rw (← c .before .before .before .check-under .ensures, c .before .r .given .1))
+returns-2 c =
+    let c3 = c .before .before .before in
+    (rw (← c3 .check-under .ensures, c .before .r .given .1), rw (← c3 .check-under .ensures, c .before .r .given .1))
 
 same-length : tie.Need-same-length
 same-length c = stored-length _ _ _ _ _ (c .before .before .list-item .ensures)
 
 returns-3 : tie.Need-returns-3
-returns-3 c = (rw (← c .before .before .before .before .before .before .before .before .check-under .ensures, c .before .before .before .before .before .before .r2 .given .1, le-ltb _ _ (c .before .before .before .before .if1 .left)), rw (← c .before .before .before .before .before .before .before .before .check-under .ensures, c .before .before .before .before .before .before .r2 .given .1, le-ltb _ _ (c .before .before .before .before .if1 .left)) (c .before .before .list-item .ensures .list))
+returns-3 c =
+    let c2 = c .before .before in
+    let c4 = c2 .before .before in
+    let c6 = c4 .before .before in
+    let c8 = c6 .before .before in (
+      rw (← c8 .check-under .ensures, c6 .r2 .given .1, le-ltb _ _ (c4 .if1 .left)),
+      rw (
+        ← c8 .check-under .ensures,
+        c6 .r2 .given .1,
+        le-ltb _ _ (c4
+            .if1 .left),
+      ) (c2 .list-item .ensures .list),
+    )
 
 pub list-under-spec : {M : Type 1} → statement M
 list-under-spec =

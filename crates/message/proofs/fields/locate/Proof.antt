@@ -7,16 +7,26 @@ use Rattle.message.proofs.fields.locate.Statement.{statement}
 use Rattle.message.proofs.fields.locate.Tie as tie
 
 mul-k : tie.Need-mul-k
-mul-k c = omega (arith, row-below _ _ _ _ _ _ (c .before .before .before .pre .0) (c .before .before .before .pre .1) (c .before .before .before .pre .2), c .before .before .before .pre .0 .under .few)
+mul-k c =
+    let c3 = c .before .before .before in
+    omega (arith, row-below _ _ _ _ _ _ (c3 .pre .0) (c3 .pre .1) (c3 .pre .2), c3 .pre .0 .under .few)
 
 shared-slice-read-k : tie.Need-shared-slice-read-k
-shared-slice-read-k c = row-index _ _ _ _ _ _ (c .before .before .before .before .pre .0) (c .before .before .before .before .pre .1) (c .before .before .before .before .pre .2)
+shared-slice-read-k c =
+    let c4 = c .before .before .before .before in
+    row-index _ _ _ _ _ _ (c4 .pre .0) (c4 .pre .1) (c4 .pre .2)
 
 four-at-requires : tie.Need-four-at-requires
 four-at-requires c κs = search needs
 
 add-next : tie.Need-add-next
-add-next c = omega (arith, first-room _ _ _ _ _ _ _ _ (c .before .before .before .before .before .before .pre .0) (c .before .before .before .before .before .before .pre .1) (c .before .before .before .before .before .before .pre .2) (c .before .before .before .before .before .before .pre .3) (row-variable _ _ _ _ _ _ (c .before .before .before .before .before .before .pre .0) (c .before .before .before .before .before .before .pre .1) (c .before .before .before .before .before .before .pre .2) _ refl (c .before .if1 .taken)))
+add-next c =
+    let c6 = c .before .before .before .before .before .before in
+    omega (
+      arith,
+      first-room _ _ _ _ _ _ _ _ (c6 .pre .0) (c6 .pre .1) (c6 .pre .2) (c6 .pre .3) (row-variable _ _ _ _ _ _ (c6 .pre .0) (c6 .pre .1)
+          (c6 .pre .2) _ refl (c .before .if1 .taken)),
+    )
 
 add-after : tie.Need-add-after
 add-after c = omega (arith, c .before .before .before .before .before .before .pre .0 .near)
@@ -25,16 +35,37 @@ sub-rest : tie.Need-sub-rest
 sub-rest c = search needs
 
 next-start-requires : tie.Need-next-start-requires
-next-start-requires c κs = (row-next _ _ _ _ _ _ (c .before .before .before .before .before .before .pre .0) (c .before .before .before .before .before .before .pre .1) (c .before .before .before .before .before .before .pre .2), first-rest _ _ _ _ _ _ _ _ (c .before .before .before .before .before .before .pre .0) (c .before .before .before .before .before .before .pre .1) (c .before .before .before .before .before .before .pre .2) (c .before .before .before .before .before .before .pre .3) (row-variable _ _ _ _ _ _ (c .before .before .before .before .before .before .pre .0) (c .before .before .before .before .before .before .pre .1) (c .before .before .before .before .before .before .pre .2) _ refl (c .before .if1 .taken)))
+next-start-requires c κs =
+    let c6 = c .before .before .before .before .before .before in (
+      row-next _ _ _ _ _ _ (c6 .pre .0) (c6 .pre .1) (c6 .pre .2),
+      first-rest _ _ _ _ _ _ _ _ (c6 .pre .0) (c6 .pre .1) (c6 .pre .2) (c6 .pre .3)
+          (row-variable _ _ _ _ _ _ (c6 .pre .0) (c6 .pre .1) (c6 .pre .2) _ refl (c .before .if1 .taken)),
+    )
 
 returns : tie.Need-returns
-returns c = rw (← row-variable _ _ _ _ _ _ (c .before .before .before .before .before .before .before .pre .0) (c .before .before .before .before .before .before .before .pre .1) (c .before .before .before .before .before .before .before .pre .2) _ refl (c .before .before .if1 .taken), ← c .before .four-at .ensures .0, ← c .next-start .ensures)
+returns c =
+    let c2 = c .before .before in
+    let c7 = c2 .before .before .before .before .before in
+    rw (
+      ← row-variable _ _ _ _ _ _ (c7 .pre .0) (c7 .pre .1) (c7 .pre .2) _ refl (c2 .if1 .taken),
+      ← c .before .four-at .ensures .0,
+      ← c .next-start
+          .ensures,
+    )
 
 add-to : tie.Need-add-to
-add-to c = omega (arith, first-fits _ _ _ _ _ _ _ _ (c .before .before .before .before .before .pre .0) (c .before .before .before .before .before .pre .1) (c .before .before .before .before .before .pre .2) (c .before .before .before .before .before .pre .3) _ (row-fixed _ _ _ _ _ _ (c .before .before .before .before .before .pre .0) (c .before .before .before .before .before .pre .1) (c .before .before .before .before .before .pre .2) _ refl (c .if1 .left)))
+add-to c =
+    let c5 = c .before .before .before .before .before in
+    omega (
+      arith,
+      first-fits _ _ _ _ _ _ _ _ (c5 .pre .0) (c5 .pre .1) (c5 .pre .2) (c5 .pre .3) _ (row-fixed _ _ _ _ _ _ (c5 .pre .0) (c5 .pre .1)
+          (c5 .pre .2) _ refl (c .if1 .left)),
+    )
 
 returns-2 : tie.Need-returns-2
-returns-2 c = rw (← row-fixed _ _ _ _ _ _ (c .before .before .before .before .before .pre .0) (c .before .before .before .before .before .pre .1) (c .before .before .before .before .before .pre .2) _ refl (c .if1 .left))
+returns-2 c =
+    let c5 = c .before .before .before .before .before in
+    rw (← row-fixed _ _ _ _ _ _ (c5 .pre .0) (c5 .pre .1) (c5 .pre .2) _ refl (c .if1 .left))
 
 pub locate-spec : {M : Type 1} → statement M
 locate-spec =

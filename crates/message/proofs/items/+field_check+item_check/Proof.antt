@@ -67,40 +67,120 @@ abbrev item-check-calls : ℕ → item-check-lts.Claims
 item-check-calls t = (look-reads.Asked, look-reads.Learnt, lay-out-reads.Asked, lay-out-reads.Learnt, field-check-below t, field-check.Post, select-reads.Asked, select-reads.Learnt, leaf-reads.Asked, leaf-reads.Learnt, item-check-below t, item-check.Post, with-selector-reads.Asked, with-selector-reads.Learnt, leaf-check-reads.Asked, leaf-check-reads.Learnt)
 
 field-check-loop-holds : (t : ℕ) → field-check-lts.Need-loop-holds (field-check-calls t) (field-check-at t) field-check.Post field-check-Inv-loop field-check-μ-loop
-field-check-loop-holds t c = record { row = c .before .before .before .pre .1 .0; some = omega arith; ranges = c .before .before .before .pre .1 .3; records = omega arith; words = omega arith; bytes = omega arith; same = refl }
+field-check-loop-holds t c =
+    let c3 = c .before .before .before in
+    record {
+      row = c3 .pre .1 .0;
+      some = omega arith;
+      ranges = c3 .pre .1 .3;
+      records = omega arith;
+      words = omega arith;
+      bytes = omega arith;
+      same =
+          refl;
+    }
 
 field-check-word-at-requires : (t : ℕ) → field-check-lts.Need-word-at-requires (field-check-calls t) (field-check-at t) field-check.Post field-check-Inv-loop field-check-μ-loop
 field-check-word-at-requires t c κs = search needs
 
 field-check-locate-requires : (t : ℕ) → field-check-lts.Need-locate-requires (field-check-calls t) (field-check-at t) field-check.Post field-check-Inv-loop field-check-μ-loop
-field-check-locate-requires t c κs = (c .before .before .loop .inv .row, c .before .loop-test .taken, c .word-at .ensures .0, c .before .before .loop .inv .ranges)
+field-check-locate-requires t c κs =
+    let c2 = c .before .before in
+    (c2 .loop .inv .row, c .before .loop-test .taken, c .word-at .ensures .0, c2 .loop .inv .ranges)
 
 field-check-add-at : (t : ℕ) → field-check-lts.Need-add-at (field-check-calls t) (field-check-at t) field-check.Post field-check-Inv-loop field-check-μ-loop
-field-check-add-at t c = omega (arith, span-ok _ _ _ _ _ _ _ _ (c .before .before .before .loop .inv .row) (c .before .before .loop-test .taken) (c .before .word-at .ensures .0) (c .before .before .before .loop .inv .ranges) _ (c .locate .ensures), c .before .before .before .before .before .before .before .pre .1 .2)
+field-check-add-at t c =
+    let c2 = c .before .before in
+    let c3 = c2 .before in
+    let c7 = c3 .before .before .before .before in
+    omega (
+      arith,
+      span-ok _ _ _ _ _ _ _ _ (c3 .loop .inv .row) (c2 .loop-test .taken) (c .before .word-at .ensures .0) (c3 .loop .inv .ranges) _ (c
+          .locate .ensures),
+      c7 .pre .1 .2,
+    )
 
 field-check-sub-item-check : (t : ℕ) → field-check-lts.Need-sub-item-check (field-check-calls t) (field-check-at t) field-check.Post field-check-Inv-loop field-check-μ-loop
-field-check-sub-item-check t c = omega (arith, span-ok _ _ _ _ _ _ _ _ (c .before .before .before .loop .inv .row) (c .before .before .loop-test .taken) (c .before .word-at .ensures .0) (c .before .before .before .loop .inv .ranges) _ (c .locate .ensures))
+field-check-sub-item-check t c =
+    let c2 = c .before .before in
+    let c3 = c2 .before in
+    omega (
+      arith,
+      span-ok _ _ _ _ _ _ _ _ (c3 .loop .inv .row) (c2 .loop-test .taken) (c .before .word-at .ensures .0) (c3 .loop .inv .ranges) _ (c
+          .locate .ensures),
+    )
 
 field-check-part-item-check-start : (t : ℕ) → field-check-lts.Need-part-item-check-start (field-check-calls t) (field-check-at t) field-check.Post field-check-Inv-loop field-check-μ-loop
-field-check-part-item-check-start t c = span-ok _ _ _ _ _ _ _ _ (c .before .before .before .loop .inv .row) (c .before .before .loop-test .taken) (c .before .word-at .ensures .0) (c .before .before .before .loop .inv .ranges) _ (c .locate .ensures) .0
+field-check-part-item-check-start t c =
+    let c2 = c .before .before in
+    let c3 = c2 .before in
+    span-ok _ _ _ _ _ _ _ _ (c3 .loop .inv .row) (c2 .loop-test .taken) (c .before .word-at .ensures .0) (c3 .loop .inv .ranges) _ (c .locate
+    .ensures) .0
 
 field-check-part-item-check-end : (t : ℕ) → field-check-lts.Need-part-item-check-end (field-check-calls t) (field-check-at t) field-check.Post field-check-Inv-loop field-check-μ-loop
-field-check-part-item-check-end t c = span-ok _ _ _ _ _ _ _ _ (c .before .before .before .loop .inv .row) (c .before .before .loop-test .taken) (c .before .word-at .ensures .0) (c .before .before .before .loop .inv .ranges) _ (c .locate .ensures) .1
+field-check-part-item-check-end t c =
+    let c2 = c .before .before in
+    let c3 = c2 .before in
+    span-ok _ _ _ _ _ _ _ _ (c3 .loop .inv .row) (c2 .loop-test .taken) (c .before .word-at .ensures .0) (c3 .loop .inv .ranges) _ (c .locate
+    .ensures) .1
 
 field-check-item-check-requires : (t : ℕ) → field-check-lts.Need-item-check-requires (field-check-calls t) (field-check-at t) field-check.Post field-check-Inv-loop field-check-μ-loop
-field-check-item-check-requires t c κs = (omega (arith, row-below _ _ _ _ _ _ (c .before .before .before .before .loop .inv .row) (c .before .before .before .loop-test .taken) (c .before .before .word-at .ensures .0), c .before .before .before .before .before .before .before .before .pre .0), (row-under _ _ _ _ _ _ (c .before .before .before .before .loop .inv .row) (c .before .before .before .loop-test .taken) (c .before .before .word-at .ensures .0), omega (arith, span-ok _ _ _ _ _ _ _ _ (c .before .before .before .before .loop .inv .row) (c .before .before .before .loop-test .taken) (c .before .before .word-at .ensures .0) (c .before .before .before .before .loop .inv .ranges) _ (c .before .locate .ensures), span-length _ _ _ _ _ _ _ _ (c .before .before .before .before .loop .inv .row) (c .before .before .before .loop-test .taken) (c .before .before .word-at .ensures .0) (c .before .before .before .before .loop .inv .ranges) _ (c .before .locate .ensures), c .before .before .before .before .before .before .before .before .pre .1 .2)))
+field-check-item-check-requires t c κs =
+    let c2 = c .before .before in
+    let c3 = c2 .before in
+    let c4 = c3 .before in
+    let c8 = c4 .before .before .before .before in (
+      omega (arith, row-below _ _ _ _ _ _ (c4 .loop .inv .row) (c3 .loop-test .taken) (c2 .word-at .ensures .0), c8 .pre .0),
+      (
+        row-under _ _ _ _ _ _
+            (c4 .loop .inv .row) (c3 .loop-test .taken) (c2 .word-at .ensures .0),
+        omega (
+          arith,
+          span-ok _ _ _ _ _ _ _ _ (c4 .loop .inv .row) (c3 .loop-test
+              .taken) (c2 .word-at .ensures .0) (c4 .loop .inv .ranges) _ (c .before .locate .ensures),
+          span-length _ _ _ _ _ _ _ _ (c4 .loop .inv .row) (c3
+              .loop-test .taken) (c2 .word-at .ensures .0) (c4 .loop .inv .ranges) _ (c .before .locate .ensures),
+          c8 .pre .1 .2,
+        ),
+      ),
+    )
 
 field-check-enum-known-r : (t : ℕ) → field-check-lts.Need-enum-known-r (field-check-calls t) (field-check-at t) field-check.Post field-check-Inv-loop field-check-μ-loop
 field-check-enum-known-r t c = search needs
 
 field-check-add-requires : (t : ℕ) → field-check-lts.Need-add-requires (field-check-calls t) (field-check-at t) field-check.Post field-check-Inv-loop field-check-μ-loop
-field-check-add-requires t c κs = (reading-small _ _ _ _ _ _ _ _ _ _ _ (c .before .before .before .before .before .before .before .before .before .before .before .before .pre .1 .1) (c .before .before .before .before .before .before .before .before .loop .inv), small-more _ (item-small _ _ _ _ _ _ (row-under _ _ _ _ _ _ (c .before .before .before .before .before .before .before .before .loop .inv .row) (c .before .before .before .before .before .before .before .loop-test .taken) (c .before .before .before .before .before .before .word-at .ensures .0)) (omega (arith, span-length _ _ _ _ _ _ _ _ (c .before .before .before .before .before .before .before .before .loop .inv .row) (c .before .before .before .before .before .before .before .loop-test .taken) (c .before .before .before .before .before .before .word-at .ensures .0) (c .before .before .before .before .before .before .before .before .loop .inv .ranges) _ (c .before .before .before .before .before .locate .ensures), span-ok _ _ _ _ _ _ _ _ (c .before .before .before .before .before .before .before .before .loop .inv .row) (c .before .before .before .before .before .before .before .loop-test .taken) (c .before .before .before .before .before .before .word-at .ensures .0) (c .before .before .before .before .before .before .before .before .loop .inv .ranges) _ (c .before .before .before .before .before .locate .ensures), c .before .before .before .before .before .before .before .before .before .before .before .before .pre .1 .2)) (sym (c .before .r .given .1) ∙ c .before .before .before .item-check .ensures)))
+field-check-add-requires t c κs =
+    let c3 = c .before .before .before in
+    let c5 = c3 .before .before in
+    let c6 = c5 .before in
+    let c7 = c6 .before in
+    let c8 = c7 .before in
+    let c12 = c8 .before .before .before .before in (
+      reading-small _ _ _ _ _ _ _ _ _ _ _ (c12 .pre .1 .1) (c8 .loop .inv),
+      small-more _ (item-small _ _ _ _ _ _ (row-under _ _ _ _ _ _ (c8 .loop .inv
+          .row) (c7 .loop-test .taken) (c6 .word-at .ensures .0)) (omega (
+            arith,
+            span-length _ _ _ _ _ _ _ _ (c8 .loop .inv .row) (c7 .loop-test .taken)
+                (c6 .word-at .ensures .0) (c8 .loop .inv .ranges) _ (c5 .locate .ensures),
+            span-ok _ _ _ _ _ _ _ _ (c8 .loop .inv .row) (c7 .loop-test .taken)
+                (c6 .word-at .ensures .0) (c8 .loop .inv .ranges) _ (c5 .locate .ensures),
+            c12 .pre .1 .2,
+          )) (sym (c .before .r .given .1) ∙ c3 .item-check
+          .ensures)),
+    )
 
 field-check-enum-known-r-2 : (t : ℕ) → field-check-lts.Need-enum-known-r-2 (field-check-calls t) (field-check-at t) field-check.Post field-check-Inv-loop field-check-μ-loop
 field-check-enum-known-r-2 t c = search needs
 
 field-check-returns : (t : ℕ) → field-check-lts.Need-returns (field-check-calls t) (field-check-at t) field-check.Post field-check-Inv-loop field-check-μ-loop
-field-check-returns t c = reading-stop _ _ _ _ _ _ _ _ _ _ _ _ (c .before .before .before .before .before .before .before .before .loop .inv) (c .before .before .before .before .before .before .before .loop-test .taken) (c .before .before .before .before .before .before .word-at .ensures .0) _ (c .before .before .before .before .before .locate .ensures) _ _ _ (sym (c .before .r2 .given .1) ∙ c .before .before .before .item-check .ensures)
+field-check-returns t c =
+    let c3 = c .before .before .before in
+    let c5 = c3 .before .before in
+    let c6 = c5 .before in
+    let c7 = c6 .before in
+    let c8 = c7 .before in
+    reading-stop _ _ _ _ _ _ _ _ _ _ _ _ (c8 .loop .inv) (c7 .loop-test .taken) (c6 .word-at .ensures .0) _ (c5 .locate .ensures) _ _ _ (sym (c
+    .before .r2 .given .1) ∙ c3 .item-check .ensures)
 
 field-check-add-a : (t : ℕ) → field-check-lts.Need-add-a (field-check-calls t) (field-check-at t) field-check.Post field-check-Inv-loop field-check-μ-loop
 field-check-add-a t c = omega (arith, c .before .before .before .before .before .before .before .before .before .loop .inv .row .near)
@@ -112,7 +192,24 @@ field-check-loop-less : (t : ℕ) → field-check-lts.Need-loop-less (field-chec
 field-check-loop-less t c = omega arith
 
 field-check-loop-again : (t : ℕ) → field-check-lts.Need-loop-again (field-check-calls t) (field-check-at t) field-check.Post field-check-Inv-loop field-check-μ-loop
-field-check-loop-again t c = rw (c .add .ensures) (reading-next _ _ _ _ _ _ _ _ _ _ _ _ (c .before .before .before .before .before .before .before .before .before .loop .inv) (c .before .before .before .before .before .before .before .before .loop-test .taken) (c .before .before .before .before .before .before .before .word-at .ensures .0) _ (c .before .before .before .before .before .before .locate .ensures) _ (sym (c .before .before .r .given .1) ∙ c .before .before .before .before .item-check .ensures) (item-small _ _ _ _ _ _ (row-under _ _ _ _ _ _ (c .before .before .before .before .before .before .before .before .before .loop .inv .row) (c .before .before .before .before .before .before .before .before .loop-test .taken) (c .before .before .before .before .before .before .before .word-at .ensures .0)) (omega (arith, span-length _ _ _ _ _ _ _ _ (c .before .before .before .before .before .before .before .before .before .loop .inv .row) (c .before .before .before .before .before .before .before .before .loop-test .taken) (c .before .before .before .before .before .before .before .word-at .ensures .0) (c .before .before .before .before .before .before .before .before .before .loop .inv .ranges) _ (c .before .before .before .before .before .before .locate .ensures), span-ok _ _ _ _ _ _ _ _ (c .before .before .before .before .before .before .before .before .before .loop .inv .row) (c .before .before .before .before .before .before .before .before .loop-test .taken) (c .before .before .before .before .before .before .before .word-at .ensures .0) (c .before .before .before .before .before .before .before .before .before .loop .inv .ranges) _ (c .before .before .before .before .before .before .locate .ensures), c .before .before .before .before .before .before .before .before .before .before .before .before .before .pre .1 .2)) (sym (c .before .before .r .given .1) ∙ c .before .before .before .before .item-check .ensures)))
+field-check-loop-again t c =
+    let c2 = c .before .before in
+    let c4 = c2 .before .before in
+    let c6 = c4 .before .before in
+    let c7 = c6 .before in
+    let c8 = c7 .before in
+    let c9 = c8 .before in
+    let c13 = c9 .before .before .before .before in
+    rw (c .add .ensures) (reading-next _ _ _ _ _ _ _ _ _ _ _ _ (c9 .loop .inv) (c8 .loop-test .taken) (c7 .word-at .ensures .0) _ (c6 .locate
+    .ensures) _ (sym (c2 .r .given .1) ∙ c4 .item-check .ensures) (item-small _ _ _ _ _ _ (row-under _ _ _ _ _ _ (c9 .loop .inv .row) (c8 .loop-test
+    .taken) (c7 .word-at .ensures .0)) (omega (
+      arith,
+      span-length _ _ _ _ _ _ _ _ (c9 .loop .inv .row) (c8 .loop-test .taken) (c7 .word-at .ensures
+          .0) (c9 .loop .inv .ranges) _ (c6 .locate .ensures),
+      span-ok _ _ _ _ _ _ _ _ (c9 .loop .inv .row) (c8 .loop-test .taken) (c7 .word-at .ensures
+          .0) (c9 .loop .inv .ranges) _ (c6 .locate .ensures),
+      c13 .pre .1 .2,
+    )) (sym (c2 .r .given .1) ∙ c4 .item-check .ensures)))
 
 field-check-returns-2 : (t : ℕ) → field-check-lts.Need-returns-2 (field-check-calls t) (field-check-at t) field-check.Post field-check-Inv-loop field-check-μ-loop
 field-check-returns-2 t c = reading-end _ _ _ _ _ _ _ _ _ _ _ (c .before .loop .inv) (c .loop-test .left)
@@ -124,19 +221,38 @@ item-check-add-first : (t : ℕ) → item-check-lts.Need-add-first (item-check-c
 item-check-add-first t c = omega (arith, node-ok _ _ _ _ (c .before .look .ensures) (c .before .before .before .before .before .pre .1 .0) .near)
 
 item-check-lay-out-requires : (t : ℕ) → item-check-lts.Need-lay-out-requires (item-check-calls t) (item-check-at t) item-check.Post
-item-check-lay-out-requires t c κs = (container-row _ _ _ _ (c .before .before .before .look .ensures) (c .before .before .before .before .before .before .before .pre .1 .0) (c .if1 .taken), omega (arith, c .before .before .before .before .before .before .before .pre .1 .1))
+item-check-lay-out-requires t c κs =
+    let c3 = c .before .before .before in
+    let c7 = c3 .before .before .before .before in
+    (container-row _ _ _ _ (c3 .look .ensures) (c7 .pre .1 .0) (c .if1 .taken), omega (arith, c7 .pre .1 .1))
 
 item-check-enum-told : (t : ℕ) → item-check-lts.Need-enum-told (item-check-calls t) (item-check-at t) item-check.Post
 item-check-enum-told t c = search needs
 
 item-check-field-check-requires : (t : ℕ) → item-check-lts.Need-field-check-requires (item-check-calls t) (item-check-at t) item-check.Post
-item-check-field-check-requires t c κs = (omega (arith, c .before .before .before .before .before .before .before .before .before .before .pre .0), (container-row _ _ _ _ (c .before .before .before .before .before .before .look .ensures) (c .before .before .before .before .before .before .before .before .before .before .pre .1 .0) (c .before .before .before .if1 .taken), node-ok _ _ _ _ (c .before .before .before .before .before .before .look .ensures) (c .before .before .before .before .before .before .before .before .before .before .pre .1 .0) .few (c .before .before .before .if1 .taken), c .before .before .before .before .before .before .before .before .before .before .pre .1 .1, layout-ranges _ _ (sym (c .before .before .lay-out .ensures) ∙ c .enum-told .given .1)))
+item-check-field-check-requires t c κs =
+    let c2 = c .before .before in
+    let c3 = c2 .before in
+    let c6 = c3 .before .before .before in
+    let c10 = c6 .before .before .before .before in (
+      omega (arith, c10 .pre .0),
+      (
+        container-row _ _ _ _ (c6 .look .ensures) (c10 .pre .1 .0) (c3 .if1 .taken),
+        node-ok _ _ _ _ (c6 .look .ensures)
+            (c10 .pre .1 .0) .few (c3 .if1 .taken),
+        c10 .pre .1 .1,
+        layout-ranges _ _ (sym (c2 .lay-out .ensures) ∙ c .enum-told .given .1),
+      ),
+    )
 
 item-check-enum-known-told : (t : ℕ) → item-check-lts.Need-enum-known-told (item-check-calls t) (item-check-at t) item-check.Post
 item-check-enum-known-told t c = search needs
 
 item-check-select-requires : (t : ℕ) → item-check-lts.Need-select-requires (item-check-calls t) (item-check-at t) item-check.Post
-item-check-select-requires t c κs = omega (arith, node-ok _ _ _ _ (c .before .before .before .before .before .look .ensures) (c .before .before .before .before .before .before .before .before .before .pre .1 .0) .near)
+item-check-select-requires t c κs =
+    let c5 = c .before .before .before .before .before in
+    let c9 = c5 .before .before .before .before in
+    omega (arith, node-ok _ _ _ _ (c5 .look .ensures) (c9 .pre .1 .0) .near)
 
 item-check-enum-told-2 : (t : ℕ) → item-check-lts.Need-enum-told-2 (item-check-calls t) (item-check-at t) item-check.Post
 item-check-enum-told-2 t c = search needs
@@ -148,26 +264,66 @@ item-check-enum-known-c : (t : ℕ) → item-check-lts.Need-enum-known-c (item-c
 item-check-enum-known-c t c = search needs
 
 item-check-add-inside : (t : ℕ) → item-check-lts.Need-add-inside (item-check-calls t) (item-check-at t) item-check.Post
-item-check-add-inside t c = omega (arith, body-below _ _ _ _ (c .before .before .before .before .before .before .before .before .before .look .ensures) (c .before .before .before .before .before .before .before .before .before .before .before .before .before .pre .1 .0) (c .before .before .before .before .if2 .taken) _ _ (sym (c .before .c .given .1) ∙ c .before .before .before .select .ensures), c .before .before .before .before .before .before .before .before .before .before .before .before .before .pre .1 .1)
+item-check-add-inside t c =
+    let c3 = c .before .before .before in
+    let c4 = c3 .before in
+    let c9 = c4 .before .before .before .before .before in
+    let c13 = c9 .before .before .before .before in
+    omega (
+      arith,
+      body-below _ _ _ _ (c9 .look .ensures) (c13 .pre .1 .0) (c4 .if2 .taken) _ _ (sym (c .before .c .given .1) ∙ c3 .select .ensures),
+      c13 .pre .1 .1,
+    )
 
 item-check-sub-item-check : (t : ℕ) → item-check-lts.Need-sub-item-check (item-check-calls t) (item-check-at t) item-check.Post
-item-check-sub-item-check t c = omega (arith, body-below _ _ _ _ (c .before .before .before .before .before .before .before .before .before .look .ensures) (c .before .before .before .before .before .before .before .before .before .before .before .before .before .pre .1 .0) (c .before .before .before .before .if2 .taken) _ _ (sym (c .before .c .given .1) ∙ c .before .before .before .select .ensures))
+item-check-sub-item-check t c =
+    let c3 = c .before .before .before in
+    let c4 = c3 .before in
+    let c9 = c4 .before .before .before .before .before in
+    let c13 = c9 .before .before .before .before in
+    omega (arith, body-below _ _ _ _ (c9 .look .ensures) (c13 .pre .1 .0) (c4 .if2 .taken) _ _ (sym (c .before .c .given .1) ∙ c3 .select .ensures))
 
 item-check-part-item-check-start : (t : ℕ) → item-check-lts.Need-part-item-check-start (item-check-calls t) (item-check-at t) item-check.Post
-item-check-part-item-check-start t c = omega (arith, body-below _ _ _ _ (c .before .before .before .before .before .before .before .before .before .look .ensures) (c .before .before .before .before .before .before .before .before .before .before .before .before .before .pre .1 .0) (c .before .before .before .before .if2 .taken) _ _ (sym (c .before .c .given .1) ∙ c .before .before .before .select .ensures))
+item-check-part-item-check-start t c =
+    let c3 = c .before .before .before in
+    let c4 = c3 .before in
+    let c9 = c4 .before .before .before .before .before in
+    let c13 = c9 .before .before .before .before in
+    omega (arith, body-below _ _ _ _ (c9 .look .ensures) (c13 .pre .1 .0) (c4 .if2 .taken) _ _ (sym (c .before .c .given .1) ∙ c3 .select .ensures))
 
 item-check-part-item-check-end : (t : ℕ) → item-check-lts.Need-part-item-check-end (item-check-calls t) (item-check-at t) item-check.Post
 item-check-part-item-check-end t c = omega arith
 
 item-check-item-check-requires : (t : ℕ) → item-check-lts.Need-item-check-requires (item-check-calls t) (item-check-at t) item-check.Post
 item-check-item-check-requires t c κs =
-    let z = body-below _ _ _ _ (c .before .before .before .before .before .before .before .before .before .before .look .ensures) (c .before .before .before .before .before .before .before .before .before .before .before .before .before .before .pre .1 .0) (c .before .before .before .before .before .if2 .taken) _ _ (sym (c .before .before .c .given .1) ∙ c .before .before .before .before .select .ensures) in
-    (omega (arith, c .before .before .before .before .before .before .before .before .before .before .before .before .before .before .pre .0, z), (under-below _ _ _ _ (omega (arith, z)) (c .before .before .before .before .before .before .before .before .before .before .before .before .before .before .pre .1 .0), simp (length-take, length-drop) (omega (arith, c .before .before .before .before .before .before .before .before .before .before .before .before .before .before .pre .1 .1, z))))
+    let c2 = c .before .before in
+    let c4 = c2 .before .before in
+    let c5 = c4 .before in
+    let c10 = c5 .before .before .before .before .before in
+    let c14 = c10 .before .before .before .before in
+    let z = body-below _ _ _ _ (c10 .look .ensures) (c14 .pre .1 .0) (c5 .if2 .taken) _ _ (sym (c2 .c .given .1) ∙ c4 .select .ensures) in (
+      omega (arith, c14 .pre .0, z),
+      (
+        under-below _ _ _ _ (omega (arith, z)) (c14 .pre .1 .0),
+        simp (length-take, length-drop) (omega (
+          arith,
+          c14 .pre
+              .1 .1,
+          z,
+        )),
+      ),
+    )
 
 item-check-with-selector-requires : (t : ℕ) → item-check-lts.Need-with-selector-requires (item-check-calls t) (item-check-at t) item-check.Post
 item-check-with-selector-requires t c κs =
-    let z = body-below _ _ _ _ (c .before .before .before .before .before .before .before .before .before .before .before .look .ensures) (c .before .before .before .before .before .before .before .before .before .before .before .before .before .before .before .pre .1 .0) (c .before .before .before .before .before .before .if2 .taken) _ _ (sym (c .before .before .before .c .given .1) ∙ c .before .before .before .before .before .select .ensures) in
-    λ d e. small-more d (item-small _ _ _ _ _ d (under-below _ _ _ _ (omega (arith, z)) (c .before .before .before .before .before .before .before .before .before .before .before .before .before .before .before .pre .1 .0)) (simp (length-take, length-drop) (omega (arith, c .before .before .before .before .before .before .before .before .before .before .before .before .before .before .before .pre .1 .1, z))) (sym e ∙ c .item-check .ensures))
+    let c3 = c .before .before .before in
+    let c5 = c3 .before .before in
+    let c6 = c5 .before in
+    let c11 = c6 .before .before .before .before .before in
+    let c15 = c11 .before .before .before .before in
+    let z = body-below _ _ _ _ (c11 .look .ensures) (c15 .pre .1 .0) (c6 .if2 .taken) _ _ (sym (c3 .c .given .1) ∙ c5 .select .ensures) in
+    λ d e. small-more d (item-small _ _ _ _ _ d (under-below _ _ _ _ (omega (arith, z)) (c15 .pre .1 .0)) (simp (length-take, length-drop) (omega
+    (arith, c15 .pre .1 .1, z))) (sym e ∙ c .item-check .ensures))
 
 item-check-enum-known-c-2 : (t : ℕ) → item-check-lts.Need-enum-known-c-2 (item-check-calls t) (item-check-at t) item-check.Post
 item-check-enum-known-c-2 t c = search needs
@@ -176,22 +332,54 @@ item-check-leaf-check-requires : (t : ℕ) → item-check-lts.Need-leaf-check-re
 item-check-leaf-check-requires t c κs = search needs
 
 item-check-returns : (t : ℕ) → item-check-lts.Need-returns (item-check-calls t) (item-check-at t) item-check.Post
-item-check-returns t c = c .field-check .ensures ∙ container-on _ _ _ _ (c .before .before .before .before .before .before .before .look .ensures) (c .before .before .before .before .before .before .before .before .before .before .before .pre .1 .0) (c .before .before .before .before .if1 .taken) _ _ (sym (c .before .enum-told .given .1) ∙ c .before .before .before .lay-out .ensures)
+item-check-returns t c =
+    let c3 = c .before .before .before in
+    let c4 = c3 .before in
+    let c7 = c4 .before .before .before in
+    let c11 = c7 .before .before .before .before in
+    c .field-check .ensures ∙ container-on _ _ _ _ (c7 .look .ensures) (c11 .pre .1 .0) (c4 .if1 .taken) _ _ (sym (c .before .enum-told .given .1) ∙
+    c3 .lay-out .ensures)
 
 item-check-returns-2 : (t : ℕ) → item-check-lts.Need-returns-2 (item-check-calls t) (item-check-at t) item-check.Post
-item-check-returns-2 t c = container-stop _ _ _ _ (c .before .before .before .before .before .before .before .look .ensures) (c .before .before .before .before .before .before .before .before .before .before .before .pre .1 .0) (c .before .before .before .before .if1 .taken) _ _ _ (sym (c .before .told .given .1) ∙ c .before .before .before .lay-out .ensures)
+item-check-returns-2 t c =
+    let c3 = c .before .before .before in
+    let c4 = c3 .before in
+    let c7 = c4 .before .before .before in
+    let c11 = c7 .before .before .before .before in
+    container-stop _ _ _ _ (c7 .look .ensures) (c11 .pre .1 .0) (c4 .if1 .taken) _ _ _ (sym (c .before .told .given .1) ∙ c3 .lay-out .ensures)
 
 item-check-returns-3 : (t : ℕ) → item-check-lts.Need-returns-3 (item-check-calls t) (item-check-at t) item-check.Post
-item-check-returns-3 t c = c .leaf .ensures ∙ bare-read _ _ _ _ (c .before .before .before .before .before .before .before .before .before .look .ensures) (c .before .before .before .before .before .before .before .before .before .before .before .before .before .pre .1 .0) (c .before .before .before .before .if2 .taken) _ _ (sym (c .before .enum-told2 .given .1) ∙ c .before .before .before .select .ensures)
+item-check-returns-3 t c =
+    let c3 = c .before .before .before in
+    let c4 = c3 .before in
+    let c9 = c4 .before .before .before .before .before in
+    let c13 = c9 .before .before .before .before in
+    c .leaf .ensures ∙ bare-read _ _ _ _ (c9 .look .ensures) (c13 .pre .1 .0) (c4 .if2 .taken) _ _ (sym (c .before .enum-told2 .given .1) ∙ c3
+    .select .ensures)
 
 item-check-returns-4 : (t : ℕ) → item-check-lts.Need-returns-4 (item-check-calls t) (item-check-at t) item-check.Post
-item-check-returns-4 t c = c .with-selector .ensures ∙ ap (andThen (one 1 0)) (c .before .item-check .ensures) ∙ body-read _ _ _ _ (c .before .before .before .before .before .before .before .before .before .before .before .before .look .ensures) (c .before .before .before .before .before .before .before .before .before .before .before .before .before .before .before .before .pre .1 .0) (c .before .before .before .before .before .before .before .if2 .taken) _ _ (sym (c .before .before .before .before .c .given .1) ∙ c .before .before .before .before .before .before .select .ensures) _
+item-check-returns-4 t c =
+    let c4 = c .before .before .before .before in
+    let c6 = c4 .before .before in
+    let c7 = c6 .before in
+    let c12 = c7 .before .before .before .before .before in
+    let c16 = c12 .before .before .before .before in
+    c .with-selector .ensures ∙ ap (andThen (one 1 0)) (c .before .item-check .ensures) ∙ body-read _ _ _ _ (c12 .look .ensures) (c16 .pre .1 .0) (c7
+    .if2 .taken) _ _ (sym (c4 .c .given .1) ∙ c6 .select .ensures) _
 
 item-check-returns-5 : (t : ℕ) → item-check-lts.Need-returns-5 (item-check-calls t) (item-check-at t) item-check.Post
-item-check-returns-5 t c = wrong-read _ _ _ _ (c .before .before .before .before .before .before .before .before .before .look .ensures) (c .before .before .before .before .before .before .before .before .before .before .before .before .before .pre .1 .0) (c .before .before .before .before .if2 .taken) _ _ _ (sym (c .before .c2 .given .1) ∙ c .before .before .before .select .ensures)
+item-check-returns-5 t c =
+    let c3 = c .before .before .before in
+    let c4 = c3 .before in
+    let c9 = c4 .before .before .before .before .before in
+    let c13 = c9 .before .before .before .before in
+    wrong-read _ _ _ _ (c9 .look .ensures) (c13 .pre .1 .0) (c4 .if2 .taken) _ _ _ (sym (c .before .c2 .given .1) ∙ c3 .select .ensures)
 
 item-check-returns-6 : (t : ℕ) → item-check-lts.Need-returns-6 (item-check-calls t) (item-check-at t) item-check.Post
-item-check-returns-6 t c = rw (as-leaf _ _ _ (c .before .before .before .before .before .before .look .ensures) (c .before .before .before .if1 .left) (c .before .if2 .left)) (c .leaf-check .ensures)
+item-check-returns-6 t c =
+    let c3 = c .before .before .before in
+    let c6 = c3 .before .before .before in
+    rw (as-leaf _ _ _ (c6 .look .ensures) (c3 .if1 .left) (c .before .if2 .left)) (c .leaf-check .ensures)
 
 pub +field-check+item-check-spec : {M : Type 1} → statement M
 +field-check+item-check-spec = close μ-field-check μ-item-check (λ t. field-check-lts.spec (field-check-calls t)

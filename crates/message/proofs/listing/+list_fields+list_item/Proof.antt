@@ -62,28 +62,91 @@ abbrev list-item-calls : ℕ → list-item-lts.Claims
 list-item-calls t = (put-entry-reads.Asked, put-entry-reads.Learnt, look-reads.Asked, look-reads.Learnt, list-fields-below t, list-fields.Post, select-reads.Asked, select-reads.Learnt, list-item-below t, list-item.Post)
 
 list-fields-loop-holds : (t : ℕ) → list-fields-lts.Need-loop-holds (list-fields-calls t) (list-fields-at t) list-fields.Post list-fields-Inv-loop list-fields-μ-loop
-list-fields-loop-holds t c = record { row = c .before .before .before .before .pre .1 .0; ranges = c .before .before .before .before .pre .1 .2; accepted = c .before .before .before .before .pre .1 .3; room = c .before .before .before .before .pre .1 .4; done = []; stored = stored-none _ _ [] refl; whole = refl }
+list-fields-loop-holds t c =
+    let c4 = c .before .before .before .before in
+    record {
+      row = c4 .pre .1 .0;
+      ranges = c4 .pre .1 .2;
+      accepted = c4 .pre .1 .3;
+      room = c4 .pre .1 .4;
+      done = [];
+      stored = stored-none _ _ []
+          refl;
+      whole = refl;
+    }
 
 list-fields-word-at-requires : (t : ℕ) → list-fields-lts.Need-word-at-requires (list-fields-calls t) (list-fields-at t) list-fields.Post list-fields-Inv-loop list-fields-μ-loop
 list-fields-word-at-requires t c κs = search needs
 
 list-fields-locate-requires : (t : ℕ) → list-fields-lts.Need-locate-requires (list-fields-calls t) (list-fields-at t) list-fields.Post list-fields-Inv-loop list-fields-μ-loop
-list-fields-locate-requires t c κs = (c .before .before .loop .inv .row, c .before .loop-test .taken, c .word-at .ensures .0, c .before .before .loop .inv .ranges)
+list-fields-locate-requires t c κs =
+    let c2 = c .before .before in
+    (c2 .loop .inv .row, c .before .loop-test .taken, c .word-at .ensures .0, c2 .loop .inv .ranges)
 
 list-fields-add-place : (t : ℕ) → list-fields-lts.Need-add-place (list-fields-calls t) (list-fields-at t) list-fields.Post list-fields-Inv-loop list-fields-μ-loop
-list-fields-add-place t c = omega (arith, span-ok _ _ _ _ _ _ _ _ (c .before .before .before .loop .inv .row) (c .before .before .loop-test .taken) (c .before .word-at .ensures .0) (c .before .before .before .loop .inv .ranges) _ (c .locate .ensures), c .before .before .before .before .before .before .before .before .pre .1 .1)
+list-fields-add-place t c =
+    let c2 = c .before .before in
+    let c3 = c2 .before in
+    let c8 = c3 .before .before .before .before .before in
+    omega (
+      arith,
+      span-ok _ _ _ _ _ _ _ _ (c3 .loop .inv .row) (c2 .loop-test .taken) (c .before .word-at .ensures .0) (c3 .loop .inv .ranges) _ (c
+          .locate .ensures),
+      c8 .pre .1 .1,
+    )
 
 list-fields-sub-list-item : (t : ℕ) → list-fields-lts.Need-sub-list-item (list-fields-calls t) (list-fields-at t) list-fields.Post list-fields-Inv-loop list-fields-μ-loop
-list-fields-sub-list-item t c = omega (arith, span-ok _ _ _ _ _ _ _ _ (c .before .before .before .before .loop .inv .row) (c .before .before .before .loop-test .taken) (c .before .before .word-at .ensures .0) (c .before .before .before .before .loop .inv .ranges) _ (c .before .locate .ensures))
+list-fields-sub-list-item t c =
+    let c2 = c .before .before in
+    let c3 = c2 .before in
+    let c4 = c3 .before in
+    omega (
+      arith,
+      span-ok _ _ _ _ _ _ _ _ (c4 .loop .inv .row) (c3 .loop-test .taken) (c2 .word-at .ensures .0) (c4 .loop .inv .ranges) _ (c .before
+          .locate .ensures),
+    )
 
 list-fields-part-list-item-start : (t : ℕ) → list-fields-lts.Need-part-list-item-start (list-fields-calls t) (list-fields-at t) list-fields.Post list-fields-Inv-loop list-fields-μ-loop
-list-fields-part-list-item-start t c = span-ok _ _ _ _ _ _ _ _ (c .before .before .before .before .loop .inv .row) (c .before .before .before .loop-test .taken) (c .before .before .word-at .ensures .0) (c .before .before .before .before .loop .inv .ranges) _ (c .before .locate .ensures) .0
+list-fields-part-list-item-start t c =
+    let c2 = c .before .before in
+    let c3 = c2 .before in
+    let c4 = c3 .before in
+    span-ok _ _ _ _ _ _ _ _ (c4 .loop .inv .row) (c3 .loop-test .taken) (c2 .word-at .ensures .0) (c4 .loop .inv .ranges) _ (c .before .locate
+    .ensures) .0
 
 list-fields-part-list-item-end : (t : ℕ) → list-fields-lts.Need-part-list-item-end (list-fields-calls t) (list-fields-at t) list-fields.Post list-fields-Inv-loop list-fields-μ-loop
-list-fields-part-list-item-end t c = span-ok _ _ _ _ _ _ _ _ (c .before .before .before .before .loop .inv .row) (c .before .before .before .loop-test .taken) (c .before .before .word-at .ensures .0) (c .before .before .before .before .loop .inv .ranges) _ (c .before .locate .ensures) .1
+list-fields-part-list-item-end t c =
+    let c2 = c .before .before in
+    let c3 = c2 .before in
+    let c4 = c3 .before in
+    span-ok _ _ _ _ _ _ _ _ (c4 .loop .inv .row) (c3 .loop-test .taken) (c2 .word-at .ensures .0) (c4 .loop .inv .ranges) _ (c .before .locate
+    .ensures) .1
 
 list-fields-list-item-requires : (t : ℕ) → list-fields-lts.Need-list-item-requires (list-fields-calls t) (list-fields-at t) list-fields.Post list-fields-Inv-loop list-fields-μ-loop
-list-fields-list-item-requires t c κs = (omega (arith, row-below _ _ _ _ _ _ (c .before .before .before .before .before .loop .inv .row) (c .before .before .before .before .loop-test .taken) (c .before .before .before .word-at .ensures .0), c .before .before .before .before .before .before .before .before .before .before .pre .0), (row-under _ _ _ _ _ _ (c .before .before .before .before .before .loop .inv .row) (c .before .before .before .before .loop-test .taken) (c .before .before .before .word-at .ensures .0), omega (arith, span-ok _ _ _ _ _ _ _ _ (c .before .before .before .before .before .loop .inv .row) (c .before .before .before .before .loop-test .taken) (c .before .before .before .word-at .ensures .0) (c .before .before .before .before .before .loop .inv .ranges) _ (c .before .before .locate .ensures), span-length _ _ _ _ _ _ _ _ (c .before .before .before .before .before .loop .inv .row) (c .before .before .before .before .loop-test .taken) (c .before .before .before .word-at .ensures .0) (c .before .before .before .before .before .loop .inv .ranges) _ (c .before .before .locate .ensures), c .before .before .before .before .before .before .before .before .before .before .pre .1 .1), storing-accepted _ _ _ _ _ _ _ _ _ _ _ _ _ _ _ (c .before .before .before .before .before .loop .inv) (c .before .before .before .before .loop-test .taken) (c .before .before .before .word-at .ensures .0) _ (c .before .before .locate .ensures), storing-room _ _ _ _ _ _ _ _ _ _ _ _ _ _ _ (c .before .before .before .before .before .loop .inv) (c .before .before .before .before .loop-test .taken) (c .before .before .before .word-at .ensures .0) _ (c .before .before .locate .ensures)))
+list-fields-list-item-requires t c κs =
+    let c2 = c .before .before in
+    let c3 = c2 .before in
+    let c4 = c3 .before in
+    let c5 = c4 .before in
+    let c10 = c5 .before .before .before .before .before in (
+      omega (arith, row-below _ _ _ _ _ _ (c5 .loop .inv .row) (c4 .loop-test .taken) (c3 .word-at .ensures .0), c10 .pre .0),
+      (
+        row-under _ _ _ _ _ _
+            (c5 .loop .inv .row) (c4 .loop-test .taken) (c3 .word-at .ensures .0),
+        omega (
+          arith,
+          span-ok _ _ _ _ _ _ _ _ (c5 .loop .inv .row) (c4 .loop-test
+              .taken) (c3 .word-at .ensures .0) (c5 .loop .inv .ranges) _ (c2 .locate .ensures),
+          span-length _ _ _ _ _ _ _ _ (c5 .loop .inv .row) (c4
+              .loop-test .taken) (c3 .word-at .ensures .0) (c5 .loop .inv .ranges) _ (c2 .locate .ensures),
+          c10 .pre .1 .1,
+        ),
+        storing-accepted _ _ _ _ _ _ _ _ _
+            _ _ _ _ _ _ (c5 .loop .inv) (c4 .loop-test .taken) (c3 .word-at .ensures .0) _ (c2 .locate .ensures),
+        storing-room _ _ _ _ _ _ _ _ _ _ _ _ _ _ _
+            (c5 .loop .inv) (c4 .loop-test .taken) (c3 .word-at .ensures .0) _ (c2 .locate .ensures),
+      ),
+    )
 
 list-fields-add-a : (t : ℕ) → list-fields-lts.Need-add-a (list-fields-calls t) (list-fields-at t) list-fields.Post list-fields-Inv-loop list-fields-μ-loop
 list-fields-add-a t c = omega (arith, c .before .before .before .before .before .before .before .before .loop .inv .row .near)
@@ -95,7 +158,14 @@ list-fields-loop-less : (t : ℕ) → list-fields-lts.Need-loop-less (list-field
 list-fields-loop-less t c = omega arith
 
 list-fields-loop-again : (t : ℕ) → list-fields-lts.Need-loop-again (list-fields-calls t) (list-fields-at t) list-fields.Post list-fields-Inv-loop list-fields-μ-loop
-list-fields-loop-again t c = storing-next _ _ _ _ _ _ _ _ _ _ _ _ _ _ _ (c .before .before .before .before .before .before .before .before .loop .inv) (c .before .before .before .before .before .before .before .loop-test .taken) (c .before .before .before .before .before .before .word-at .ensures .0) _ (c .before .before .before .before .before .locate .ensures) _ _ (c .before .before .list-item .ensures)
+list-fields-loop-again t c =
+    let c2 = c .before .before in
+    let c5 = c2 .before .before .before in
+    let c6 = c5 .before in
+    let c7 = c6 .before in
+    let c8 = c7 .before in
+    storing-next _ _ _ _ _ _ _ _ _ _ _ _ _ _ _ (c8 .loop .inv) (c7 .loop-test .taken) (c6 .word-at .ensures .0) _ (c5 .locate .ensures) _ _ (c2
+    .list-item .ensures)
 
 list-fields-same-length : (t : ℕ) → list-fields-lts.Need-same-length (list-fields-calls t) (list-fields-at t) list-fields.Post list-fields-Inv-loop list-fields-μ-loop
 list-fields-same-length t c = stored-length _ _ _ _ _ (c .before .loop .inv .stored)
@@ -104,7 +174,9 @@ list-fields-returns : (t : ℕ) → list-fields-lts.Need-returns (list-fields-ca
 list-fields-returns t c = storing-end _ _ _ _ _ _ _ _ _ _ _ _ _ _ (c .before .loop .inv) (c .loop-test .left)
 
 list-item-put-entry-requires : (t : ℕ) → list-item-lts.Need-put-entry-requires (list-item-calls t) (list-item-at t) list-item.Post
-list-item-put-entry-requires t c κs = (room-long _ _ _ _ _ (c .before .before .before .before .before .pre .1 .3), c .before .before .before .before .before .pre .1 .1)
+list-item-put-entry-requires t c κs =
+    let c5 = c .before .before .before .before .before in
+    (room-long _ _ _ _ _ (c5 .pre .1 .3), c5 .pre .1 .1)
 
 list-item-add-next : (t : ℕ) → list-item-lts.Need-add-next (list-item-calls t) (list-item-at t) list-item.Post
 list-item-add-next t c = omega (arith, room-long _ _ _ _ _ (c .before .before .before .before .before .before .before .before .pre .1 .3))
@@ -113,15 +185,31 @@ list-item-look-requires : (t : ℕ) → list-item-lts.Need-look-requires (list-i
 list-item-look-requires t c κs = search needs
 
 list-item-add-first : (t : ℕ) → list-item-lts.Need-add-first (list-item-calls t) (list-item-at t) list-item.Post
-list-item-add-first t c = omega (arith, node-ok _ _ _ _ (c .before .look .ensures) (c .before .before .before .before .before .before .before .before .before .before .pre .1 .0) .near)
+list-item-add-first t c =
+    let c10 = c .before .before .before .before .before .before .before .before .before .before in
+    omega (arith, node-ok _ _ _ _ (c .before .look .ensures) (c10 .pre .1 .0) .near)
 
 list-item-list-fields-requires : (t : ℕ) → list-item-lts.Need-list-fields-requires (list-item-calls t) (list-item-at t) list-item.Post
 list-item-list-fields-requires t c κs =
-    let k = container-accepted _ _ _ _ (c .before .before .before .before .look .ensures) (c .before .before .before .before .before .before .before .before .before .before .before .before .before .pre .1 .0) _ _ (c .before .before .before .before .before .before .before .before .before .before .before .before .before .pre .1 .2) (c .before .if1 .taken) in
-    (omega (arith, c .before .before .before .before .before .before .before .before .before .before .before .before .before .pre .0), (container-row _ _ _ _ (c .before .before .before .before .look .ensures) (c .before .before .before .before .before .before .before .before .before .before .before .before .before .pre .1 .0) (c .before .if1 .taken), c .before .before .before .before .before .before .before .before .before .before .before .before .before .pre .1 .1, k .0, k .1, room-then _ _ _ _ _ _ _ (c .before .before .before .before .before .before .before .before .before .before .before .before .before .pre .1 .3) (list-container _ _ _ (c .before .before .before .before .look .ensures) _ _ (c .before .if1 .taken)) (c .before .before .before .before .before .before .before .put-entry .ensures)))
+    let c4 = c .before .before .before .before in
+    let c7 = c4 .before .before .before in
+    let c13 = c7 .before .before .before .before .before .before in
+    let k = container-accepted _ _ _ _ (c4 .look .ensures) (c13 .pre .1 .0) _ _ (c13 .pre .1 .2) (c .before .if1 .taken) in (
+      omega (arith, c13 .pre .0),
+      (
+        container-row _ _ _ _ (c4 .look .ensures) (c13 .pre .1 .0) (c .before .if1 .taken),
+        c13 .pre .1 .1,
+        k .0,
+        k .1,
+        room-then _ _ _ _ _ _ _ (c13 .pre .1 .3) (list-container _ _ _ (c4 .look .ensures) _ _ (c .before .if1 .taken)) (c7 .put-entry .ensures),
+      ),
+    )
 
 list-item-select-requires : (t : ℕ) → list-item-lts.Need-select-requires (list-item-calls t) (list-item-at t) list-item.Post
-list-item-select-requires t c κs = omega (arith, node-ok _ _ _ _ (c .before .before .before .before .before .look .ensures) (c .before .before .before .before .before .before .before .before .before .before .before .before .before .before .pre .1 .0) .near)
+list-item-select-requires t c κs =
+    let c5 = c .before .before .before .before .before in
+    let c14 = c5 .before .before .before .before .before .before .before .before .before in
+    omega (arith, node-ok _ _ _ _ (c5 .look .ensures) (c14 .pre .1 .0) .near)
 
 list-item-enum-told : (t : ℕ) → list-item-lts.Need-enum-told (list-item-calls t) (list-item-at t) list-item.Post
 list-item-enum-told t c = search needs
@@ -130,54 +218,137 @@ list-item-enum-known-c : (t : ℕ) → list-item-lts.Need-enum-known-c (list-ite
 list-item-enum-known-c t c = search needs
 
 list-item-add-inside : (t : ℕ) → list-item-lts.Need-add-inside (list-item-calls t) (list-item-at t) list-item.Post
-list-item-add-inside t c = omega (arith, body-below _ _ _ _ (c .before .before .before .before .before .before .before .before .before .look .ensures) (c .before .before .before .before .before .before .before .before .before .before .before .before .before .before .before .before .before .before .pre .1 .0) (c .before .before .before .before .if2 .taken) _ _ (sym (c .before .c .given .1) ∙ c .before .before .before .select .ensures), c .before .before .before .before .before .before .before .before .before .before .before .before .before .before .before .before .before .before .pre .1 .1)
+list-item-add-inside t c =
+    let c3 = c .before .before .before in
+    let c4 = c3 .before in
+    let c9 = c4 .before .before .before .before .before in
+    let c18 = c9 .before .before .before .before .before .before .before .before .before in
+    omega (
+      arith,
+      body-below _ _ _ _ (c9 .look .ensures) (c18 .pre .1 .0) (c4 .if2 .taken) _ _ (sym (c .before .c .given .1) ∙ c3 .select .ensures),
+      c18 .pre .1 .1,
+    )
 
 list-item-sub-list-item : (t : ℕ) → list-item-lts.Need-sub-list-item (list-item-calls t) (list-item-at t) list-item.Post
-list-item-sub-list-item t c = omega (arith, body-below _ _ _ _ (c .before .before .before .before .before .before .before .before .before .before .look .ensures) (c .before .before .before .before .before .before .before .before .before .before .before .before .before .before .before .before .before .before .before .pre .1 .0) (c .before .before .before .before .before .if2 .taken) _ _ (sym (c .before .before .c .given .1) ∙ c .before .before .before .before .select .ensures))
+list-item-sub-list-item t c =
+    let c2 = c .before .before in
+    let c4 = c2 .before .before in
+    let c5 = c4 .before in
+    let c10 = c5 .before .before .before .before .before in
+    let c19 = c10 .before .before .before .before .before .before .before .before .before in
+    omega (arith, body-below _ _ _ _ (c10 .look .ensures) (c19 .pre .1 .0) (c5 .if2 .taken) _ _ (sym (c2 .c .given .1) ∙ c4 .select .ensures))
 
 list-item-part-list-item-start : (t : ℕ) → list-item-lts.Need-part-list-item-start (list-item-calls t) (list-item-at t) list-item.Post
-list-item-part-list-item-start t c = omega (arith, body-below _ _ _ _ (c .before .before .before .before .before .before .before .before .before .before .look .ensures) (c .before .before .before .before .before .before .before .before .before .before .before .before .before .before .before .before .before .before .before .pre .1 .0) (c .before .before .before .before .before .if2 .taken) _ _ (sym (c .before .before .c .given .1) ∙ c .before .before .before .before .select .ensures))
+list-item-part-list-item-start t c =
+    let c2 = c .before .before in
+    let c4 = c2 .before .before in
+    let c5 = c4 .before in
+    let c10 = c5 .before .before .before .before .before in
+    let c19 = c10 .before .before .before .before .before .before .before .before .before in
+    omega (arith, body-below _ _ _ _ (c10 .look .ensures) (c19 .pre .1 .0) (c5 .if2 .taken) _ _ (sym (c2 .c .given .1) ∙ c4 .select .ensures))
 
 list-item-part-list-item-end : (t : ℕ) → list-item-lts.Need-part-list-item-end (list-item-calls t) (list-item-at t) list-item.Post
 list-item-part-list-item-end t c = omega arith
 
 list-item-list-item-requires : (t : ℕ) → list-item-lts.Need-list-item-requires (list-item-calls t) (list-item-at t) list-item.Post
 list-item-list-item-requires t c κs =
-    let z = body-below _ _ _ _ (c .before .before .before .before .before .before .before .before .before .before .before .look .ensures) (c .before .before .before .before .before .before .before .before .before .before .before .before .before .before .before .before .before .before .before .before .pre .1 .0) (c .before .before .before .before .before .before .if2 .taken) _ _ (sym (c .before .before .before .c .given .1) ∙ c .before .before .before .before .before .select .ensures) in
-    (omega (arith, c .before .before .before .before .before .before .before .before .before .before .before .before .before .before .before .before .before .before .before .before .pre .0, z), (under-below _ _ _ _ (omega (arith, z)) (c .before .before .before .before .before .before .before .before .before .before .before .before .before .before .before .before .before .before .before .before .pre .1 .0), simp (length-take, length-drop) (omega (arith, c .before .before .before .before .before .before .before .before .before .before .before .before .before .before .before .before .before .before .before .before .pre .1 .1, z)), body-accepted _ _ _ _ (c .before .before .before .before .before .before .before .before .before .before .before .look .ensures) (c .before .before .before .before .before .before .before .before .before .before .before .before .before .before .before .before .before .before .before .before .pre .1 .0) _ _ (c .before .before .before .before .before .before .before .before .before .before .before .before .before .before .before .before .before .before .before .before .pre .1 .2) (c .before .before .before .before .before .before .if2 .taken) _ (sym (c .before .before .before .c .given .1) ∙ c .before .before .before .before .before .select .ensures), room-then _ _ _ _ _ _ _ (c .before .before .before .before .before .before .before .before .before .before .before .before .before .before .before .before .before .before .before .before .pre .1 .3) (union-body _ _ _ _ (c .before .before .before .before .before .before .before .before .before .before .before .look .ensures) (c .before .before .before .before .before .before .before .before .before .before .before .before .before .before .before .before .before .before .before .before .pre .1 .0) _ _ (c .before .before .before .before .before .before .before .before .before .before .before .before .before .before .before .before .before .before .before .before .pre .1 .2) (c .before .before .before .before .before .before .if2 .taken) _ (sym (c .before .before .before .c .given .1) ∙ c .before .before .before .before .before .select .ensures)) (c .before .before .before .before .before .before .before .before .before .before .before .before .before .before .put-entry .ensures)))
+    let c3 = c .before .before .before in
+    let c5 = c3 .before .before in
+    let c6 = c5 .before in
+    let c11 = c6 .before .before .before .before .before in
+    let c14 = c11 .before .before .before in
+    let c20 = c14 .before .before .before .before .before .before in
+    let z = body-below _ _ _ _ (c11 .look .ensures) (c20 .pre .1 .0) (c6 .if2 .taken) _ _ (sym (c3 .c .given .1) ∙ c5 .select .ensures) in (
+      omega (arith, c20 .pre .0, z),
+      (
+        under-below _ _ _ _ (omega (arith, z)) (c20 .pre .1 .0),
+        simp (length-take, length-drop) (omega (
+          arith,
+          c20 .pre
+              .1 .1,
+          z,
+        )),
+        body-accepted _ _ _ _ (c11 .look .ensures) (c20 .pre .1 .0) _ _ (c20 .pre .1 .2) (c6 .if2 .taken) _ (sym (c3 .c .given .1) ∙ c5
+            .select .ensures),
+        room-then _ _ _ _ _ _ _ (c20 .pre .1 .3) (union-body _ _ _ _ (c11 .look .ensures) (c20 .pre .1 .0) _ _ (c20 .pre .1 .2) (c6
+            .if2 .taken) _ (sym (c3 .c .given .1) ∙ c5 .select .ensures)) (c14 .put-entry .ensures),
+      ),
+    )
 
 list-item-enum-told-2 : (t : ℕ) → list-item-lts.Need-enum-told-2 (list-item-calls t) (list-item-at t) list-item.Post
 list-item-enum-told-2 t c = search needs
 
 list-item-same-length : (t : ℕ) → list-item-lts.Need-same-length (list-item-calls t) (list-item-at t) list-item.Post
-list-item-same-length t c = stored-length _ _ _ _ _ (c .before .before .list-fields .ensures) ∙ stored-length _ _ _ _ _ (c .before .before .before .before .before .before .before .before .before .before .put-entry .ensures)
+list-item-same-length t c =
+    let c2 = c .before .before in
+    let c10 = c2 .before .before .before .before .before .before .before .before in
+    stored-length _ _ _ _ _ (c2 .list-fields .ensures) ∙ stored-length _ _ _ _ _ (c10 .put-entry .ensures)
 
 list-item-returns : (t : ℕ) → list-item-lts.Need-returns (list-item-calls t) (list-item-at t) list-item.Post
-list-item-returns t c = stored-then _ _ _ _ _ _ _ _ _ (c .before .before .before .before .before .before .before .before .before .before .put-entry .ensures) (c .before .before .list-fields .ensures) (list-container _ _ _ (c .before .before .before .before .before .before .before .look .ensures) _ _ (c .before .before .before .before .if1 .taken))
+list-item-returns t c =
+    let c2 = c .before .before in
+    let c4 = c2 .before .before in
+    let c7 = c4 .before .before .before in
+    let c10 = c7 .before .before .before in
+    stored-then _ _ _ _ _ _ _ _ _ (c10 .put-entry .ensures) (c2 .list-fields .ensures) (list-container _ _ _ (c7 .look .ensures) _ _ (c4 .if1
+    .taken))
 
 list-item-same-length-2 : (t : ℕ) → list-item-lts.Need-same-length-2 (list-item-calls t) (list-item-at t) list-item.Post
-list-item-same-length-2 t c = stored-length _ _ _ _ _ (c .before .before .before .before .before .before .before .before .before .before .before .put-entry .ensures)
+list-item-same-length-2 t c =
+    let c11 = c .before .before .before .before .before .before .before .before .before .before .before in
+    stored-length _ _ _ _ _ (c11 .put-entry .ensures)
 
 list-item-returns-2 : (t : ℕ) → list-item-lts.Need-returns-2 (list-item-calls t) (list-item-at t) list-item.Post
-list-item-returns-2 t c = rw (union-bare _ _ _ _ (c .before .before .before .before .before .before .before .before .look .ensures) (c .before .before .before .before .before .before .before .before .before .before .before .before .before .before .before .before .before .pre .1 .0) _ _ (c .before .before .before .before .before .before .before .before .before .before .before .before .before .before .before .before .before .pre .1 .2) (c .before .before .before .if2 .taken) (sym (c .enum-told .given .1) ∙ c .before .before .select .ensures)) (c .before .before .before .before .before .before .before .before .before .before .before .put-entry .ensures)
+list-item-returns-2 t c =
+    let c2 = c .before .before in
+    let c3 = c2 .before in
+    let c8 = c3 .before .before .before .before .before in
+    let c11 = c8 .before .before .before in
+    let c17 = c11 .before .before .before .before .before .before in
+    rw (union-bare _ _ _ _ (c8 .look .ensures) (c17 .pre .1 .0) _ _ (c17 .pre .1 .2) (c3 .if2 .taken) (sym (c .enum-told .given .1) ∙ c2 .select
+    .ensures)) (c11 .put-entry .ensures)
 
 list-item-same-length-3 : (t : ℕ) → list-item-lts.Need-same-length-3 (list-item-calls t) (list-item-at t) list-item.Post
-list-item-same-length-3 t c = stored-length _ _ _ _ _ (c .before .before .list-item .ensures) ∙ stored-length _ _ _ _ _ (c .before .before .before .before .before .before .before .before .before .before .before .before .before .before .before .before .before .put-entry .ensures)
+list-item-same-length-3 t c =
+    let c2 = c .before .before in
+    let c17 = c2 .before .before .before .before .before .before .before .before .before .before .before .before .before .before .before in
+    stored-length _ _ _ _ _ (c2 .list-item .ensures) ∙ stored-length _ _ _ _ _ (c17 .put-entry .ensures)
 
 list-item-returns-3 : (t : ℕ) → list-item-lts.Need-returns-3 (list-item-calls t) (list-item-at t) list-item.Post
-list-item-returns-3 t c = stored-then _ _ _ _ _ _ _ _ _ (c .before .before .before .before .before .before .before .before .before .before .before .before .before .before .before .before .before .put-entry .ensures) (c .before .before .list-item .ensures) (union-body _ _ _ _ (c .before .before .before .before .before .before .before .before .before .before .before .before .before .before .look .ensures) (c .before .before .before .before .before .before .before .before .before .before .before .before .before .before .before .before .before .before .before .before .before .before .before .pre .1 .0) _ _ (c .before .before .before .before .before .before .before .before .before .before .before .before .before .before .before .before .before .before .before .before .before .before .before .pre .1 .2) (c .before .before .before .before .before .before .before .before .before .if2 .taken) _ (sym (c .before .before .before .before .before .before .c .given .1) ∙ c .before .before .before .before .before .before .before .before .select .ensures))
+list-item-returns-3 t c =
+    let c2 = c .before .before in
+    let c6 = c2 .before .before .before .before in
+    let c8 = c6 .before .before in
+    let c9 = c8 .before in
+    let c14 = c9 .before .before .before .before .before in
+    let c17 = c14 .before .before .before in
+    let c23 = c17 .before .before .before .before .before .before in
+    stored-then _ _ _ _ _ _ _ _ _ (c17 .put-entry .ensures) (c2 .list-item .ensures) (union-body _ _ _ _ (c14 .look .ensures) (c23 .pre .1 .0) _ _
+    (c23 .pre .1 .2) (c9 .if2 .taken) _ (sym (c6 .c .given .1) ∙ c8 .select .ensures))
 
 list-item-same-length-4 : (t : ℕ) → list-item-lts.Need-same-length-4 (list-item-calls t) (list-item-at t) list-item.Post
-list-item-same-length-4 t c = stored-length _ _ _ _ _ (c .before .before .before .before .before .before .before .before .before .before .before .put-entry .ensures)
+list-item-same-length-4 t c =
+    let c11 = c .before .before .before .before .before .before .before .before .before .before .before in
+    stored-length _ _ _ _ _ (c11 .put-entry .ensures)
 
 list-item-returns-4 : (t : ℕ) → list-item-lts.Need-returns-4 (list-item-calls t) (list-item-at t) list-item.Post
-list-item-returns-4 t c = union-never _ _ _ _ (c .before .before .before .before .before .before .before .before .look .ensures) (c .before .before .before .before .before .before .before .before .before .before .before .before .before .before .before .before .before .pre .1 .0) _ _ (c .before .before .before .before .before .before .before .before .before .before .before .before .before .before .before .before .before .pre .1 .2) (c .before .before .before .if2 .taken) _ (sym (c .enum-told2 .given .1) ∙ c .before .before .select .ensures)
+list-item-returns-4 t c =
+    let c2 = c .before .before in
+    let c3 = c2 .before in
+    let c8 = c3 .before .before .before .before .before in
+    let c17 = c8 .before .before .before .before .before .before .before .before .before in
+    union-never _ _ _ _ (c8 .look .ensures) (c17 .pre .1 .0) _ _ (c17 .pre .1 .2) (c3 .if2 .taken) _ (sym (c .enum-told2 .given .1) ∙ c2 .select
+    .ensures)
 
 list-item-same-length-5 : (t : ℕ) → list-item-lts.Need-same-length-5 (list-item-calls t) (list-item-at t) list-item.Post
 list-item-same-length-5 t c = stored-length _ _ _ _ _ (c .before .before .before .before .before .before .before .before .put-entry .ensures)
 
 list-item-returns-5 : (t : ℕ) → list-item-lts.Need-returns-5 (list-item-calls t) (list-item-at t) list-item.Post
-list-item-returns-5 t c = rw (list-leaf _ _ _ (c .before .before .before .before .before .look .ensures) _ _ (c .before .before .if1 .left) (c .if2 .left)) (c .before .before .before .before .before .before .before .before .put-entry .ensures)
+list-item-returns-5 t c =
+    let c2 = c .before .before in
+    let c5 = c2 .before .before .before in
+    let c8 = c5 .before .before .before in
+    rw (list-leaf _ _ _ (c5 .look .ensures) _ _ (c2 .if1 .left) (c .if2 .left)) (c8 .put-entry .ensures)
 
 pub +list-fields+list-item-spec : {M : Type 1} → statement M
 +list-fields+list-item-spec = close μ-list-fields μ-list-item (λ t. list-fields-lts.spec (list-fields-calls t)

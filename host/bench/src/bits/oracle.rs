@@ -5,7 +5,7 @@
 //! encoding and decoding do the same. The result is dropped within the time as well, which is where
 //! a list of 2,048 bits gives its heap memory back.
 
-use crate::{Call, Input, Timed};
+use super::{Call, Input, Timed};
 use smallvec::SmallVec;
 use ssz::BitList;
 use std::hint::black_box;

@@ -5,7 +5,7 @@
 //! around what goes in and what comes out, as `oracle` does. What a caller of the crate has to copy
 //! a caller of ours copies too, or the line says so.
 
-use crate::{Call, Timed};
+use super::{Call, Timed};
 
 /// Nothing is linked yet.
 pub fn side(_call: Call, _bits: usize) -> Option<Timed> {
