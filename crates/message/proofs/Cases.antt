@@ -19,6 +19,7 @@ use Rattle.layout.specs.Table.{count, refs, many, containerEnd, leafEnd, bodyEn
 use Rattle.message.specs.Read.{readItem}
 use Rattle.message.specs.Listing.{entry, listItem}
 use Rattle.message.specs.Check.{messageType, checkMessage}
+use Rattle.message.specs.Unfold.{rawOf, unfoldWords, unfoldBytes}
 use Rattle.message.specs.declared.Answer.{Answer}
 use Rattle.message.specs.declared.Answer.the-variants.{Accepted, Refused}
 
@@ -81,3 +82,8 @@ listed = refl
 four-zeros : (messageType bits4 1 ≡ bitList 0 4) × (serialize (bitList 0 4) (false ∷ false ∷ false ∷ false ∷ []) ≡ 0x10 ∷ [])
 unfolding bits4 bytesOf le num numAt wordAt nodeOf leafOf fromNode trees treeOf bitNum packs pack marked serialize
 four-zeros = (refl, refl)
+
+-- The value form of P: three free bytes, three bits without their mark
+unfolded : (unfoldWords (treeOf layoutL 3) messageP ≡ 3 ∷ 3 ∷ []) × (unfoldBytes (treeOf layoutL 3) messageP ≡ 0x2a ∷ 0 ∷ 0 ∷ 0 ∷ 0 ∷ 0 ∷ 0 ∷ 0 ∷ 0x0a ∷ 0x0b ∷ 0x0c ∷ 0x05 ∷ [])
+unfolding messageP offsets layoutL bytesOf le num numAt wordAt head heads joined width portion next nodeOf leafOf fromNode fields options trees treeOf bitsOf bitNum packs highest bitListBody rawOf unfoldWords unfoldBytes
+unfolded = (refl, refl)

@@ -9,4 +9,5 @@ pub mod UnfoldLeaves
 pub mod Unfolds
 pub mod UnfoldCounts
 pub mod Theorem
+pub mod UnfoldTheorem
 pub mod Cases
