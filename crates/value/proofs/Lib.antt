@@ -1,0 +1,4 @@
+-- What the proofs of several functions use, and the theorems on writing.
+pub mod Walks
+pub mod Unions
+pub mod Rows
