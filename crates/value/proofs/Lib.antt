@@ -2,3 +2,6 @@
 pub mod Walks
 pub mod Unions
 pub mod Rows
+pub mod Leaves
+pub mod Fills
+pub mod Calls
