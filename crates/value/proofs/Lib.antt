@@ -1,0 +1,7 @@
+-- What the proofs of several functions use, and the theorems on writing.
+pub mod Walks
+pub mod Unions
+pub mod Rows
+pub mod Leaves
+pub mod Fills
+pub mod Calls

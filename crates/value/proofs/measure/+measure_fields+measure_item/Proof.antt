@@ -1,0 +1,233 @@
+-- Items and fields call each other; the type number falls. The loop over the fields keeps `Measuring`. Assumes nothing.
+use Rattle.value.proofs.Walks.{measured-says, measured-wrong, selected-item}
+use Rattle.value.proofs.Rows.{Measuring, measuring-none, measuring-next, measuring-stop, measuring-end, container-walk, container-write}
+use mathlib.Core.Path.{_≡_, refl, sym, ap, _∙_}
+use native.Mathlib.Omega.{arith}
+use borrow.Author.Needs.{needs}
+use Prim.Native.Nat.{_+_, _*_}
+use Rattle.layout.proofs.Facts.{as-leaf}
+use Rattle.message.proofs.Rows.{row-below, row-under, row-index, under-below}
+use Rattle.message.proofs.Bodies.{node-ok, container-row}
+use Rattle.value.specs.Steps.{selected}
+use Rattle.value.proofs.Walks.{measured-says, measured-wrong, selected-measured}
+use Rattle.value.proofs.Unions.{bare-item, body-item, wrong-item, leaf-walk, leaf-write}
+use Rattle.value.proofs.Rows.{Measuring, measuring-next, measuring-stop, measuring-end, container-walk, container-write}
+use Prim.Native.Nat.{ℕ, _<_}
+use borrow.Fn.Kinds.{In}
+use borrow.Fn.PlainCycle.{Measures, is, falls, and}
+use Rattle.value.proofs.measure.measure_fields.Reads as measure-fields
+use Rattle.value.proofs.measure.measure_fields.Kinds as measure-fields-kinds
+use Rattle.value.proofs.measure.+measure_fields+measure_item.Lts-measure_fields as measure-fields-lts
+use Rattle.value.proofs.measure.measure_item.Reads as measure-item
+use Rattle.value.proofs.measure.measure_item.Kinds as measure-item-kinds
+use Rattle.value.proofs.measure.+measure_fields+measure_item.Lts-measure_item as measure-item-lts
+use Rattle.layout.proofs.look.Reads as look-reads
+use Rattle.standard.proofs.words.word_at.Reads as word-at-reads
+use Rattle.value.proofs.measure.add.Reads as add-reads
+use Rattle.value.proofs.measure.measure_leaf.Reads as measure-leaf-reads
+use Rattle.value.proofs.measure.select.Reads as select-reads
+use Rattle.value.proofs.measure.with_offset.Reads as with-offset-reads
+use Rattle.value.proofs.measure.with_selector.Reads as with-selector-reads
+use Rattle.value.proofs.measure.+measure_fields+measure_item.{statement}
+use Rattle.value.proofs.measure.+measure_fields+measure_item.Tie.{close}
+
+abbrev μ-measure-fields : Measures 4 measure-fields-kinds.ps ℕ
+μ-measure-fields κs a = 2 * a .1 .1 .0
+
+abbrev μ-measure-item : Measures 4 measure-item-kinds.ps ℕ
+μ-measure-item κs a = 2 * a .1 .1 .0 + 1
+
+abbrev measure-fields-at : ℕ → In 4 measure-fields-kinds.ps
+measure-fields-at t =
+    and
+    4
+    measure-fields-kinds.ps
+    (is 4 measure-fields-kinds.ps μ-measure-fields t)
+    measure-fields.Pre
+
+abbrev measure-fields-below : ℕ → In 4 measure-fields-kinds.ps
+measure-fields-below t =
+    and
+    4
+    measure-fields-kinds.ps
+    (falls 4 measure-fields-kinds.ps _<_ μ-measure-fields t)
+    measure-fields.Pre
+
+abbrev measure-item-at : ℕ → In 4 measure-item-kinds.ps
+measure-item-at t =
+    and 4 measure-item-kinds.ps (is 4 measure-item-kinds.ps μ-measure-item t) measure-item.Pre
+
+abbrev measure-item-below : ℕ → In 4 measure-item-kinds.ps
+measure-item-below t =
+    and
+    4
+    measure-item-kinds.ps
+    (falls 4 measure-item-kinds.ps _<_ μ-measure-item t)
+    measure-item.Pre
+
+abbrev measure-fields-Inv-loop : measure-fields-lts.InvT-loop
+measure-fields-Inv-loop lens layout t a0 n contents bodies i0 j0 sum₀ a₀ left₀ i₀ j₀ sum a left i j = Measuring lens layout t a0 n contents bodies i0 j0 sum a left i j
+
+abbrev measure-fields-μ-loop : measure-fields-lts.MeasureT-loop
+measure-fields-μ-loop lens layout t a0 n contents bodies i0 j0 sum₀ a₀ left₀ i₀ j₀ sum a left i j = left
+
+-- what `measure_fields` calls, at the measure t
+abbrev measure-fields-calls : ℕ → measure-fields-lts.Claims
+measure-fields-calls t = (word-at-reads.Asked, word-at-reads.Learnt, measure-item-below t, measure-item.Post, with-offset-reads.Asked, with-offset-reads.Learnt, add-reads.Asked, add-reads.Learnt)
+
+-- what `measure_item` calls, at the measure t
+abbrev measure-item-calls : ℕ → measure-item-lts.Claims
+measure-item-calls t = (look-reads.Asked, look-reads.Learnt, measure-fields-below t, measure-fields.Post, select-reads.Asked, select-reads.Learnt, measure-item-below t, measure-item.Post, with-selector-reads.Asked, with-selector-reads.Learnt, measure-leaf-reads.Asked, measure-leaf-reads.Learnt)
+
+measure-fields-loop-holds : (t : ℕ) → measure-fields-lts.Need-loop-holds (measure-fields-calls t) (measure-fields-at t) measure-fields.Post measure-fields-Inv-loop measure-fields-μ-loop
+measure-fields-loop-holds t c = measuring-none _ _ _ _ _ _ _ _ _ (c .before .before .before .before .pre .1)
+
+measure-fields-word-at-requires : (t : ℕ) → measure-fields-lts.Need-word-at-requires (measure-fields-calls t) (measure-fields-at t) measure-fields.Post measure-fields-Inv-loop measure-fields-μ-loop
+measure-fields-word-at-requires t c κs = search needs
+
+measure-fields-measure-item-requires : (t : ℕ) → measure-fields-lts.Need-measure-item-requires (measure-fields-calls t) (measure-fields-at t) measure-fields.Post measure-fields-Inv-loop measure-fields-μ-loop
+measure-fields-measure-item-requires t c κs = (omega (arith, row-below _ _ _ _ _ _ (c .before .before .loop .inv .row) (c .before .loop-test .taken) (c .word-at .ensures .0), c .before .before .before .before .before .before .before .pre .0), row-under _ _ _ _ _ _ (c .before .before .loop .inv .row) (c .before .loop-test .taken) (c .word-at .ensures .0))
+
+measure-fields-enum-known-r : (t : ℕ) → measure-fields-lts.Need-enum-known-r (measure-fields-calls t) (measure-fields-at t) measure-fields.Post measure-fields-Inv-loop measure-fields-μ-loop
+measure-fields-enum-known-r t c = search needs
+
+measure-fields-mul-with-offset : (t : ℕ) → measure-fields-lts.Need-mul-with-offset (measure-fields-calls t) (measure-fields-at t) measure-fields.Post measure-fields-Inv-loop measure-fields-μ-loop
+measure-fields-mul-with-offset t c = omega (arith, c .before .before .before .before .word-at .ensures .1)
+
+measure-fields-shared-slice-read-with-offset :
+    (t : ℕ) → measure-fields-lts.Need-shared-slice-read-with-offset (
+      word-at-reads.Asked,
+      word-at-reads.Learnt,
+      measure-item-below t,
+      measure-item.Post,
+      with-offset-reads.Asked,
+      with-offset-reads.Learnt,
+      add-reads.Asked,
+      add-reads.Learnt,
+    ) (measure-fields-at t) measure-fields.Post measure-fields-Inv-loop measure-fields-μ-loop
+measure-fields-shared-slice-read-with-offset t c = row-index _ _ _ _ _ _ (c .before .before .before .before .before .before .before .loop .inv .row) (c .before .before .before .before .before .before .loop-test .taken) (c .before .before .before .before .before .word-at .ensures .0)
+
+measure-fields-with-offset-requires : (t : ℕ) → measure-fields-lts.Need-with-offset-requires (measure-fields-calls t) (measure-fields-at t) measure-fields.Post measure-fields-Inv-loop measure-fields-μ-loop
+measure-fields-with-offset-requires t c κs = search needs
+
+measure-fields-add-requires : (t : ℕ) → measure-fields-lts.Need-add-requires (measure-fields-calls t) (measure-fields-at t) measure-fields.Post measure-fields-Inv-loop measure-fields-μ-loop
+measure-fields-add-requires t c κs = search needs
+
+measure-fields-enum-known-r-2 : (t : ℕ) → measure-fields-lts.Need-enum-known-r-2 (measure-fields-calls t) (measure-fields-at t) measure-fields.Post measure-fields-Inv-loop measure-fields-μ-loop
+measure-fields-enum-known-r-2 t c = search needs
+
+measure-fields-returns : (t : ℕ) → measure-fields-lts.Need-returns (measure-fields-calls t) (measure-fields-at t) measure-fields.Post measure-fields-Inv-loop measure-fields-μ-loop
+measure-fields-returns t c = measuring-stop _ _ _ _ _ _ _ _ _ _ _ _ _ _ _ (c .before .before .before .before .before .before .loop .inv) (c .before .before .before .before .before .loop-test .taken) (c .before .before .before .before .word-at .ensures .0) _ (sym (c .before .r2 .given .1) ∙ c .before .before .before .measure-item .ensures)
+
+measure-fields-add-a : (t : ℕ) → measure-fields-lts.Need-add-a (measure-fields-calls t) (measure-fields-at t) measure-fields.Post measure-fields-Inv-loop measure-fields-μ-loop
+measure-fields-add-a t c = omega (arith, c .before .before .before .before .before .before .before .before .before .loop .inv .row .near)
+
+measure-fields-sub-left : (t : ℕ) → measure-fields-lts.Need-sub-left (measure-fields-calls t) (measure-fields-at t) measure-fields.Post measure-fields-Inv-loop measure-fields-μ-loop
+measure-fields-sub-left t c = omega arith
+
+measure-fields-loop-less : (t : ℕ) → measure-fields-lts.Need-loop-less (measure-fields-calls t) (measure-fields-at t) measure-fields.Post measure-fields-Inv-loop measure-fields-μ-loop
+measure-fields-loop-less t c = omega arith
+
+measure-fields-loop-again : (t : ℕ) → measure-fields-lts.Need-loop-again (measure-fields-calls t) (measure-fields-at t) measure-fields.Post measure-fields-Inv-loop measure-fields-μ-loop
+measure-fields-loop-again t c = rw (c .add .ensures) (measuring-next _ _ _ _ _ _ _ _ _ _ _ _ _ _ _ (c .before .before .before .before .before .before .before .before .before .loop .inv) (c .before .before .before .before .before .before .before .before .loop-test .taken) (c .before .before .before .before .before .before .before .word-at .ensures .0) _ (sym (c .before .before .before .before .r .given .1) ∙ c .before .before .before .before .before .before .measure-item .ensures) _ refl _ (c .before .with-offset .ensures))
+
+measure-fields-returns-2 : (t : ℕ) → measure-fields-lts.Need-returns-2 (measure-fields-calls t) (measure-fields-at t) measure-fields.Post measure-fields-Inv-loop measure-fields-μ-loop
+measure-fields-returns-2 t c = measuring-end _ _ _ _ _ _ _ _ _ _ _ _ _ _ (c .before .loop .inv) (c .loop-test .left)
+
+measure-item-look-requires : (t : ℕ) → measure-item-lts.Need-look-requires (measure-item-calls t) (measure-item-at t) measure-item.Post
+measure-item-look-requires t c κs = search needs
+
+measure-item-add-first : (t : ℕ) → measure-item-lts.Need-add-first (measure-item-calls t) (measure-item-at t) measure-item.Post
+measure-item-add-first t c = omega (arith, node-ok _ _ _ _ (c .before .look .ensures) (c .before .before .before .before .before .before .pre .1) .near)
+
+measure-item-measure-fields-requires : (t : ℕ) → measure-item-lts.Need-measure-fields-requires (measure-item-calls t) (measure-item-at t) measure-item.Post
+measure-item-measure-fields-requires t c κs = (omega (arith, c .before .before .before .before .before .before .before .before .pre .0), container-row _ _ _ _ (c .before .before .before .look .ensures) (c .before .before .before .before .before .before .before .before .pre .1) (c .if1 .taken))
+
+measure-item-select-requires : (t : ℕ) → measure-item-lts.Need-select-requires (measure-item-calls t) (measure-item-at t) measure-item.Post
+measure-item-select-requires t c κs = omega (arith, node-ok _ _ _ _ (c .before .before .before .before .before .look .ensures) (c .before .before .before .before .before .before .before .before .before .before .pre .1) .near)
+
+measure-item-enum-told : (t : ℕ) → measure-item-lts.Need-enum-told (measure-item-calls t) (measure-item-at t) measure-item.Post
+measure-item-enum-told t c = search needs
+
+measure-item-add-word : (t : ℕ) → measure-item-lts.Need-add-word (measure-item-calls t) (measure-item-at t) measure-item.Post
+measure-item-add-word t c = omega (arith, bare-item _ _ _ (c .before .before .before .before .before .before .before .before .look .ensures) (c .before .before .before .if2 .taken) _ (c .before .before .before .before .before .before .before .before .before .before .before .before .before .args .bodies .now) _ (c .before .before .before .before .before .before .before .before .before .before .before .before .before .args .j) (sym (c .enum-told .given .1) ∙ c .before .before .select .ensures) .2)
+
+measure-item-enum-known-c : (t : ℕ) → measure-item-lts.Need-enum-known-c (measure-item-calls t) (measure-item-at t) measure-item.Post
+measure-item-enum-known-c t c = search needs
+
+measure-item-add-word-2 : (t : ℕ) → measure-item-lts.Need-add-word-2 (measure-item-calls t) (measure-item-at t) measure-item.Post
+measure-item-add-word-2 t c = omega (arith, body-item _ _ _ (c .before .before .before .before .before .before .before .before .before .look .ensures) (c .before .before .before .before .if2 .taken) _ (c .before .before .before .before .before .before .before .before .before .before .before .before .before .before .args .bodies .now) _ (c .before .before .before .before .before .before .before .before .before .before .before .before .before .before .args .j) ((c .before .before .before .before .before .before .before .before .before .before .before .before .before .before .pre .1) .legal) _ (sym (c .before .c .given .1) ∙ c .before .before .before .select .ensures) .2)
+
+measure-item-measure-item-requires : (t : ℕ) → measure-item-lts.Need-measure-item-requires (measure-item-calls t) (measure-item-at t) measure-item.Post
+measure-item-measure-item-requires t c κs = 
+    let z = body-item _ _ _ (c .before .before .before .before .before .before .before .before .before .look .ensures) (c .before .before .before .before .if2 .taken) _ (c .before .before .before .before .before .before .before .before .before .before .before .before .before .before .args .bodies .now) _ (c .before .before .before .before .before .before .before .before .before .before .before .before .before .before .args .j) ((c .before .before .before .before .before .before .before .before .before .before .before .before .before .before .pre .1) .legal) _ (sym (c .before .c .given .1) ∙ c .before .before .before .select .ensures) .4 in
+    (omega (arith, c .before .before .before .before .before .before .before .before .before .before .before .before .before .before .pre .0, z), under-below _ _ _ _ (omega (arith, z)) (c .before .before .before .before .before .before .before .before .before .before .before .before .before .before .pre .1))
+
+measure-item-with-selector-requires : (t : ℕ) → measure-item-lts.Need-with-selector-requires (measure-item-calls t) (measure-item-at t) measure-item.Post
+measure-item-with-selector-requires t c κs = search needs
+
+measure-item-enum-known-c-2 : (t : ℕ) → measure-item-lts.Need-enum-known-c-2 (measure-item-calls t) (measure-item-at t) measure-item.Post
+measure-item-enum-known-c-2 t c = search needs
+
+measure-item-measure-leaf-requires : (t : ℕ) → measure-item-lts.Need-measure-leaf-requires (measure-item-calls t) (measure-item-at t) measure-item.Post
+measure-item-measure-leaf-requires t c κs = search needs
+
+measure-item-returns : (t : ℕ) → measure-item-lts.Need-returns (measure-item-calls t) (measure-item-at t) measure-item.Post
+measure-item-returns t c = rw (container-walk _ _ _ (c .before .before .before .before .look .ensures) (c .before .if1 .taken), container-write _ _ _ (c .before .before .before .before .look .ensures) (c .before .if1 .taken)) (c .measure-fields .ensures)
+
+measure-item-returns-2 : (t : ℕ) → measure-item-lts.Need-returns-2 (measure-item-calls t) (measure-item-at t) measure-item.Post
+measure-item-returns-2 t c = rw (bare-item _ _ _ (c .before .before .before .before .before .before .before .before .look .ensures) (c .before .before .before .if2 .taken) _ (c .before .before .before .before .before .before .before .before .before .before .before .before .before .args .bodies .now) _ (c .before .before .before .before .before .before .before .before .before .before .before .before .before .args .j) (sym (c .enum-told .given .1) ∙ c .before .before .select .ensures) .0, bare-item _ _ _ (c .before .before .before .before .before .before .before .before .look .ensures) (c .before .before .before .if2 .taken) _ (c .before .before .before .before .before .before .before .before .before .before .before .before .before .args .bodies .now) _ (c .before .before .before .before .before .before .before .before .before .before .before .before .before .args .j) (sym (c .enum-told .given .1) ∙ c .before .before .select .ensures) .1)
+
+measure-item-returns-3 : (t : ℕ) → measure-item-lts.Need-returns-3 (measure-item-calls t) (measure-item-at t) measure-item.Post
+measure-item-returns-3 t c = 
+    let z = body-item _ _ _ (c .before .before .before .before .before .before .before .before .before .before .before .look .ensures) (c .before .before .before .before .before .before .if2 .taken) _ (c .before .before .before .before .before .before .before .before .before .before .before .before .before .before .before .before .args .bodies .now) _ (c .before .before .before .before .before .before .before .before .before .before .before .before .before .before .before .before .args .j) ((c .before .before .before .before .before .before .before .before .before .before .before .before .before .before .before .before .pre .1) .legal) _ (sym (c .before .before .before .c .given .1) ∙ c .before .before .before .before .before .select .ensures) in
+    selected-item _ _ _ _ _ (z .0) (z .1) _ _ (c .with-selector .ensures) (c .before .measure-item .ensures)
+
+measure-item-returns-4 : (t : ℕ) → measure-item-lts.Need-returns-4 (measure-item-calls t) (measure-item-at t) measure-item.Post
+measure-item-returns-4 t c = rw (wrong-item _ _ _ (c .before .before .before .before .before .before .before .before .before .look .ensures) (c .before .before .before .before .if2 .taken) _ (c .before .before .before .before .before .before .before .before .before .before .before .before .before .before .args .bodies .now) _ (c .before .before .before .before .before .before .before .before .before .before .before .before .before .before .args .j) _ (sym (c .before .c2 .given .1) ∙ c .before .before .before .select .ensures))
+
+measure-item-returns-5 : (t : ℕ) → measure-item-lts.Need-returns-5 (measure-item-calls t) (measure-item-at t) measure-item.Post
+measure-item-returns-5 t c = rw (as-leaf _ _ _ (c .before .before .before .before .before .before .look .ensures) (c .before .before .before .if1 .left) (c .before .if2 .left), leaf-walk, leaf-write) (c .measure-leaf .ensures)
+
+pub +measure-fields+measure-item-spec : {M : Type 1} → statement M
++measure-fields+measure-item-spec =
+    close μ-measure-fields μ-measure-item (λ t. measure-fields-lts.spec (measure-fields-calls t)
+    (measure-fields-at t)
+    measure-fields.Post
+    measure-fields-Inv-loop
+    measure-fields-μ-loop
+    (measure-fields-loop-holds t)
+    (measure-fields-word-at-requires t)
+    (measure-fields-measure-item-requires t)
+    (measure-fields-enum-known-r t)
+    (measure-fields-mul-with-offset t)
+    (measure-fields-shared-slice-read-with-offset t)
+    (measure-fields-with-offset-requires t)
+    (measure-fields-add-requires t)
+    (measure-fields-enum-known-r-2 t)
+    (measure-fields-returns t)
+    (measure-fields-add-a t)
+    (measure-fields-sub-left t)
+    (measure-fields-loop-less t)
+    (measure-fields-loop-again t)
+    (measure-fields-returns-2 t))
+    λ t. measure-item-lts.spec (measure-item-calls t)
+    (measure-item-at t)
+    measure-item.Post
+    (measure-item-look-requires t)
+    (measure-item-add-first t)
+    (measure-item-measure-fields-requires t)
+    (measure-item-select-requires t)
+    (measure-item-enum-told t)
+    (measure-item-add-word t)
+    (measure-item-enum-known-c t)
+    (measure-item-add-word-2 t)
+    (measure-item-measure-item-requires t)
+    (measure-item-with-selector-requires t)
+    (measure-item-enum-known-c-2 t)
+    (measure-item-measure-leaf-requires t)
+    (measure-item-returns t)
+    (measure-item-returns-2 t)
+    (measure-item-returns-3 t)
+    (measure-item-returns-4 t)
+    (measure-item-returns-5 t)

@@ -1,0 +1,263 @@
+-- Items and fields call each other; the type number falls. The loop over the fields keeps `Writing`. Assumes nothing.
+use mathlib.Core.Path.{_≡_, refl, sym, ap, _∙_}
+use native.Mathlib.Omega.{arith}
+use borrow.Author.Needs.{needs}
+use Prim.Native.Nat.{_+_, _*_}
+use lib.ListN.{length}
+use lib.Seq.{sets}
+use Rattle.standard.specs.Parts.{join}
+use Rattle.message.specs.Steps.{rowOf}
+use Rattle.message.proofs.Rows.{row-below, row-under, row-index, under-below}
+use Rattle.message.proofs.Bodies.{node-ok}
+use Rattle.value.specs.Walk.{walkFields}
+use Rattle.value.specs.Write.{partsFrom}
+use Rattle.value.proofs.Unions.{bare-item, body-item, wrong-item}
+use Rattle.value.proofs.Rows.{container-walk, container-write}
+use Rattle.value.proofs.Fills.{Writing, writing-none, writing-upto, writing-order, writing-four, writing-room, writing-next, writing-end, fields-fit, container-ready, selector-need, bare-done, body-room, body-done, tree-walk, tree-write}
+use Prim.Native.Nat.{ℕ, _<_}
+use borrow.Fn.Kinds.{In}
+use borrow.Fn.PlainCycle.{Measures, is, falls, and}
+use Rattle.value.proofs.store.write_fields.Reads as write-fields
+use Rattle.value.proofs.store.write_fields.Kinds as write-fields-kinds
+use Rattle.value.proofs.store.+write_fields+write_item.Lts-write_fields as write-fields-lts
+use Rattle.value.proofs.store.write_item.Reads as write-item
+use Rattle.value.proofs.store.write_item.Kinds as write-item-kinds
+use Rattle.value.proofs.store.+write_fields+write_item.Lts-write_item as write-item-lts
+use Rattle.layout.proofs.look.Reads as look-reads
+use Rattle.standard.proofs.words.word_at.Reads as word-at-reads
+use Rattle.value.proofs.measure.select.Reads as select-reads
+use Rattle.value.proofs.store.begin.Reads as begin-reads
+use Rattle.value.proofs.store.next_head.Reads as next-head-reads
+use Rattle.value.proofs.store.next_tail.Reads as next-tail-reads
+use Rattle.value.proofs.store.portion_of.Reads as portion-of-reads
+use Rattle.value.proofs.store.put_leaf.Reads as put-leaf-reads
+use Rattle.value.proofs.store.put_selector.Reads as put-selector-reads
+use Rattle.value.proofs.store.+write_fields+write_item.{statement}
+use Rattle.value.proofs.store.+write_fields+write_item.Tie.{close}
+
+abbrev μ-write-fields : Measures 5 write-fields-kinds.ps ℕ
+μ-write-fields κs a = 2 * a .1 .1 .1 .1 .0
+
+abbrev μ-write-item : Measures 5 write-item-kinds.ps ℕ
+μ-write-item κs a = 2 * a .1 .1 .1 .1 .0 + 1
+
+abbrev write-fields-at : ℕ → In 5 write-fields-kinds.ps
+write-fields-at t =
+    and 5 write-fields-kinds.ps (is 5 write-fields-kinds.ps μ-write-fields t) write-fields.Pre
+
+abbrev write-fields-below : ℕ → In 5 write-fields-kinds.ps
+write-fields-below t =
+    and
+    5
+    write-fields-kinds.ps
+    (falls 5 write-fields-kinds.ps _<_ μ-write-fields t)
+    write-fields.Pre
+
+abbrev write-item-at : ℕ → In 5 write-item-kinds.ps
+write-item-at t =
+    and 5 write-item-kinds.ps (is 5 write-item-kinds.ps μ-write-item t) write-item.Pre
+
+abbrev write-item-below : ℕ → In 5 write-item-kinds.ps
+write-item-below t =
+    and 5 write-item-kinds.ps (falls 5 write-item-kinds.ps _<_ μ-write-item t) write-item.Pre
+
+abbrev write-fields-Inv-loop : write-fields-lts.InvT-loop
+write-fields-Inv-loop out₀ start lens layout t a0 n contents bodies i0 j0 own p₀ q₀ a₀ left₀ i₀ j₀ out p q a left i j = Writing lens layout t contents bodies start own (start + length (join (partsFrom (rowOf layout t a0 n) contents bodies i0 j0))) (walkFields (rowOf layout t a0 n) contents bodies i0 j0) (sets out₀ start (join (partsFrom (rowOf layout t a0 n) contents bodies i0 j0))) out₀ out p q a left i j
+
+abbrev write-fields-μ-loop : write-fields-lts.MeasureT-loop
+write-fields-μ-loop out₀ start lens layout t a0 n contents bodies i0 j0 own p₀ q₀ a₀ left₀ i₀ j₀ out p q a left i j = left
+
+-- what `write_fields` calls, at the measure t
+abbrev write-fields-calls : ℕ → write-fields-lts.Claims
+write-fields-calls t = (portion-of-reads.Asked, portion-of-reads.Learnt, word-at-reads.Asked, word-at-reads.Learnt, begin-reads.Asked, begin-reads.Learnt, write-item-below t, write-item.Post, next-head-reads.Asked, next-head-reads.Learnt, next-tail-reads.Asked, next-tail-reads.Learnt)
+
+-- what `write_item` calls, at the measure t
+abbrev write-item-calls : ℕ → write-item-lts.Claims
+write-item-calls t = (look-reads.Asked, look-reads.Learnt, write-fields-below t, write-fields.Post, select-reads.Asked, select-reads.Learnt, put-selector-reads.Asked, put-selector-reads.Learnt, write-item-below t, write-item.Post, put-leaf-reads.Asked, put-leaf-reads.Learnt)
+
+write-fields-portion-of-requires : (t : ℕ) → write-fields-lts.Need-portion-of-requires (write-fields-calls t) (write-fields-at t) write-fields.Post write-fields-Inv-loop write-fields-μ-loop
+write-fields-portion-of-requires t c κs = (c .before .before .before .before .before .pre .1 .row, c .before .before .before .before .before .pre .1 .short)
+
+write-fields-add-q : (t : ℕ) → write-fields-lts.Need-add-q (write-fields-calls t) (write-fields-at t) write-fields.Post write-fields-Inv-loop write-fields-μ-loop
+write-fields-add-q t c = omega (arith, fields-fit _ _ _ _ _ _ _ _ _ _ _ _ (c .before .before .before .before .before .before .pre .1) (c .portion-of .ensures), c .before .before .before .before .before .before .good)
+
+write-fields-loop-holds : (t : ℕ) → write-fields-lts.Need-loop-holds (write-fields-calls t) (write-fields-at t) write-fields.Post write-fields-Inv-loop write-fields-μ-loop
+write-fields-loop-holds t c = writing-none _ _ _ _ _ _ _ _ _ _ _ _ (c .before .before .before .before .before .before .pre .1) (c .portion-of .ensures)
+
+write-fields-word-at-requires : (t : ℕ) → write-fields-lts.Need-word-at-requires (write-fields-calls t) (write-fields-at t) write-fields.Post write-fields-Inv-loop write-fields-μ-loop
+write-fields-word-at-requires t c κs = search needs
+
+write-fields-mul-k : (t : ℕ) → write-fields-lts.Need-mul-k (write-fields-calls t) (write-fields-at t) write-fields.Post write-fields-Inv-loop write-fields-μ-loop
+write-fields-mul-k t c = omega (arith, c .word-at .ensures .1)
+
+write-fields-shared-slice-read-k : (t : ℕ) → write-fields-lts.Need-shared-slice-read-k (write-fields-calls t) (write-fields-at t) write-fields.Post write-fields-Inv-loop write-fields-μ-loop
+write-fields-shared-slice-read-k t c = row-index _ _ _ _ _ _ (c .before .before .before .loop .inv .row) (c .before .before .loop-test .taken) (c .before .word-at .ensures .0)
+
+write-fields-begin-requires : (t : ℕ) → write-fields-lts.Need-begin-requires (write-fields-calls t) (write-fields-at t) write-fields.Post write-fields-Inv-loop write-fields-μ-loop
+write-fields-begin-requires t c κs = writing-order _ _ _ _ _ _ _ _ _ _ _ _ _ _ _ _ _ _ _ (c .before .before .before .before .before .before .before .before .before .before .before .pre .1 .walk) (c .before .before .before .before .loop .inv) (c .before .before .before .loop-test .taken) (c .before .before .word-at .ensures .0)
+
+write-fields-write-item-requires : (t : ℕ) → write-fields-lts.Need-write-item-requires (write-fields-calls t) (write-fields-at t) write-fields.Post write-fields-Inv-loop write-fields-μ-loop
+write-fields-write-item-requires t c κs = (omega (arith, row-below _ _ _ _ _ _ (c .before .before .before .before .before .before .before .before .loop .inv .row) (c .before .before .before .before .before .before .before .loop-test .taken) (c .before .before .before .before .before .before .word-at .ensures .0), c .before .before .before .before .before .before .before .before .before .before .before .before .before .before .before .pre .0), (row-under _ _ _ _ _ _ (c .before .before .before .before .before .before .before .before .loop .inv .row) (c .before .before .before .before .before .before .before .loop-test .taken) (c .before .before .before .before .before .before .word-at .ensures .0), writing-upto _ _ _ _ _ _ _ _ _ _ _ _ _ _ _ _ _ _ _ (c .before .before .before .before .before .before .before .before .before .before .before .before .before .before .before .pre .1 .walk) (c .before .before .before .before .before .before .before .before .loop .inv) (c .before .before .before .before .before .before .before .loop-test .taken) (c .before .before .before .before .before .before .word-at .ensures .0), writing-room _ _ _ _ _ _ _ _ _ _ _ _ _ _ _ _ _ _ _ (c .before .before .before .before .before .before .before .before .before .before .before .before .before .before .before .pre .1 .walk) (c .before .before .before .before .before .before .before .before .loop .inv) (c .before .before .before .before .before .before .before .loop-test .taken) (c .before .before .before .before .before .before .word-at .ensures .0) _ refl _ _ (c .before .before .before .begin .ensures)))
+
+write-fields-next-head-requires : (t : ℕ) → write-fields-lts.Need-next-head-requires (write-fields-calls t) (write-fields-at t) write-fields.Post write-fields-Inv-loop write-fields-μ-loop
+write-fields-next-head-requires t c κs = λ z. omega (arith, writing-four _ _ _ _ _ _ _ _ _ _ _ _ _ _ _ _ _ _ _ (c .before .before .before .before .before .before .before .before .before .before .before .before .before .before .before .before .before .before .pre .1 .walk) (c .before .before .before .before .before .before .before .before .before .before .before .loop .inv) (c .before .before .before .before .before .before .before .before .before .before .loop-test .taken) (c .before .before .before .before .before .before .before .before .before .word-at .ensures .0) _ refl z, c .before .before .before .before .before .before .before .before .before .before .before .loop .inv .long, c .before .before .before .before .before .before .before .before .before .before .before .before .before .before .before .before .before .before .good)
+
+write-fields-next-tail-requires : (t : ℕ) → write-fields-lts.Need-next-tail-requires (write-fields-calls t) (write-fields-at t) write-fields.Post write-fields-Inv-loop write-fields-μ-loop
+write-fields-next-tail-requires t c κs = search needs
+
+write-fields-add-a : (t : ℕ) → write-fields-lts.Need-add-a (write-fields-calls t) (write-fields-at t) write-fields.Post write-fields-Inv-loop write-fields-μ-loop
+write-fields-add-a t c = omega (arith, c .before .before .before .before .before .before .before .before .before .before .before .before .before .loop .inv .row .near)
+
+write-fields-sub-left : (t : ℕ) → write-fields-lts.Need-sub-left (write-fields-calls t) (write-fields-at t) write-fields.Post write-fields-Inv-loop write-fields-μ-loop
+write-fields-sub-left t c = omega arith
+
+write-fields-loop-less : (t : ℕ) → write-fields-lts.Need-loop-less (write-fields-calls t) (write-fields-at t) write-fields.Post write-fields-Inv-loop write-fields-μ-loop
+write-fields-loop-less t c = omega arith
+
+write-fields-loop-again : (t : ℕ) → write-fields-lts.Need-loop-again (write-fields-calls t) (write-fields-at t) write-fields.Post write-fields-Inv-loop write-fields-μ-loop
+write-fields-loop-again t c = rw (c .before .next-head .ensures, c .next-tail .ensures) (writing-next _ _ _ _ _ _ _ _ _ _ _ _ _ _ _ _ _ _ _ (c .before .before .before .before .before .before .before .before .before .before .before .before .before .before .before .before .before .before .before .before .pre .1 .walk) (c .before .before .before .before .before .before .before .before .before .before .before .before .before .loop .inv) (c .before .before .before .before .before .before .before .before .before .before .before .before .loop-test .taken) (c .before .before .before .before .before .before .before .before .before .before .before .word-at .ensures .0) _ refl _ _ (c .before .before .before .before .before .before .before .before .begin .ensures) _ _ (c .before .before .before .before .write-item .ensures))
+
+write-fields-same-length : (t : ℕ) → write-fields-lts.Need-same-length (write-fields-calls t) (write-fields-at t) write-fields.Post write-fields-Inv-loop write-fields-μ-loop
+write-fields-same-length t c = c .before .loop .inv .long
+
+write-fields-returns : (t : ℕ) → write-fields-lts.Need-returns (write-fields-calls t) (write-fields-at t) write-fields.Post write-fields-Inv-loop write-fields-μ-loop
+write-fields-returns t c = writing-end _ _ _ _ _ _ _ _ _ _ _ _ _ _ _ _ _ _ (c .before .loop .inv) refl (c .loop-test .left)
+
+write-item-look-requires : (t : ℕ) → write-item-lts.Need-look-requires (write-item-calls t) (write-item-at t) write-item.Post
+write-item-look-requires t c κs = search needs
+
+write-item-add-first : (t : ℕ) → write-item-lts.Need-add-first (write-item-calls t) (write-item-at t) write-item.Post
+write-item-add-first t c = omega (arith, node-ok _ _ _ _ (c .before .look .ensures) (c .before .before .before .before .before .before .before .pre .1 .0) .near)
+
+write-item-write-fields-requires : (t : ℕ) → write-item-lts.Need-write-fields-requires (write-item-calls t) (write-item-at t) write-item.Post
+write-item-write-fields-requires t c κs = (omega (arith, c .before .before .before .before .before .before .before .before .before .before .pre .0), container-ready _ _ _ _ (c .before .before .before .before .look .ensures) (c .before .before .before .before .before .before .before .before .before .before .pre .1 .0) (c .before .if1 .taken) _ _ _ _ _ _ (c .before .before .before .before .before .before .before .before .before .before .pre .1 .1) (c .before .before .before .before .before .before .before .before .before .before .pre .1 .2))
+
+write-item-select-requires : (t : ℕ) → write-item-lts.Need-select-requires (write-item-calls t) (write-item-at t) write-item.Post
+write-item-select-requires t c κs = omega (arith, node-ok _ _ _ _ (c .before .before .before .before .before .look .ensures) (c .before .before .before .before .before .before .before .before .before .before .before .pre .1 .0) .near)
+
+write-item-enum-told : (t : ℕ) → write-item-lts.Need-enum-told (write-item-calls t) (write-item-at t) write-item.Post
+write-item-enum-told t c = search needs
+
+write-item-put-selector-requires : (t : ℕ) → write-item-lts.Need-put-selector-requires (write-item-calls t) (write-item-at t) write-item.Post
+write-item-put-selector-requires t c κs = 
+    let z = bare-item _ _ _ (c .before .before .before .before .before .before .before .before .before .look .ensures) (c .before .before .before .before .if2 .taken) _ (c .before .before .before .before .before .before .before .before .before .before .before .before .before .before .before .args .bodies .now) _ (c .before .before .before .before .before .before .before .before .before .before .before .before .before .before .before .args .j) (sym (c .before .enum-told .given .1) ∙ c .before .before .before .select .ensures) in
+    selector-need _ _ _ _ (c .before .before .before .before .before .before .before .before .before .before .before .before .before .before .before .args .contents .now) (c .before .before .before .before .before .before .before .before .before .before .before .before .before .before .before .args .i) _ _ (z .1) refl (z .2) (z .3) (node-ok _ _ _ _ (c .before .before .before .before .before .before .before .before .before .look .ensures) (c .before .before .before .before .before .before .before .before .before .before .before .before .before .before .before .pre .1 .0) .most (c .before .before .before .before .if2 .taken)) (c .before .before .before .before .before .before .before .before .before .before .before .before .before .before .before .pre .1 .2)
+
+write-item-add-word : (t : ℕ) → write-item-lts.Need-add-word (write-item-calls t) (write-item-at t) write-item.Post
+write-item-add-word t c = omega (arith, bare-item _ _ _ (c .before .before .before .before .before .before .before .before .before .before .before .before .look .ensures) (c .before .before .before .before .before .before .before .if2 .taken) _ (c .before .before .before .before .before .before .before .before .before .before .before .before .before .before .before .before .before .before .args .bodies .now) _ (c .before .before .before .before .before .before .before .before .before .before .before .before .before .before .before .before .before .before .args .j) (sym (c .before .before .before .before .enum-told .given .1) ∙ c .before .before .before .before .before .before .select .ensures) .2, c .before .before .before .before .before .before .before .before .before .before .before .before .before .before .before .before .before .before .good)
+
+write-item-add-to : (t : ℕ) → write-item-lts.Need-add-to (write-item-calls t) (write-item-at t) write-item.Post
+write-item-add-to t c = 
+    let z = bare-item _ _ _ (c .before .before .before .before .before .before .before .before .before .before .before .before .look .ensures) (c .before .before .before .before .before .before .before .if2 .taken) _ (c .before .before .before .before .before .before .before .before .before .before .before .before .before .before .before .before .before .before .args .bodies .now) _ (c .before .before .before .before .before .before .before .before .before .before .before .before .before .before .before .before .before .before .args .j) (sym (c .before .before .before .before .enum-told .given .1) ∙ c .before .before .before .before .before .before .select .ensures) in
+    omega (arith, selector-need _ _ _ _ (c .before .before .before .before .before .before .before .before .before .before .before .before .before .before .before .before .before .before .args .contents .now) (c .before .before .before .before .before .before .before .before .before .before .before .before .before .before .before .before .before .before .args .i) _ _ (z .1) refl (z .2) (z .3) (node-ok _ _ _ _ (c .before .before .before .before .before .before .before .before .before .before .before .before .look .ensures) (c .before .before .before .before .before .before .before .before .before .before .before .before .before .before .before .before .before .before .pre .1 .0) .most (c .before .before .before .before .before .before .before .if2 .taken)) (c .before .before .before .before .before .before .before .before .before .before .before .before .before .before .before .before .before .before .pre .1 .2) .2)
+
+write-item-enum-known-c : (t : ℕ) → write-item-lts.Need-enum-known-c (write-item-calls t) (write-item-at t) write-item.Post
+write-item-enum-known-c t c = search needs
+
+write-item-put-selector-requires-2 : (t : ℕ) → write-item-lts.Need-put-selector-requires-2 (write-item-calls t) (write-item-at t) write-item.Post
+write-item-put-selector-requires-2 t c κs = 
+    let z = body-item _ _ _ (c .before .before .before .before .before .before .before .before .before .before .look .ensures) (c .before .before .before .before .before .if2 .taken) _ (c .before .before .before .before .before .before .before .before .before .before .before .before .before .before .before .before .args .bodies .now) _ (c .before .before .before .before .before .before .before .before .before .before .before .before .before .before .before .before .args .j) ((c .before .before .before .before .before .before .before .before .before .before .before .before .before .before .before .before .pre .1 .0) .legal) _ (sym (c .before .before .c .given .1) ∙ c .before .before .before .before .select .ensures) in
+    selector-need _ _ _ _ (c .before .before .before .before .before .before .before .before .before .before .before .before .before .before .before .before .args .contents .now) (c .before .before .before .before .before .before .before .before .before .before .before .before .before .before .before .before .args .i) _ _ (z .1) refl (z .2) (z .3) (node-ok _ _ _ _ (c .before .before .before .before .before .before .before .before .before .before .look .ensures) (c .before .before .before .before .before .before .before .before .before .before .before .before .before .before .before .before .pre .1 .0) .most (c .before .before .before .before .before .if2 .taken)) (c .before .before .before .before .before .before .before .before .before .before .before .before .before .before .before .before .pre .1 .2)
+
+write-item-add-word-2 : (t : ℕ) → write-item-lts.Need-add-word-2 (write-item-calls t) (write-item-at t) write-item.Post
+write-item-add-word-2 t c = omega (arith, body-item _ _ _ (c .before .before .before .before .before .before .before .before .before .before .before .before .before .look .ensures) (c .before .before .before .before .before .before .before .before .if2 .taken) _ (c .before .before .before .before .before .before .before .before .before .before .before .before .before .before .before .before .before .before .before .args .bodies .now) _ (c .before .before .before .before .before .before .before .before .before .before .before .before .before .before .before .before .before .before .before .args .j) ((c .before .before .before .before .before .before .before .before .before .before .before .before .before .before .before .before .before .before .before .pre .1 .0) .legal) _ (sym (c .before .before .before .before .before .c .given .1) ∙ c .before .before .before .before .before .before .before .select .ensures) .2, c .before .before .before .before .before .before .before .before .before .before .before .before .before .before .before .before .before .before .before .good)
+
+write-item-add-to-2 : (t : ℕ) → write-item-lts.Need-add-to-2 (write-item-calls t) (write-item-at t) write-item.Post
+write-item-add-to-2 t c = 
+    let z = body-item _ _ _ (c .before .before .before .before .before .before .before .before .before .before .before .before .before .look .ensures) (c .before .before .before .before .before .before .before .before .if2 .taken) _ (c .before .before .before .before .before .before .before .before .before .before .before .before .before .before .before .before .before .before .before .args .bodies .now) _ (c .before .before .before .before .before .before .before .before .before .before .before .before .before .before .before .before .before .before .before .args .j) ((c .before .before .before .before .before .before .before .before .before .before .before .before .before .before .before .before .before .before .before .pre .1 .0) .legal) _ (sym (c .before .before .before .before .before .c .given .1) ∙ c .before .before .before .before .before .before .before .select .ensures) in
+    omega (arith, selector-need _ _ _ _ (c .before .before .before .before .before .before .before .before .before .before .before .before .before .before .before .before .before .before .before .args .contents .now) (c .before .before .before .before .before .before .before .before .before .before .before .before .before .before .before .before .before .before .before .args .i) _ _ (z .1) refl (z .2) (z .3) (node-ok _ _ _ _ (c .before .before .before .before .before .before .before .before .before .before .before .before .before .look .ensures) (c .before .before .before .before .before .before .before .before .before .before .before .before .before .before .before .before .before .before .before .pre .1 .0) .most (c .before .before .before .before .before .before .before .before .if2 .taken)) (c .before .before .before .before .before .before .before .before .before .before .before .before .before .before .before .before .before .before .before .pre .1 .2) .2)
+
+write-item-write-item-requires : (t : ℕ) → write-item-lts.Need-write-item-requires (write-item-calls t) (write-item-at t) write-item.Post
+write-item-write-item-requires t c κs = 
+    let z = body-item _ _ _ (c .before .before .before .before .before .before .before .before .before .before .before .before .before .before .look .ensures) (c .before .before .before .before .before .before .before .before .before .if2 .taken) _ (c .before .before .before .before .before .before .before .before .before .before .before .before .before .before .before .before .before .before .before .before .args .bodies .now) _ (c .before .before .before .before .before .before .before .before .before .before .before .before .before .before .before .before .before .before .before .before .args .j) ((c .before .before .before .before .before .before .before .before .before .before .before .before .before .before .before .before .before .before .before .before .pre .1 .0) .legal) _ (sym (c .before .before .before .before .before .before .c .given .1) ∙ c .before .before .before .before .before .before .before .before .select .ensures) in
+    (omega (arith, c .before .before .before .before .before .before .before .before .before .before .before .before .before .before .before .before .before .before .before .before .pre .0, z .4), (under-below _ _ _ _ (omega (arith, z .4)) (c .before .before .before .before .before .before .before .before .before .before .before .before .before .before .before .before .before .before .before .before .pre .1 .0), rw (z .0) at (c .before .before .before .before .before .before .before .before .before .before .before .before .before .before .before .before .before .before .before .before .pre .1 .1), body-room _ _ _ _ _ (z .1) (c .before .before .before .before .before .before .before .before .before .before .before .before .before .before .before .before .before .before .before .before .pre .1 .2) _ (c .before .before .before .put-selector2 .ensures)))
+
+write-item-enum-told-2 : (t : ℕ) → write-item-lts.Need-enum-told-2 (write-item-calls t) (write-item-at t) write-item.Post
+write-item-enum-told-2 t c = search needs
+
+write-item-put-leaf-requires : (t : ℕ) → write-item-lts.Need-put-leaf-requires (write-item-calls t) (write-item-at t) write-item.Post
+write-item-put-leaf-requires t c κs = 
+    let w = tree-walk _ _ _ (c .before .before .before .before .before .before .look .ensures) (c .before .before .before .if1 .left) (c .before .if2 .left) (c .before .before .before .before .before .before .before .before .before .before .before .before .args .contents .now) (c .before .before .before .before .before .before .before .before .before .before .before .before .args .bodies .now) (c .before .before .before .before .before .before .before .before .before .before .before .before .args .i) (c .before .before .before .before .before .before .before .before .before .before .before .before .args .j) in
+    let x = tree-write _ _ _ (c .before .before .before .before .before .before .look .ensures) (c .before .before .before .if1 .left) (c .before .if2 .left) (c .before .before .before .before .before .before .before .before .before .before .before .before .args .contents .now) (c .before .before .before .before .before .before .before .before .before .before .before .before .args .bodies .now) (c .before .before .before .before .before .before .before .before .before .before .before .before .args .i) (c .before .before .before .before .before .before .before .before .before .before .before .before .args .j) in
+    (rw w at (c .before .before .before .before .before .before .before .before .before .before .before .before .pre .1 .1), rw x at (c .before .before .before .before .before .before .before .before .before .before .before .before .pre .1 .2))
+
+write-item-same-length : (t : ℕ) → write-item-lts.Need-same-length (write-item-calls t) (write-item-at t) write-item.Post
+write-item-same-length t c = search needs
+
+write-item-returns : (t : ℕ) → write-item-lts.Need-returns (write-item-calls t) (write-item-at t) write-item.Post
+write-item-returns t c = rw (container-walk _ _ _ (c .before .before .before .before .before .before .before .look .ensures) (c .before .before .before .before .if1 .taken), container-write _ _ _ (c .before .before .before .before .before .before .before .look .ensures) (c .before .before .before .before .if1 .taken)) (c .before .before .write-fields .ensures)
+
+write-item-same-length-2 : (t : ℕ) → write-item-lts.Need-same-length-2 (write-item-calls t) (write-item-at t) write-item.Post
+write-item-same-length-2 t c = search needs
+
+write-item-returns-2 : (t : ℕ) → write-item-lts.Need-returns-2 (write-item-calls t) (write-item-at t) write-item.Post
+write-item-returns-2 t c = 
+    let z = bare-item _ _ _ (c .before .before .before .before .before .before .before .before .before .before .before .before .look .ensures) (c .before .before .before .before .before .before .before .if2 .taken) _ (c .before .before .before .before .before .before .before .before .before .before .before .before .before .before .before .before .before .before .args .bodies .now) _ (c .before .before .before .before .before .before .before .before .before .before .before .before .before .before .before .before .before .before .args .j) (sym (c .before .before .before .before .enum-told .given .1) ∙ c .before .before .before .before .before .before .select .ensures) in
+    bare-done _ _ _ _ _ _ _ (z .0) (z .1) _ (c .before .before .put-selector .ensures)
+
+write-item-same-length-3 : (t : ℕ) → write-item-lts.Need-same-length-3 (write-item-calls t) (write-item-at t) write-item.Post
+write-item-same-length-3 t c = search needs
+
+write-item-returns-3 : (t : ℕ) → write-item-lts.Need-returns-3 (write-item-calls t) (write-item-at t) write-item.Post
+write-item-returns-3 t c = 
+    let z = body-item _ _ _ (c .before .before .before .before .before .before .before .before .before .before .before .before .before .before .before .before .before .look .ensures) (c .before .before .before .before .before .before .before .before .before .before .before .before .if2 .taken) _ (c .before .before .before .before .before .before .before .before .before .before .before .before .before .before .before .before .before .before .before .before .before .before .before .args .bodies .now) _ (c .before .before .before .before .before .before .before .before .before .before .before .before .before .before .before .before .before .before .before .before .before .before .before .args .j) ((c .before .before .before .before .before .before .before .before .before .before .before .before .before .before .before .before .before .before .before .before .before .before .before .pre .1 .0) .legal) _ (sym (c .before .before .before .before .before .before .before .before .before .c .given .1) ∙ c .before .before .before .before .before .before .before .before .before .before .before .select .ensures) in
+    body-done _ _ _ _ _ _ _ (z .0) (z .1) _ (c .before .before .before .before .before .before .put-selector2 .ensures) _ _ (c .before .before .write-item .ensures)
+
+write-item-returns-4 : (t : ℕ) → write-item-lts.Need-returns-4 (write-item-calls t) (write-item-at t) write-item.Post
+write-item-returns-4 t c = absurd (rw (wrong-item _ _ _ (c .before .before .before .before .before .before .before .before .look .ensures) (c .before .before .before .if2 .taken) (c .before .before .before .before .before .before .before .before .before .before .before .before .before .before .args .contents .now) (c .before .before .before .before .before .before .before .before .before .before .before .before .before .before .args .bodies .now) (c .before .before .before .before .before .before .before .before .before .before .before .before .before .before .args .i) (c .before .before .before .before .before .before .before .before .before .before .before .before .before .before .args .j) _ (sym (c .enum-told2 .given .1) ∙ c .before .before .select .ensures)) at (c .before .before .before .before .before .before .before .before .before .before .before .before .before .before .pre .1 .1))
+
+write-item-same-length-4 : (t : ℕ) → write-item-lts.Need-same-length-4 (write-item-calls t) (write-item-at t) write-item.Post
+write-item-same-length-4 t c = search needs
+
+write-item-returns-5 : (t : ℕ) → write-item-lts.Need-returns-5 (write-item-calls t) (write-item-at t) write-item.Post
+write-item-returns-5 t c = rw (tree-walk _ _ _ (c .before .before .before .before .before .before .before .before .before .look .ensures) (c .before .before .before .before .before .before .if1 .left) (c .before .before .before .before .if2 .left), tree-write _ _ _ (c .before .before .before .before .before .before .before .before .before .look .ensures) (c .before .before .before .before .before .before .if1 .left) (c .before .before .before .before .if2 .left)) (c .before .before .put-leaf .ensures)
+
+pub +write-fields+write-item-spec : {M : Type 1} → statement M
++write-fields+write-item-spec = close μ-write-fields μ-write-item (λ t. write-fields-lts.spec (write-fields-calls t)
+    (write-fields-at t)
+    write-fields.Post
+    write-fields-Inv-loop
+    write-fields-μ-loop
+    (write-fields-portion-of-requires t)
+    (write-fields-add-q t)
+    (write-fields-loop-holds t)
+    (write-fields-word-at-requires t)
+    (write-fields-mul-k t)
+    (write-fields-shared-slice-read-k t)
+    (write-fields-begin-requires t)
+    (write-fields-write-item-requires t)
+    (write-fields-next-head-requires t)
+    (write-fields-next-tail-requires t)
+    (write-fields-add-a t)
+    (write-fields-sub-left t)
+    (write-fields-loop-less t)
+    (write-fields-loop-again t)
+    (write-fields-same-length t)
+    (write-fields-returns t))
+    λ t. write-item-lts.spec (write-item-calls t)
+    (write-item-at t)
+    write-item.Post
+    (write-item-look-requires t)
+    (write-item-add-first t)
+    (write-item-write-fields-requires t)
+    (write-item-select-requires t)
+    (write-item-enum-told t)
+    (write-item-put-selector-requires t)
+    (write-item-add-word t)
+    (write-item-add-to t)
+    (write-item-enum-known-c t)
+    (write-item-put-selector-requires-2 t)
+    (write-item-add-word-2 t)
+    (write-item-add-to-2 t)
+    (write-item-write-item-requires t)
+    (write-item-enum-told-2 t)
+    (write-item-put-leaf-requires t)
+    (write-item-same-length t)
+    (write-item-returns t)
+    (write-item-same-length-2 t)
+    (write-item-returns-2 t)
+    (write-item-same-length-3 t)
+    (write-item-returns-3 t)
+    (write-item-returns-4 t)
+    (write-item-same-length-4 t)
+    (write-item-returns-5 t)

@@ -1,0 +1,4 @@
+pub mod Walk
+pub mod Write
+pub mod Steps
+pub mod Stores

@@ -1,0 +1,332 @@
+// The form of a value measured: its first fault, or how far it goes and how long what it says is. Nothing is written.
+use layout::NO_BODY;
+use layout::Node;
+use layout::look;
+use standard::Refusal;
+use standard::words::word_at;
+ghost use mathlib.Core.Path.{_≡_};
+ghost use Prim.Native.Nat.{_+_, _/_, _≤_, _<_, _^_, min};
+ghost use lib.ListN.{length, getD};
+ghost use lib.Dec.{ltb, leb};
+ghost use Rattle.standard.specs.Choice.{pick};
+ghost use Rattle.standard.specs.Types.{freeBytes, bitList};
+ghost use Rattle.standard.specs.Parts.{join};
+ghost use Rattle.standard.specs.declared.Refusal.the-variants.{BadValue};
+ghost use Rattle.layout.specs.Tree.{leafOf, treeOf, headOf};
+ghost use Rattle.message.specs.Read.{rawBytes};
+ghost use Rattle.message.specs.Steps.{Under, Row, rowOf};
+ghost use Rattle.value.specs.Walk.{upto, wrong, withBody, walkBits, walkItem, walkFields};
+ghost use Rattle.value.specs.Write.{writeItem, partsFrom};
+ghost use Rattle.value.specs.Steps.{cap, measured, selected, extra, choose, chosenAt};
+ghost use Rattle.value.specs.declared.measure.Mark.{Mark};
+ghost use Rattle.value.specs.declared.measure.Measured.{Measured};
+
+// How far the contents and the bodies are used, and the length of what they say, as far as 2^32.
+pub(crate) struct Mark {
+    pub word: usize,
+    pub byte: usize,
+    pub len: usize,
+}
+
+pub(crate) enum Measured {
+    Upto(Mark),
+    Wrong(Refusal),
+}
+
+// What a union's contents word chooses: an option without body, the type of a body, or a refusal.
+pub(crate) enum Choice {
+    Bare,
+    Body(usize),
+    Wrong(Refusal),
+}
+
+// From 2^32 on a length is too large, whatever it is.
+fn capped(n: usize) -> usize
+    ensures { λ r. ⌜ r ≡ cap n ⌝ }
+{
+    if n < 4294967296 { n } else { 4294967296 }
+}
+
+fn add(a: usize, b: usize) -> usize
+    ensures { λ r. ⌜ r ≡ cap (a + b) ⌝ }
+{
+    let x = capped(a);
+    let y = capped(b);
+    let sum = x + y;
+    capped(sum)
+}
+
+// The raw bytes of so many bits.
+pub(crate) fn raw_bytes(bits: usize) -> usize
+    ensures { λ r. ⌜ r ≡ rawBytes bits ⌝ }
+{
+    let q = bits / 8;
+    if bits % 8 != 0 {
+        return q + 1;
+    }
+    if q == 0 {
+        return 1;
+    }
+    q
+}
+
+// Whether the bodies have n bytes from j on.
+fn has(bodies: &[u8], j: usize, n: usize) -> bool
+    ensures { λ r. ⌜ r ≡ leb (j + n) (length (now (bodies .entry))) ⌝ }
+{
+    let len = bodies.len();
+    if j > len {
+        return false;
+    }
+    let left = len - j;
+    if n <= left { true } else { false }
+}
+
+// A number or fixed bytes: n bytes.
+fn measure_exact(bodies: &[u8], i: usize, j: usize, n: usize) -> Measured
+    ensures { λ r. ⌜ r ≡ measured (withBody (now (bodies .entry)) j n (upto i (j + n))) n ⌝ }
+{
+    let there = has(bodies, j, n);
+    if there {
+        let byte = j + n;
+        let len = capped(n);
+        Measured::Upto(Mark { word: i, byte, len })
+    } else {
+        Measured::Wrong(Refusal::BadValue(1, bodies.len()))
+    }
+}
+
+// A boolean: one byte, 0 or 1.
+fn measure_boolean(bodies: &[u8], i: usize, j: usize) -> Measured
+    ensures { λ r. ⌜ r ≡ measured (withBody (now (bodies .entry)) j 1 (pick (ltb (getD (now (bodies .entry)) j 0) 2) (upto i (j + 1)) (wrong (BadValue 1 j)))) 1 ⌝ }
+{
+    let len = bodies.len();
+    if j >= len {
+        return Measured::Wrong(Refusal::BadValue(1, len));
+    }
+    if bodies[j] < 2 {
+        let byte = j + 1;
+        return Measured::Upto(Mark {
+            word: i,
+            byte,
+            len: 1,
+        });
+    }
+    Measured::Wrong(Refusal::BadValue(1, j))
+}
+
+// Raw bytes of k bits, with zero above the last bit; n bytes are written of them.
+fn measure_bits(bodies: &[u8], k: usize, i: usize, j: usize, n: usize) -> Measured
+    ensures { λ r. ⌜ r ≡ measured (walkBits (now (bodies .entry)) k i j) n ⌝ }
+{
+    let raw = raw_bytes(k);
+    let there = has(bodies, j, raw);
+    if !there {
+        return Measured::Wrong(Refusal::BadValue(1, bodies.len()));
+    }
+    let byte = j + raw;
+    let last = byte - 1;
+    let before = raw - 1;
+    let bits = k - 8 * before;
+    let x = bodies[last] as usize;
+    if x >> bits == 0 {
+        let len = capped(n);
+        return Measured::Upto(Mark { word: i, byte, len });
+    }
+    Measured::Wrong(Refusal::BadValue(1, last))
+}
+
+// Free bytes up to their limit.
+fn measure_free(contents: &[u32], bodies: &[u8], i: usize, j: usize, limit: usize) -> Measured
+    ensures { λ r. ⌜ r ≡ measured (walkItem (freeBytes 0 limit) (now (contents .entry)) (now (bodies .entry)) i j) (getD (now (contents .entry)) i 0) ⌝ }
+{
+    let words = contents.len();
+    if i >= words {
+        return Measured::Wrong(Refusal::BadValue(0, words));
+    }
+    let n = contents[i] as usize;
+    if n > limit {
+        return Measured::Wrong(Refusal::BadValue(0, i));
+    }
+    let next = i + 1;
+    measure_exact(bodies, next, j, n)
+}
+
+// A bit list of at most limit bits.
+fn measure_list(contents: &[u32], bodies: &[u8], i: usize, j: usize, limit: usize) -> Measured
+    ensures { λ r. ⌜ r ≡ measured (walkItem (bitList 0 limit) (now (contents .entry)) (now (bodies .entry)) i j) (getD (now (contents .entry)) i 0 / 8 + 1) ⌝ }
+{
+    let words = contents.len();
+    if i >= words {
+        return Measured::Wrong(Refusal::BadValue(0, words));
+    }
+    let k = contents[i] as usize;
+    if k > limit {
+        return Measured::Wrong(Refusal::BadValue(0, i));
+    }
+    let next = i + 1;
+    let n = k / 8 + 1;
+    measure_bits(bodies, k, next, j, n)
+}
+
+// An item of a type that has no lower types.
+fn measure_leaf(n: Node, contents: &[u32], bodies: &[u8], i: usize, j: usize) -> Measured
+    ensures { λ r. ⌜ r ≡ measured (walkItem (leafOf 0 n) (now (contents .entry)) (now (bodies .entry)) i j) (length (writeItem (leafOf 0 n) (now (contents .entry)) (now (bodies .entry)) i j)) ⌝ }
+{
+    let kind = n.kind;
+    let second = n.second;
+    if kind == 0 {
+        return measure_exact(bodies, i, j, second);
+    }
+    if kind == 1 {
+        return measure_boolean(bodies, i, j);
+    }
+    if kind == 2 {
+        return measure_exact(bodies, i, j, second);
+    }
+    if kind == 3 {
+        return measure_free(contents, bodies, i, j, second);
+    }
+    if kind == 4 {
+        let raw = raw_bytes(second);
+        return measure_bits(bodies, second, i, j, raw);
+    }
+    measure_list(contents, bodies, i, j, second)
+}
+
+// The option whose word is w.
+fn option_at(w: usize) -> Choice
+    ensures { λ r. ⌜ r ≡ chosenAt w ⌝ }
+{
+    if w == NO_BODY {
+        Choice::Bare
+    } else {
+        Choice::Body(w)
+    }
+}
+
+// What the contents word at i chooses among the n options that the words from a on name.
+pub(crate) fn select(layout: &[u8], a: usize, n: usize, contents: &[u32], i: usize) -> Choice
+    requires { ⌜ a < 2 ^ 34 ⌝ }
+    ensures { λ r. ⌜ r ≡ choose (now (layout .entry)) a n (now (contents .entry)) i ⌝ }
+{
+    let words = contents.len();
+    if i >= words {
+        return Choice::Wrong(Refusal::BadValue(0, words));
+    }
+    let k = contents[i] as usize;
+    if k >= n {
+        return Choice::Wrong(Refusal::BadValue(0, i));
+    }
+    let place = a + k;
+    let w = word_at(layout, place);
+    option_at(w)
+}
+
+// A union's selector byte, with what its body has.
+fn with_selector(r: Measured) -> Measured
+    ensures { λ x. ⌜ x ≡ selected r ⌝ }
+{
+    match r {
+        Measured::Upto(m) => {
+            let len = add(1, m.len);
+            Measured::Upto(Mark {
+                word: m.word,
+                byte: m.byte,
+                len,
+            })
+        }
+        Measured::Wrong(x) => Measured::Wrong(x),
+    }
+}
+
+// What a field takes in its container: an offset besides, where its length k says that it is of variable size.
+fn with_offset(k: usize, len: usize) -> usize
+    ensures { λ r. ⌜ r ≡ cap (extra (headOf k) + len) ⌝ }
+{
+    if k == 0 { add(4, len) } else { capped(len) }
+}
+
+// Measures the form of an item of the type t, from the contents word i and the body byte j on.
+pub(crate) fn measure_item(
+    lens: &[usize],
+    layout: &[u8],
+    t: usize,
+    contents: &[u32],
+    bodies: &[u8],
+    i: usize,
+    j: usize,
+) -> Measured
+    requires { ⌜ Under (now lens) (now layout) (t + 1) ⌝ }
+    ensures { λ r. ⌜ r ≡ measured (walkItem (treeOf (now (layout .entry)) t) (now (contents .entry)) (now (bodies .entry)) i j) (length (writeItem (treeOf (now (layout .entry)) t) (now (contents .entry)) (now (bodies .entry)) i j)) ⌝ }
+{
+    let n = look(layout, t);
+    let first = n.at + 2;
+    if n.kind == 6 {
+        measure_fields(lens, layout, t, first, n.second, contents, bodies, i, j)
+    } else if n.kind == 7 {
+        let c = select(layout, first, n.second, contents, i);
+        match c {
+            Choice::Bare => {
+                let word = i + 1;
+                Measured::Upto(Mark {
+                    word,
+                    byte: j,
+                    len: 1,
+                })
+            }
+            Choice::Body(o) => {
+                let word = i + 1;
+                let r = measure_item(lens, layout, o, contents, bodies, word, j);
+                with_selector(r)
+            }
+            Choice::Wrong(x) => Measured::Wrong(x),
+        }
+    } else {
+        measure_leaf(n, contents, bodies, i, j)
+    }
+}
+
+// Measures the forms of the n fields of type t that the words from a0 on name.
+fn measure_fields(
+    lens: &[usize],
+    layout: &[u8],
+    t: usize,
+    a0: usize,
+    n: usize,
+    contents: &[u32],
+    bodies: &[u8],
+    i0: usize,
+    j0: usize,
+) -> Measured
+    requires { ⌜ Row (now lens) (now layout) t a0 n ⌝ }
+    ensures { λ r. ⌜ r ≡ measured (walkFields (rowOf (now (layout .entry)) t a0 n) (now (contents .entry)) (now (bodies .entry)) i0 j0) (length (join (partsFrom (rowOf (now (layout .entry)) t a0 n) (now (contents .entry)) (now (bodies .entry)) i0 j0))) ⌝ }
+{
+    let mut sum: usize = 0;
+    let mut a = a0;
+    let mut left = n;
+    let mut i = i0;
+    let mut j = j0;
+    while left > 0 {
+        let f = word_at(layout, a);
+        let r = measure_item(lens, layout, f, contents, bodies, i, j);
+        match r {
+            Measured::Upto(m) => {
+                let own = with_offset(lens[f], m.len);
+                sum = add(sum, own);
+                i = m.word;
+                j = m.byte;
+            }
+            Measured::Wrong(x) => {
+                return Measured::Wrong(x);
+            }
+        }
+        a += 1;
+        left -= 1;
+    }
+    Measured::Upto(Mark {
+        word: i,
+        byte: j,
+        len: sum,
+    })
+}
