@@ -1,2 +1,3 @@
--- What the walks share.
+-- What the walks share, and what a refusal leaves.
 pub mod Land
+pub mod Refusals

@@ -1,2 +1,3 @@
--- What the walks share.
+-- What the walks share, and how a reader goes on.
 pub mod Land
+pub mod Readers

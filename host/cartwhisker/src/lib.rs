@@ -176,16 +176,23 @@ fn listing_by_guess<const ROOM: usize>(
     }
 }
 
-/// The records of a buffer up to the first mark.
+/// The records of a buffer up to the first mark, in a vector of just that length.
 fn written(buffer: &[u8]) -> Vec<Record> {
-    let records = buffer.chunks_exact(RECORD_BYTES).take_while(|record| record[..4] != UNWRITTEN);
-    records.map(record).collect()
+    let records = || buffer.chunks_exact(RECORD_BYTES);
+    let count = records().take_while(|record| record[..4] != UNWRITTEN).count();
+    let mut found = Vec::with_capacity(count);
+    found.extend(buffer[..count * RECORD_BYTES].chunks_exact(RECORD_BYTES).map(record));
+    found
 }
 
 fn record(bytes: &[u8]) -> Record {
-    let mut words = words(bytes);
-    let mut next = || words.next().expect("a record has three words");
-    Record { type_number: next(), start: next(), end: next() }
+    let bytes: &[u8; RECORD_BYTES] = bytes.try_into().expect("a record has so many bytes");
+    let [a, b, c, d, e, f, g, h, i, j, k, l] = *bytes;
+    Record {
+        type_number: u32::from_le_bytes([a, b, c, d]),
+        start: u32::from_le_bytes([e, f, g, h]),
+        end: u32::from_le_bytes([i, j, k, l]),
+    }
 }
 
 /// Writes the listing into a lent buffer, [`RECORD_BYTES`] a record, and gives the count of

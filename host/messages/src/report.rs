@@ -129,7 +129,7 @@ impl Report {
             let told = format!("check says {checked:?}, listing {listed:?}");
             self.differ(subject, message, u32::MAX, u32::MAX, told);
         }
-        if self.count.is_multiple_of(64) {
+        if self.count % 64 == 0 {
             if let Err(told) = self.rooms(subject, message, &listed) {
                 self.differ(subject, message, u32::MAX, u32::MAX, told);
             }
@@ -186,7 +186,7 @@ impl Report {
         tally.cases += 1;
         *tally.numbers.entry(number).or_default() += 1;
         self.count += 1;
-        if self.count.is_multiple_of(LOOK) {
+        if self.count % LOOK == 0 {
             self.progress();
         }
     }

@@ -1,0 +1,39 @@
+-- A number has at most 20 digits. Assumes nothing.
+use Rattle.listing.proofs.Bounds.{few-digits}
+use native.Mathlib.Omega.{arith}
+use borrow.Author.Needs.{needs}
+use Rattle.listing.proofs.print.put.Statement.{statement}
+use Rattle.listing.proofs.print.put.Tie as tie
+
+decimal-requires : tie.Need-decimal-requires
+decimal-requires c κs = search needs
+
+copy-requires : tie.Need-copy-requires
+copy-requires c κs = (omega (arith, few-digits _ _ (c .before .before .before .before .before .fits .n .fits) (c .before .before .decimal .ensures .1 .0)), omega (arith, few-digits _ _ (c .before .before .before .before .before .fits .n .fits) (c .before .before .decimal .ensures .1 .0)))
+
+add-last : tie.Need-add-last
+add-last c = omega (arith, few-digits _ _ (c .before .before .before .before .before .before .before .before .fits .n .fits) (c .before .before .before .before .before .decimal .ensures .1 .0))
+
+slice-write-out : tie.Need-slice-write-out
+slice-write-out c = omega (arith, few-digits _ _ (c .before .before .before .before .before .before .before .before .fits .n .fits) (c .before .before .before .before .before .decimal .ensures .1 .0))
+
+add-result : tie.Need-add-result
+add-result c = omega (arith, few-digits _ _ (c .before .before .before .before .before .before .before .before .fits .n .fits) (c .before .before .before .before .before .decimal .ensures .1 .0))
+
+same-length : tie.Need-same-length
+same-length c = search needs
+
+returns : tie.Need-returns
+returns c = omega (arith, few-digits _ _ (c .before .before .before .before .before .before .before .before .fits .n .fits) (c .before .before .before .before .before .decimal .ensures .1 .0))
+
+pub put-spec : {M : Type 1} → statement M
+put-spec =
+    tie.close
+    (tie.spec
+    decimal-requires
+    copy-requires
+    add-last
+    slice-write-out
+    add-result
+    same-length
+    returns)
