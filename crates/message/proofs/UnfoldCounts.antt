@@ -1,12 +1,11 @@
 -- The value form of an accepted item has as many words and bytes as the check counts. Assumes nothing.
 use mathlib.Core.Path.{_≡_, refl}
 use mathlib.Core.List.{List}
-use Prim.Native.Nat.{ℕ, _+_, _<_, _≤_, _^_}
+use Prim.Native.Nat.{ℕ, _+_, _≤_}
 use native.Mathlib.Omega.{arith}
 use borrow.Author.Tests.{eqb-true}
 use lib.ListN.{length, getD, drop, length-append}
 use lib.Dec.{eqb, ltb, leb}
-use Rattle.standard.specs.Bytes.{Room}
 use Rattle.standard.specs.Types.{Ty, Tys, Opts, number, boolean, fixedBytes, freeBytes, bitVector, bitList, container, union, end, field, over, bare, body, head, heads}
 use Rattle.standard.specs.Parts.{spanOf, part}
 use Rattle.decode.specs.Builder.{layOut}
@@ -16,7 +15,6 @@ use Rattle.message.specs.Read.{rawBytes, one, andThen, readItem, readFie
 use Rattle.message.specs.Unfold.{bitCount, rawOf, unfoldWords, wordsFields, wordsOption, unfoldBytes, bytesFields, bytesOption, Rooms}
 use Rattle.message.specs.declared.Counts.{Counts}
 use Rattle.message.specs.declared.Answer.the-variants.{Accepted}
-use Rattle.message.specs.declared.unfolding.Place.{Place}
 use Rattle.message.proofs.Answers.{none, single, not-accepted, accepted-same, pick-cases, left-accepted, right-accepted, leaf-accepted, then-accepted, behind-accepted, built-accepted, vector-accepted, list-accepted}
 use Rattle.message.proofs.UnfoldLeaves.{length-raw}
 

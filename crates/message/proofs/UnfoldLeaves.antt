@@ -1,21 +1,19 @@
 -- The value form of a leaf: bytes copied one by one, and bits without their mark. Assumes nothing.
 use mathlib.Core.Path.{_≡_, refl, sym, ap, _∙_}
 use mathlib.Core.List.{List, [], _∷_, _++_}
-use mathlib.Core.Bool.{Bool, true, false}
 use Prim.Native.Nat.{ℕ, zero, suc, _+_, _-_, _*_, _/_, _%_, _≤_, _<_, _^_, max}
 use native.Mathlib.Nat.{add-zero}
 use native.Mathlib.Numerals.{add-one}
 use native.Mathlib.Omega.{arith}
-use borrow.Author.Tests.{eq-eqb, ne-eqb}
+use borrow.Author.Tests.{ne-eqb}
 use lib.ListN.{length, getD, take, drop, set, length-append, length-take, take-append-drop}
-use lib.Seq.{sets, length-sets, take-suc, take-all, drop-cons, drop-length}
+use lib.Seq.{length-sets, take-suc, take-all, drop-cons, drop-length}
 use lib.Pow.{pow-add}
 use lib.Pow as Pow
 use Rattle.standard.specs.Bytes.{Bytes, le, num, Stored, Room}
-use Rattle.standard.specs.Bits.{packs, marked, bitNum}
-use Rattle.standard.specs.Types.{Ty, number, boolean, fixedBytes, freeBytes, bitVector, bitList}
+use Rattle.standard.specs.Types.{freeBytes, bitList}
 use Rattle.standard.specs.declared.Refusal.{Refusal}
-use Rattle.standard.proofs.Bytes.{bytes-take, bytes-append, le-num, num-bound}
+use Rattle.standard.proofs.Bytes.{bytes-take, bytes-append, le-num}
 use Rattle.standard.proofs.Bits.{bitsOf, packs-le, length-packs, length-bitsOf, bitNum-low, bitNum-bound, length-marked, num-marked, num-append, pow-bytes}
 use Rattle.standard.proofs.Store.{stored-then, stored-none}
 use Rattle.bitfield.specs.Body.{bitListBody}
@@ -65,9 +63,6 @@ raw-rest : (n z y v p : ℕ) → v ≡ n + p * (z + y) → v - p * z ≡ n + p *
 raw-rest n z y v p e = omega arith
 
 module _ (b : List ℕ) (k : ℕ) (h : Bytes b) (m : MarkedAt b k) where
-  raw-last : ℕ
-  raw-last = getD b (k / 8) 0
-
   raw-cut : b ≡ take (k / 8) b ++ (getD b (k / 8) 0 ∷ [])
   raw-cut =
       let e : k / 8 < length b = omega (arith, m .long) in

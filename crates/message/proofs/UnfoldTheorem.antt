@@ -5,14 +5,14 @@
 --     unfold-refused   of the call: a refusal changes neither buffer
 use mathlib.Core.Path.{_≡_, refl, sym, ap, ap₂, _∙_}
 use mathlib.Core.Logic.{inl, inr}
-use mathlib.Core.List.{List, [], _∷_, _++_}
+use mathlib.Core.List.{List, _∷_, _++_}
 use mathlib.Core.Bool.{Bool, true, false}
 use Prim.Native.Nat.{ℕ, _+_, _/_, _≤_, _<_, _^_}
 use native.Mathlib.Omega.{arith}
 use borrow.Author.Tests.{eq-eqb, ne-eqb, le-ltb, ltb-false}
 use lib.ListN.{length}
 use lib.Seq.{sets}
-use lib.Dec.{eqb, ltb}
+use lib.Dec.{ltb}
 use Rattle.standard.specs.Choice.{pick}
 use Rattle.standard.specs.Bytes.{Bytes, num}
 use Rattle.standard.specs.Bits.{packs, pack, marked}
@@ -27,7 +27,7 @@ use Rattle.standard.proofs.Laws.{heads-parts, values-sized, piece-bytes, piece-
 use Rattle.bitfield.proofs.Standard.{list-sound, list-complete}
 use Rattle.layout.specs.Table.{tableOf}
 use Rattle.layout.specs.declared.Checked.the-variants.{Upto}
-use Rattle.message.specs.Read.{rawBytes, readItem}
+use Rattle.message.specs.Read.{rawBytes}
 use Rattle.message.specs.Check.{messageType, checkMessage, typeUnder}
 use Rattle.message.specs.Form.{rawBits, contents, contentsAll, contentsOption, bodies, bodiesAll, bodiesOption}
 use Rattle.message.specs.Unfold.{rawOf, unfoldWords, wordsFields, wordsOption, unfoldBytes, bytesFields, bytesOption, unfoldedOf, filledOf, unfoldMessage, unfoldedWords, unfoldedBytes}

@@ -2,7 +2,7 @@
 use mathlib.Core.Path.{_≡_, refl, sym, ap, _∙_}
 use mathlib.Core.List.{List, [], _∷_, _++_, append-nil, append-assoc}
 use mathlib.Core.Bool.{Bool, true, false}
-use Prim.Native.Nat.{ℕ, zero, suc, _+_, _-_, _≤_, _<_, _^_}
+use Prim.Native.Nat.{ℕ, zero, suc, _+_, _-_, _≤_, _<_}
 use native.Mathlib.Nat.{add-zero}
 use native.Mathlib.Omega.{arith}
 use borrow.Author.Tests.{eqb-true, eqb-false, eq-eqb, ne-eqb}
@@ -10,8 +10,8 @@ use lib.ListN.{length, getD, take, drop, length-drop}
 use lib.Seq.{take-all}
 use lib.Dec.{eqb}
 use Rattle.standard.specs.Choice.{pick}
-use Rattle.standard.specs.Bytes.{wordAt, Stored, Room}
-use Rattle.standard.specs.Types.{Ty, Tys, Opts, boolean, container, union, bare, body, head}
+use Rattle.standard.specs.Bytes.{wordAt, Stored}
+use Rattle.standard.specs.Types.{Ty, Opts, boolean, union, bare, body, head}
 use Rattle.standard.specs.Parts.{spanOf, part, InRange}
 use Rattle.standard.specs.declared.Span.{Span}
 use Rattle.standard.specs.declared.Refusal.{Refusal}

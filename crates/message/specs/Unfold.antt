@@ -5,7 +5,7 @@ use mathlib.Core.List.{List, [], _∷_, _++_}
 use lib.ListN.{length, getD, drop}
 use lib.Seq.{sets}
 use lib.Dec.{eqb, ltb}
-use Rattle.standard.specs.Choice.{pick, orElse}
+use Rattle.standard.specs.Choice.{pick}
 use Rattle.standard.specs.Bytes.{num, Stored, Room}
 use Rattle.standard.specs.Bits.{packs}
 use Rattle.standard.specs.Types.{Ty, Tys, Opts, number, boolean, fixedBytes, freeBytes, bitVector, bitList, container, union, end, field, over, bare, body, head, heads}

@@ -1,5 +1,4 @@
 -- As the table goes. Assumes nothing.
-use mathlib.Core.Path.{_≡_, refl, sym, ap, _∙_}
 use borrow.Author.Needs.{needs}
 use Rattle.standard.proofs.Bytes.{bytes-known}
 use Rattle.layout.proofs.Tables.{table-checked, table-known}

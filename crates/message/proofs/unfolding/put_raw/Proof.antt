@@ -1,5 +1,5 @@
 -- The whole bytes, and what is left of the last one without its mark. Assumes nothing.
-use mathlib.Core.Path.{_≡_, refl, sym, ap, _∙_}
+use mathlib.Core.Path.{_∙_}
 use native.Mathlib.Omega.{arith}
 use lib.ListN.{length-take}
 use Rattle.standard.proofs.Bytes.{bytes-known}
