@@ -89,9 +89,9 @@ pub mark-need : (b : List ℕ) (j k : ℕ) → j + rawBytes k ≤ length b → g
 mark-need b j k h l = (
   omega arith,
   λ z.
-  let e : j + rawBytes k - 1 ≡ j + k / 8 = omega arith in
-  let f : lastBits k ≡ k % 8 = omega arith in
-  (omega arith, rw (e, f) at l),
+      let e : j + rawBytes k - 1 ≡ j + k / 8 = omega arith in
+      let f : lastBits k ≡ k % 8 = omega arith in
+      (omega arith, rw (e, f) at l),
 )
 
 -- The mark set in a byte that has no bit there or above.
@@ -205,8 +205,8 @@ module _ (x : List ℕ) (ys : List Part) (o : List ℕ) (p q start own e : ℕ) 
         tails = omega (arith, s .ends, simp length-append at (g .tails));
         apart = omega (arith, g .apart, s .ends);
         rest =
-          rw (s .list, s .ends, d, a, sets-append x (backs ys))
-          (rw (length-le 4 (q - start)) at (ap (λ (v : List ℕ). sets v q (x ++ backs ys)) y) ∙ g .rest);
+            rw (s .list, s .ends, d, a, sets-append x (backs ys))
+            (rw (length-le 4 (q - start)) at (ap (λ (v : List ℕ). sets v q (x ++ backs ys)) y) ∙ g .rest);
       }
 
   module _ (h : Head) (at : ℕ) (o₁ : List ℕ) (u : Begun h o p q start at o₁) (g : Two (piece h x ∷ ys) o p q start own e z) where

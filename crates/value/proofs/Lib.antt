@@ -5,3 +5,4 @@ pub mod Rows
 pub mod Leaves
 pub mod Fills
 pub mod Calls
+pub mod Forms

@@ -78,8 +78,8 @@ module _ (lens l : List ℕ) (t a₀ n : ℕ) (c b : List ℕ) (i₀ j₀ : ℕ)
         some = omega (arith, g .some);
         small = omega arith;
         same =
-          measured-cap (walkFields (rowOf l t (a + 1) (left - 1)) c b (m .word) (m .byte)) _ _ v
-          ∙ rw (fields-walk lens l t a left f (g .row) z e c b i j, fields-parts lens l t a left f (g .row) z e c b i j, q .0) at (g .same);
+            measured-cap (walkFields (rowOf l t (a + 1) (left - 1)) c b (m .word) (m .byte)) _ _ v
+            ∙ rw (fields-walk lens l t a left f (g .row) z e c b i j, fields-parts lens l t a left f (g .row) z e c b i j, q .0) at (g .same);
       }
 
   pub measuring-stop : (x : Refusal) → Measured.Wrong x ≡ measured (walkItem (treeOf l f) c b i j) (length (writeItem (treeOf l f) c b i j)) → Measured.Wrong x ≡ measured (walkFields (rowOf l t a₀ n) c b i₀ j₀) (length (join (partsFrom (rowOf l t a₀ n) c b i₀ j₀)))

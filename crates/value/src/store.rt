@@ -201,7 +201,19 @@ pub(crate) fn write_item(
     let n = look(layout, t);
     let first = n.at + 2;
     if n.kind == 6 {
-        write_fields(out, at, lens, layout, t, first, n.second, contents, bodies, i, j)
+        write_fields(
+            out,
+            at,
+            lens,
+            layout,
+            t,
+            first,
+            n.second,
+            contents,
+            bodies,
+            i,
+            j,
+        )
     } else if n.kind == 7 {
         let c = select(layout, first, n.second, contents, i);
         match c {

@@ -7,43 +7,31 @@ use Rattle.value.specs.Write.{writeMessage, writtenBytes}
 use borrow.Author.Needs.{needs}
 use Rattle.value.proofs.write.Statement.{statement}
 use Rattle.value.proofs.write.Tie as tie
-use Rattle.value.proofs.write.Reads as reads
-use Rattle.value.proofs.write.Lts as lts
-use Rattle.layout.proofs.table_of.Reads as table-of-reads
-use Rattle.value.proofs.write_under.Reads as write-under-reads
 
--- src/lib.rt:69:9
 table-of-requires : tie.Need-table-of-requires
 table-of-requires c κs = search needs
 
--- src/lib.rt:73:22
 enum-known-c : tie.Need-enum-known-c
 enum-known-c c = search needs
 
--- src/lib.rt:74:23
 enum-known-c-2 : tie.Need-enum-known-c-2
 enum-known-c-2 c = search needs
 
--- src/lib.rt:74:46
 slice-aggregate-write-under : tie.Need-slice-aggregate-write-under
 slice-aggregate-write-under c = search needs
 
--- src/lib.rt:74:29
 write-under-requires : tie.Need-write-under-requires
-write-under-requires c κs = 
+write-under-requires c κs =
     let k = table-known _ _ (c .before .before .before .before .before .before .table-of .ensures) _ (bytes-known _ (λ i. c .before .before .before .before .before .before .before .before .before .before .shared-slice-known .given i .fits)) (c .before .before .before .c2 .given .1) in
     (under-table _ _ _ (k .0), k .1)
 
--- src/lib.rt:65:1
 returns : tie.Need-returns
 unfolding writeMessage writtenBytes
 returns c = (rw (← table-checked _ _ (c .before .before .before .before .table-of .ensures), c .before .c .given .1), rw (← table-checked _ _ (c .before .before .before .before .table-of .ensures), c .before .c .given .1))
 
--- src/lib.rt:65:1
 same-length : tie.Need-same-length
 same-length c = search needs
 
--- src/lib.rt:65:1
 returns-2 : tie.Need-returns-2
 unfolding writeMessage writtenBytes
 returns-2 c = (rw (← table-checked _ _ (c .before .before .before .before .before .before .before .before .before .table-of .ensures), c .before .before .before .before .before .before .c2 .given .1) (c .before .before .write-under .ensures .0), rw (← table-checked _ _ (c .before .before .before .before .before .before .before .before .before .table-of .ensures), c .before .before .before .before .before .before .c2 .given .1) (c .before .before .write-under .ensures .1))

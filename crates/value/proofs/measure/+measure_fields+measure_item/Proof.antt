@@ -159,7 +159,7 @@ measure-item-add-word-2 : (t : ℕ) → measure-item-lts.Need-add-word-2 (measur
 measure-item-add-word-2 t c = omega (arith, body-item _ _ _ (c .before .before .before .before .before .before .before .before .before .look .ensures) (c .before .before .before .before .if2 .taken) _ (c .before .before .before .before .before .before .before .before .before .before .before .before .before .before .args .bodies .now) _ (c .before .before .before .before .before .before .before .before .before .before .before .before .before .before .args .j) ((c .before .before .before .before .before .before .before .before .before .before .before .before .before .before .pre .1) .legal) _ (sym (c .before .c .given .1) ∙ c .before .before .before .select .ensures) .2)
 
 measure-item-measure-item-requires : (t : ℕ) → measure-item-lts.Need-measure-item-requires (measure-item-calls t) (measure-item-at t) measure-item.Post
-measure-item-measure-item-requires t c κs = 
+measure-item-measure-item-requires t c κs =
     let z = body-item _ _ _ (c .before .before .before .before .before .before .before .before .before .look .ensures) (c .before .before .before .before .if2 .taken) _ (c .before .before .before .before .before .before .before .before .before .before .before .before .before .before .args .bodies .now) _ (c .before .before .before .before .before .before .before .before .before .before .before .before .before .before .args .j) ((c .before .before .before .before .before .before .before .before .before .before .before .before .before .before .pre .1) .legal) _ (sym (c .before .c .given .1) ∙ c .before .before .before .select .ensures) .4 in
     (omega (arith, c .before .before .before .before .before .before .before .before .before .before .before .before .before .before .pre .0, z), under-below _ _ _ _ (omega (arith, z)) (c .before .before .before .before .before .before .before .before .before .before .before .before .before .before .pre .1))
 
@@ -179,7 +179,7 @@ measure-item-returns-2 : (t : ℕ) → measure-item-lts.Need-returns-2 (measure-
 measure-item-returns-2 t c = rw (bare-item _ _ _ (c .before .before .before .before .before .before .before .before .look .ensures) (c .before .before .before .if2 .taken) _ (c .before .before .before .before .before .before .before .before .before .before .before .before .before .args .bodies .now) _ (c .before .before .before .before .before .before .before .before .before .before .before .before .before .args .j) (sym (c .enum-told .given .1) ∙ c .before .before .select .ensures) .0, bare-item _ _ _ (c .before .before .before .before .before .before .before .before .look .ensures) (c .before .before .before .if2 .taken) _ (c .before .before .before .before .before .before .before .before .before .before .before .before .before .args .bodies .now) _ (c .before .before .before .before .before .before .before .before .before .before .before .before .before .args .j) (sym (c .enum-told .given .1) ∙ c .before .before .select .ensures) .1)
 
 measure-item-returns-3 : (t : ℕ) → measure-item-lts.Need-returns-3 (measure-item-calls t) (measure-item-at t) measure-item.Post
-measure-item-returns-3 t c = 
+measure-item-returns-3 t c =
     let z = body-item _ _ _ (c .before .before .before .before .before .before .before .before .before .before .before .look .ensures) (c .before .before .before .before .before .before .if2 .taken) _ (c .before .before .before .before .before .before .before .before .before .before .before .before .before .before .before .before .args .bodies .now) _ (c .before .before .before .before .before .before .before .before .before .before .before .before .before .before .before .before .args .j) ((c .before .before .before .before .before .before .before .before .before .before .before .before .before .before .before .before .pre .1) .legal) _ (sym (c .before .before .before .c .given .1) ∙ c .before .before .before .before .before .select .ensures) in
     selected-item _ _ _ _ _ (z .0) (z .1) _ _ (c .with-selector .ensures) (c .before .measure-item .ensures)
 

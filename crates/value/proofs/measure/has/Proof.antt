@@ -2,18 +2,13 @@
 use Rattle.value.proofs.Walks.{no-start, some-left, too-few}
 use Rattle.value.proofs.measure.has.Statement.{statement}
 use Rattle.value.proofs.measure.has.Tie as tie
-use Rattle.value.proofs.measure.has.Reads as reads
-use Rattle.value.proofs.measure.has.Lts as lts
 
--- src/measure.rt:78:9
 returns : tie.Need-returns
 returns c = no-start _ _ _ (c .if1 .taken)
 
--- src/measure.rt:73:1
 returns-2 : tie.Need-returns-2
 returns-2 c = some-left _ _ _ (c .before .if1 .left) (c .if2 .taken)
 
--- src/measure.rt:73:1
 returns-3 : tie.Need-returns-3
 returns-3 c = too-few _ _ _ (c .before .if1 .left) (c .if2 .left)
 

@@ -11,65 +11,46 @@ use Rattle.bitfield.proofs.Bodies.{small-shifted, shifted-small}
 use borrow.Author.Needs.{needs}
 use Rattle.value.proofs.measure.measure_bits.Statement.{statement}
 use Rattle.value.proofs.measure.measure_bits.Tie as tie
-use Rattle.value.proofs.measure.measure_bits.Reads as reads
-use Rattle.value.proofs.measure.measure_bits.Lts as lts
-use Rattle.value.proofs.measure.capped.Reads as capped-reads
-use Rattle.value.proofs.measure.has.Reads as has-reads
-use Rattle.value.proofs.measure.raw_bytes.Reads as raw-bytes-reads
 
--- src/measure.rt:121:9
 raw-bytes-requires : tie.Need-raw-bytes-requires
 raw-bytes-requires c κs = search needs
 
--- src/measure.rt:122:9
 has-requires : tie.Need-has-requires
 has-requires c κs = search needs
 
--- src/measure.rt:124:9
 returns : tie.Need-returns
 returns c = rw (← c .before .before .raw-bytes .ensures, ← c .before .has .ensures, not-true (c .before .has .result) (c .if1 .taken))
 
--- src/measure.rt:126:16
 add-byte : tie.Need-add-byte
 add-byte c = let h = leb-true (c .before .before .before .before .args .j + c .before .before .raw-bytes .result) (length (c .before .before .before .before .args .bodies .now)) (sym (c .before .has .ensures) ∙ not-false (c .before .has .result) (c .if1 .left)) in omega arith
 
--- src/measure.rt:127:16
 sub-last : tie.Need-sub-last
 sub-last c = search needs
 
--- src/measure.rt:128:18
 sub-before : tie.Need-sub-before
 sub-before c = search needs
 
--- src/measure.rt:129:20
 mul-bits : tie.Need-mul-bits
 mul-bits c = search needs
 
--- src/measure.rt:129:16
 sub-bits : tie.Need-sub-bits
 sub-bits c = search needs
 
--- src/measure.rt:130:13
 shared-slice-read-x : tie.Need-shared-slice-read-x
 shared-slice-read-x c = let h = leb-true (c .before .before .before .before .before .args .j + c .before .before .before .raw-bytes .result) (length (c .before .before .before .before .before .args .bodies .now)) (sym (c .before .before .has .ensures) ∙ not-false (c .before .before .has .result) (c .before .if1 .left)) in omega (arith, c .before .before .before .raw-bytes .ensures)
 
--- src/measure.rt:130:13
 cast-x : tie.Need-cast-x
 cast-x c = omega (arith, c .shared-slice-known2 .given (c .before .before .before .before .before .args .j + c .before .before .before .raw-bytes .result - 1))
 
--- src/measure.rt:131:8
 shr-if2 : tie.Need-shr-if2
 shr-if2 c = search needs
 
--- src/measure.rt:132:13
 capped-requires : tie.Need-capped-requires
 capped-requires c κs = search needs
 
--- src/measure.rt:133:9
 returns-2 : tie.Need-returns-2
 returns-2 c = rw (← c .before .before .before .before .before .raw-bytes .ensures, ← c .before .before .before .before .has .ensures, not-false (c .before .before .before .before .has .result) (c .before .before .before .if1 .left), lt-ltb _ _ (small-shifted _ _ (c .before .if2 .taken)), c .capped .ensures)
 
--- src/measure.rt:118:1
 returns-3 : tie.Need-returns-3
 returns-3 c = rw (← c .before .before .before .before .raw-bytes .ensures, ← c .before .before .before .has .ensures, not-false (c .before .before .before .has .result) (c .before .before .if1 .left), le-ltb _ _ (shifted-small _ _ (c .if2 .left)))
 

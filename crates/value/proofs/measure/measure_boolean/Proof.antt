@@ -7,26 +7,19 @@ use borrow.Author.Tests.{le-leb, lt-leb, lt-ltb, le-ltb}
 use borrow.Author.Needs.{needs}
 use Rattle.value.proofs.measure.measure_boolean.Statement.{statement}
 use Rattle.value.proofs.measure.measure_boolean.Tie as tie
-use Rattle.value.proofs.measure.measure_boolean.Reads as reads
-use Rattle.value.proofs.measure.measure_boolean.Lts as lts
 
--- src/measure.rt:104:9
 returns : tie.Need-returns
 returns c = rw (lt-leb (c .before .args .j + 1) (length (c .before .args .bodies .now)) (omega (arith, c .if1 .taken)))
 
--- src/measure.rt:106:8
 shared-slice-read-if2 : tie.Need-shared-slice-read-if2
 shared-slice-read-if2 c = search needs
 
--- src/measure.rt:107:20
 add-byte : tie.Need-add-byte
 add-byte c = search needs
 
--- src/measure.rt:108:9
 returns-2 : tie.Need-returns-2
 returns-2 c = rw (le-leb (c .before .before .before .args .j + 1) (length (c .before .before .before .args .bodies .now)) (omega (arith, c .before .before .if1 .left)), lt-ltb _ _ (c .if2 .taken))
 
--- src/measure.rt:99:1
 returns-3 : tie.Need-returns-3
 returns-3 c = rw (le-leb (c .before .before .before .args .j + 1) (length (c .before .before .before .args .bodies .now)) (omega (arith, c .before .before .if1 .left)), le-ltb _ _ (c .if2 .left))
 

@@ -7,28 +7,19 @@ use borrow.Author.Tests.{leb-true}
 use borrow.Author.Needs.{needs}
 use Rattle.value.proofs.measure.measure_exact.Statement.{statement}
 use Rattle.value.proofs.measure.measure_exact.Tie as tie
-use Rattle.value.proofs.measure.measure_exact.Reads as reads
-use Rattle.value.proofs.measure.measure_exact.Lts as lts
-use Rattle.value.proofs.measure.capped.Reads as capped-reads
-use Rattle.value.proofs.measure.has.Reads as has-reads
 
--- src/measure.rt:88:9
 has-requires : tie.Need-has-requires
 has-requires c κs = search needs
 
--- src/measure.rt:90:20
 add-byte : tie.Need-add-byte
 add-byte c = let h = leb-true (c .before .before .before .args .j + c .before .before .before .args .n) (length (c .before .before .before .args .bodies .now)) (sym (c .before .has .ensures) ∙ c .if1 .taken) in omega arith
 
--- src/measure.rt:91:13
 capped-requires : tie.Need-capped-requires
 capped-requires c κs = search needs
 
--- src/measure.rt:85:1
 returns : tie.Need-returns
 returns c = rw (← c .before .before .has .ensures, c .before .if1 .taken, c .capped .ensures)
 
--- src/measure.rt:85:1
 returns-2 : tie.Need-returns-2
 returns-2 c = rw (← c .before .has .ensures, c .if1 .left)
 

@@ -6,41 +6,30 @@ use Rattle.value.specs.Walk.{walkItem}
 use borrow.Author.Needs.{needs}
 use Rattle.value.proofs.measure.measure_free.Statement.{statement}
 use Rattle.value.proofs.measure.measure_free.Tie as tie
-use Rattle.value.proofs.measure.measure_free.Reads as reads
-use Rattle.value.proofs.measure.measure_free.Lts as lts
-use Rattle.value.proofs.measure.measure_exact.Reads as measure-exact-reads
 
--- src/measure.rt:144:9
 returns : tie.Need-returns
 unfolding walkItem
 returns c = rw (le-ltb _ _ (c .if1 .taken))
 
--- src/measure.rt:146:13
 mul-n : tie.Need-mul-n
 mul-n c = search needs
 
--- src/measure.rt:146:13
 shared-slice-read-n : tie.Need-shared-slice-read-n
 shared-slice-read-n c = search needs
 
--- src/measure.rt:146:13
 cast-n : tie.Need-cast-n
 cast-n c = omega (arith, c .shared-slice-known3 .given (c .before .before .before .before .args .i))
 
--- src/measure.rt:148:9
 returns-2 : tie.Need-returns-2
 unfolding walkItem
 returns-2 c = rw (lt-ltb _ _ (c .before .before .if1 .left), lt-leb _ _ (c .if2 .taken))
 
--- src/measure.rt:150:16
 add-next : tie.Need-add-next
 add-next c = search needs
 
--- src/measure.rt:151:5
 measure-exact-requires : tie.Need-measure-exact-requires
 measure-exact-requires c κs = search needs
 
--- src/measure.rt:139:1
 returns-3 : tie.Need-returns-3
 unfolding walkItem
 returns-3 c = rw (lt-ltb _ _ (c .before .before .before .if1 .left), le-leb _ _ (c .before .if2 .left)) (c .measure-exact .ensures)

@@ -6,69 +6,48 @@ use Rattle.value.proofs.Walks.{leaf-number, leaf-boolean, leaf-fixed, l
 use borrow.Author.Needs.{needs}
 use Rattle.value.proofs.measure.measure_leaf.Statement.{statement}
 use Rattle.value.proofs.measure.measure_leaf.Tie as tie
-use Rattle.value.proofs.measure.measure_leaf.Reads as reads
-use Rattle.value.proofs.measure.measure_leaf.Lts as lts
-use Rattle.value.proofs.measure.measure_bits.Reads as measure-bits-reads
-use Rattle.value.proofs.measure.measure_boolean.Reads as measure-boolean-reads
-use Rattle.value.proofs.measure.measure_exact.Reads as measure-exact-reads
-use Rattle.value.proofs.measure.measure_free.Reads as measure-free-reads
-use Rattle.value.proofs.measure.measure_list.Reads as measure-list-reads
-use Rattle.value.proofs.measure.raw_bytes.Reads as raw-bytes-reads
 
--- src/measure.rt:178:9
 measure-exact-requires : tie.Need-measure-exact-requires
 measure-exact-requires c κs = search needs
 
--- src/measure.rt:178:9
 returns : tie.Need-returns
 unfolding leafOf
 returns c = rw (c .before .if1 .taken) (c .measure-exact .ensures ∙ leaf-number _ _ _ _ _)
 
--- src/measure.rt:181:9
 measure-boolean-requires : tie.Need-measure-boolean-requires
 measure-boolean-requires c κs = search needs
 
--- src/measure.rt:181:9
 returns-2 : tie.Need-returns-2
 unfolding leafOf
 returns-2 c = rw (c .before .if2 .taken) (c .measure-boolean .ensures ∙ leaf-boolean _ _ _ _)
 
--- src/measure.rt:184:9
 measure-exact-requires-2 : tie.Need-measure-exact-requires-2
 measure-exact-requires-2 c κs = search needs
 
--- src/measure.rt:184:9
 returns-3 : tie.Need-returns-3
 unfolding leafOf
 returns-3 c = rw (c .before .if3 .taken) (c .measure-exact2 .ensures ∙ leaf-fixed _ _ _ _ _)
 
--- src/measure.rt:187:9
 measure-free-requires : tie.Need-measure-free-requires
 measure-free-requires c κs = search needs
 
--- src/measure.rt:187:9
 returns-4 : tie.Need-returns-4
 unfolding leafOf
 returns-4 c = rw (c .before .if4 .taken) (c .measure-free .ensures ∙ leaf-free _ _ _ _ _)
 
--- src/measure.rt:190:13
 raw-bytes-requires : tie.Need-raw-bytes-requires
 raw-bytes-requires c κs = search needs
 
--- src/measure.rt:191:9
 measure-bits-requires : tie.Need-measure-bits-requires
 measure-bits-requires c κs = search needs
 
--- src/measure.rt:191:9
 returns-5 : tie.Need-returns-5
 unfolding leafOf
 returns-5 c = rw (c .before .before .if5 .taken) (rw (c .before .raw-bytes .ensures) at (c .measure-bits .ensures) ∙ leaf-vector _ _ _ _ _)
 
--- src/measure.rt:193:5
 measure-list-requires : tie.Need-measure-list-requires
 measure-list-requires c κs = search needs
 
--- src/measure.rt:172:1
 returns-6 : tie.Need-returns-6
 unfolding leafOf
 returns-6 c = rw (ne-eqb _ _ (c .before .before .before .before .before .if1 .left), ne-eqb _ _ (c .before .before .before .before .if2 .left), ne-eqb _ _ (c .before .before .before .if3 .left), ne-eqb _ _ (c .before .before .if4 .left), ne-eqb _ _ (c .before .if5 .left)) (c .measure-list .ensures ∙ leaf-list _ _ _ _ _)

@@ -6,45 +6,33 @@ use Rattle.value.specs.Walk.{walkItem}
 use borrow.Author.Needs.{needs}
 use Rattle.value.proofs.measure.measure_list.Statement.{statement}
 use Rattle.value.proofs.measure.measure_list.Tie as tie
-use Rattle.value.proofs.measure.measure_list.Reads as reads
-use Rattle.value.proofs.measure.measure_list.Lts as lts
-use Rattle.value.proofs.measure.measure_bits.Reads as measure-bits-reads
 
--- src/measure.rt:160:9
 returns : tie.Need-returns
 unfolding walkItem
 returns c = rw (le-ltb _ _ (c .if1 .taken))
 
--- src/measure.rt:162:13
 mul-k : tie.Need-mul-k
 mul-k c = search needs
 
--- src/measure.rt:162:13
 shared-slice-read-k : tie.Need-shared-slice-read-k
 shared-slice-read-k c = search needs
 
--- src/measure.rt:162:13
 cast-k : tie.Need-cast-k
 cast-k c = omega (arith, c .shared-slice-known3 .given (c .before .before .before .before .args .i))
 
--- src/measure.rt:164:9
 returns-2 : tie.Need-returns-2
 unfolding walkItem
 returns-2 c = rw (lt-ltb _ _ (c .before .before .if1 .left), lt-leb _ _ (c .if2 .taken))
 
--- src/measure.rt:166:16
 add-next : tie.Need-add-next
 add-next c = search needs
 
--- src/measure.rt:167:13
 add-n : tie.Need-add-n
 add-n c = search needs
 
--- src/measure.rt:168:5
 measure-bits-requires : tie.Need-measure-bits-requires
 measure-bits-requires c κs = search needs
 
--- src/measure.rt:155:1
 returns-3 : tie.Need-returns-3
 unfolding walkItem
 returns-3 c = rw (lt-ltb _ _ (c .before .before .before .if1 .left), le-leb _ _ (c .before .if2 .left)) (c .measure-bits .ensures)

@@ -2,14 +2,10 @@
 use borrow.Author.Tests.{eq-eqb, ne-eqb}
 use Rattle.value.proofs.measure.option_at.Statement.{statement}
 use Rattle.value.proofs.measure.option_at.Tie as tie
-use Rattle.value.proofs.measure.option_at.Reads as reads
-use Rattle.value.proofs.measure.option_at.Lts as lts
 
--- src/measure.rt:197:1
 returns : tie.Need-returns
 returns c = rw (eq-eqb _ _ (c .if1 .taken))
 
--- src/measure.rt:197:1
 returns-2 : tie.Need-returns-2
 returns-2 c = rw (ne-eqb _ _ (c .if1 .left))
 

@@ -6,46 +6,33 @@ use Rattle.value.specs.Steps.{choose}
 use borrow.Author.Needs.{needs}
 use Rattle.value.proofs.measure.select.Statement.{statement}
 use Rattle.value.proofs.measure.select.Tie as tie
-use Rattle.value.proofs.measure.select.Reads as reads
-use Rattle.value.proofs.measure.select.Lts as lts
-use Rattle.standard.proofs.words.word_at.Reads as word-at-reads
-use Rattle.value.proofs.measure.option_at.Reads as option-at-reads
 
--- src/measure.rt:214:9
 returns : tie.Need-returns
 unfolding choose
 returns c = rw (le-ltb _ _ (c .if1 .taken))
 
--- src/measure.rt:216:13
 mul-k : tie.Need-mul-k
 mul-k c = search needs
 
--- src/measure.rt:216:13
 shared-slice-read-k : tie.Need-shared-slice-read-k
 shared-slice-read-k c = search needs
 
--- src/measure.rt:216:13
 cast-k : tie.Need-cast-k
 cast-k c = omega (arith, c .shared-slice-known3 .given (c .before .before .before .before .args .i))
 
--- src/measure.rt:218:9
 returns-2 : tie.Need-returns-2
 unfolding choose
 returns-2 c = rw (lt-ltb _ _ (c .before .before .if1 .left), le-ltb _ _ (c .if2 .taken))
 
--- src/measure.rt:220:17
 add-place : tie.Need-add-place
 add-place c = omega (arith, c .before .shared-slice-known3 .given (c .before .before .before .before .before .args .i))
 
--- src/measure.rt:221:9
 word-at-requires : tie.Need-word-at-requires
 word-at-requires c κs = search needs
 
--- src/measure.rt:222:5
 option-at-requires : tie.Need-option-at-requires
 option-at-requires c κs = search needs
 
--- src/measure.rt:208:1
 returns-3 : tie.Need-returns-3
 unfolding choose
 returns-3 c = rw (lt-ltb _ _ (c .before .before .before .before .if1 .left), lt-ltb _ _ (c .before .before .if2 .left), ← c .before .word-at .ensures .0) (c .option-at .ensures)

@@ -139,7 +139,7 @@ write-item-enum-told : (t : ℕ) → write-item-lts.Need-enum-told (write-item-c
 write-item-enum-told t c = search needs
 
 write-item-put-selector-requires : (t : ℕ) → write-item-lts.Need-put-selector-requires (write-item-calls t) (write-item-at t) write-item.Post
-write-item-put-selector-requires t c κs = 
+write-item-put-selector-requires t c κs =
     let z = bare-item _ _ _ (c .before .before .before .before .before .before .before .before .before .look .ensures) (c .before .before .before .before .if2 .taken) _ (c .before .before .before .before .before .before .before .before .before .before .before .before .before .before .before .args .bodies .now) _ (c .before .before .before .before .before .before .before .before .before .before .before .before .before .before .before .args .j) (sym (c .before .enum-told .given .1) ∙ c .before .before .before .select .ensures) in
     selector-need _ _ _ _ (c .before .before .before .before .before .before .before .before .before .before .before .before .before .before .before .args .contents .now) (c .before .before .before .before .before .before .before .before .before .before .before .before .before .before .before .args .i) _ _ (z .1) refl (z .2) (z .3) (node-ok _ _ _ _ (c .before .before .before .before .before .before .before .before .before .look .ensures) (c .before .before .before .before .before .before .before .before .before .before .before .before .before .before .before .pre .1 .0) .most (c .before .before .before .before .if2 .taken)) (c .before .before .before .before .before .before .before .before .before .before .before .before .before .before .before .pre .1 .2)
 
@@ -147,7 +147,7 @@ write-item-add-word : (t : ℕ) → write-item-lts.Need-add-word (write-item-cal
 write-item-add-word t c = omega (arith, bare-item _ _ _ (c .before .before .before .before .before .before .before .before .before .before .before .before .look .ensures) (c .before .before .before .before .before .before .before .if2 .taken) _ (c .before .before .before .before .before .before .before .before .before .before .before .before .before .before .before .before .before .before .args .bodies .now) _ (c .before .before .before .before .before .before .before .before .before .before .before .before .before .before .before .before .before .before .args .j) (sym (c .before .before .before .before .enum-told .given .1) ∙ c .before .before .before .before .before .before .select .ensures) .2, c .before .before .before .before .before .before .before .before .before .before .before .before .before .before .before .before .before .before .good)
 
 write-item-add-to : (t : ℕ) → write-item-lts.Need-add-to (write-item-calls t) (write-item-at t) write-item.Post
-write-item-add-to t c = 
+write-item-add-to t c =
     let z = bare-item _ _ _ (c .before .before .before .before .before .before .before .before .before .before .before .before .look .ensures) (c .before .before .before .before .before .before .before .if2 .taken) _ (c .before .before .before .before .before .before .before .before .before .before .before .before .before .before .before .before .before .before .args .bodies .now) _ (c .before .before .before .before .before .before .before .before .before .before .before .before .before .before .before .before .before .before .args .j) (sym (c .before .before .before .before .enum-told .given .1) ∙ c .before .before .before .before .before .before .select .ensures) in
     omega (arith, selector-need _ _ _ _ (c .before .before .before .before .before .before .before .before .before .before .before .before .before .before .before .before .before .before .args .contents .now) (c .before .before .before .before .before .before .before .before .before .before .before .before .before .before .before .before .before .before .args .i) _ _ (z .1) refl (z .2) (z .3) (node-ok _ _ _ _ (c .before .before .before .before .before .before .before .before .before .before .before .before .look .ensures) (c .before .before .before .before .before .before .before .before .before .before .before .before .before .before .before .before .before .before .pre .1 .0) .most (c .before .before .before .before .before .before .before .if2 .taken)) (c .before .before .before .before .before .before .before .before .before .before .before .before .before .before .before .before .before .before .pre .1 .2) .2)
 
@@ -155,7 +155,7 @@ write-item-enum-known-c : (t : ℕ) → write-item-lts.Need-enum-known-c (write-
 write-item-enum-known-c t c = search needs
 
 write-item-put-selector-requires-2 : (t : ℕ) → write-item-lts.Need-put-selector-requires-2 (write-item-calls t) (write-item-at t) write-item.Post
-write-item-put-selector-requires-2 t c κs = 
+write-item-put-selector-requires-2 t c κs =
     let z = body-item _ _ _ (c .before .before .before .before .before .before .before .before .before .before .look .ensures) (c .before .before .before .before .before .if2 .taken) _ (c .before .before .before .before .before .before .before .before .before .before .before .before .before .before .before .before .args .bodies .now) _ (c .before .before .before .before .before .before .before .before .before .before .before .before .before .before .before .before .args .j) ((c .before .before .before .before .before .before .before .before .before .before .before .before .before .before .before .before .pre .1 .0) .legal) _ (sym (c .before .before .c .given .1) ∙ c .before .before .before .before .select .ensures) in
     selector-need _ _ _ _ (c .before .before .before .before .before .before .before .before .before .before .before .before .before .before .before .before .args .contents .now) (c .before .before .before .before .before .before .before .before .before .before .before .before .before .before .before .before .args .i) _ _ (z .1) refl (z .2) (z .3) (node-ok _ _ _ _ (c .before .before .before .before .before .before .before .before .before .before .look .ensures) (c .before .before .before .before .before .before .before .before .before .before .before .before .before .before .before .before .pre .1 .0) .most (c .before .before .before .before .before .if2 .taken)) (c .before .before .before .before .before .before .before .before .before .before .before .before .before .before .before .before .pre .1 .2)
 
@@ -163,12 +163,12 @@ write-item-add-word-2 : (t : ℕ) → write-item-lts.Need-add-word-2 (write-item
 write-item-add-word-2 t c = omega (arith, body-item _ _ _ (c .before .before .before .before .before .before .before .before .before .before .before .before .before .look .ensures) (c .before .before .before .before .before .before .before .before .if2 .taken) _ (c .before .before .before .before .before .before .before .before .before .before .before .before .before .before .before .before .before .before .before .args .bodies .now) _ (c .before .before .before .before .before .before .before .before .before .before .before .before .before .before .before .before .before .before .before .args .j) ((c .before .before .before .before .before .before .before .before .before .before .before .before .before .before .before .before .before .before .before .pre .1 .0) .legal) _ (sym (c .before .before .before .before .before .c .given .1) ∙ c .before .before .before .before .before .before .before .select .ensures) .2, c .before .before .before .before .before .before .before .before .before .before .before .before .before .before .before .before .before .before .before .good)
 
 write-item-add-to-2 : (t : ℕ) → write-item-lts.Need-add-to-2 (write-item-calls t) (write-item-at t) write-item.Post
-write-item-add-to-2 t c = 
+write-item-add-to-2 t c =
     let z = body-item _ _ _ (c .before .before .before .before .before .before .before .before .before .before .before .before .before .look .ensures) (c .before .before .before .before .before .before .before .before .if2 .taken) _ (c .before .before .before .before .before .before .before .before .before .before .before .before .before .before .before .before .before .before .before .args .bodies .now) _ (c .before .before .before .before .before .before .before .before .before .before .before .before .before .before .before .before .before .before .before .args .j) ((c .before .before .before .before .before .before .before .before .before .before .before .before .before .before .before .before .before .before .before .pre .1 .0) .legal) _ (sym (c .before .before .before .before .before .c .given .1) ∙ c .before .before .before .before .before .before .before .select .ensures) in
     omega (arith, selector-need _ _ _ _ (c .before .before .before .before .before .before .before .before .before .before .before .before .before .before .before .before .before .before .before .args .contents .now) (c .before .before .before .before .before .before .before .before .before .before .before .before .before .before .before .before .before .before .before .args .i) _ _ (z .1) refl (z .2) (z .3) (node-ok _ _ _ _ (c .before .before .before .before .before .before .before .before .before .before .before .before .before .look .ensures) (c .before .before .before .before .before .before .before .before .before .before .before .before .before .before .before .before .before .before .before .pre .1 .0) .most (c .before .before .before .before .before .before .before .before .if2 .taken)) (c .before .before .before .before .before .before .before .before .before .before .before .before .before .before .before .before .before .before .before .pre .1 .2) .2)
 
 write-item-write-item-requires : (t : ℕ) → write-item-lts.Need-write-item-requires (write-item-calls t) (write-item-at t) write-item.Post
-write-item-write-item-requires t c κs = 
+write-item-write-item-requires t c κs =
     let z = body-item _ _ _ (c .before .before .before .before .before .before .before .before .before .before .before .before .before .before .look .ensures) (c .before .before .before .before .before .before .before .before .before .if2 .taken) _ (c .before .before .before .before .before .before .before .before .before .before .before .before .before .before .before .before .before .before .before .before .args .bodies .now) _ (c .before .before .before .before .before .before .before .before .before .before .before .before .before .before .before .before .before .before .before .before .args .j) ((c .before .before .before .before .before .before .before .before .before .before .before .before .before .before .before .before .before .before .before .before .pre .1 .0) .legal) _ (sym (c .before .before .before .before .before .before .c .given .1) ∙ c .before .before .before .before .before .before .before .before .select .ensures) in
     (omega (arith, c .before .before .before .before .before .before .before .before .before .before .before .before .before .before .before .before .before .before .before .before .pre .0, z .4), (under-below _ _ _ _ (omega (arith, z .4)) (c .before .before .before .before .before .before .before .before .before .before .before .before .before .before .before .before .before .before .before .before .pre .1 .0), rw (z .0) at (c .before .before .before .before .before .before .before .before .before .before .before .before .before .before .before .before .before .before .before .before .pre .1 .1), body-room _ _ _ _ _ (z .1) (c .before .before .before .before .before .before .before .before .before .before .before .before .before .before .before .before .before .before .before .before .pre .1 .2) _ (c .before .before .before .put-selector2 .ensures)))
 
@@ -176,7 +176,7 @@ write-item-enum-told-2 : (t : ℕ) → write-item-lts.Need-enum-told-2 (write-it
 write-item-enum-told-2 t c = search needs
 
 write-item-put-leaf-requires : (t : ℕ) → write-item-lts.Need-put-leaf-requires (write-item-calls t) (write-item-at t) write-item.Post
-write-item-put-leaf-requires t c κs = 
+write-item-put-leaf-requires t c κs =
     let w = tree-walk _ _ _ (c .before .before .before .before .before .before .look .ensures) (c .before .before .before .if1 .left) (c .before .if2 .left) (c .before .before .before .before .before .before .before .before .before .before .before .before .args .contents .now) (c .before .before .before .before .before .before .before .before .before .before .before .before .args .bodies .now) (c .before .before .before .before .before .before .before .before .before .before .before .before .args .i) (c .before .before .before .before .before .before .before .before .before .before .before .before .args .j) in
     let x = tree-write _ _ _ (c .before .before .before .before .before .before .look .ensures) (c .before .before .before .if1 .left) (c .before .if2 .left) (c .before .before .before .before .before .before .before .before .before .before .before .before .args .contents .now) (c .before .before .before .before .before .before .before .before .before .before .before .before .args .bodies .now) (c .before .before .before .before .before .before .before .before .before .before .before .before .args .i) (c .before .before .before .before .before .before .before .before .before .before .before .before .args .j) in
     (rw w at (c .before .before .before .before .before .before .before .before .before .before .before .before .pre .1 .1), rw x at (c .before .before .before .before .before .before .before .before .before .before .before .before .pre .1 .2))
@@ -191,7 +191,7 @@ write-item-same-length-2 : (t : ℕ) → write-item-lts.Need-same-length-2 (writ
 write-item-same-length-2 t c = search needs
 
 write-item-returns-2 : (t : ℕ) → write-item-lts.Need-returns-2 (write-item-calls t) (write-item-at t) write-item.Post
-write-item-returns-2 t c = 
+write-item-returns-2 t c =
     let z = bare-item _ _ _ (c .before .before .before .before .before .before .before .before .before .before .before .before .look .ensures) (c .before .before .before .before .before .before .before .if2 .taken) _ (c .before .before .before .before .before .before .before .before .before .before .before .before .before .before .before .before .before .before .args .bodies .now) _ (c .before .before .before .before .before .before .before .before .before .before .before .before .before .before .before .before .before .before .args .j) (sym (c .before .before .before .before .enum-told .given .1) ∙ c .before .before .before .before .before .before .select .ensures) in
     bare-done _ _ _ _ _ _ _ (z .0) (z .1) _ (c .before .before .put-selector .ensures)
 
@@ -199,7 +199,7 @@ write-item-same-length-3 : (t : ℕ) → write-item-lts.Need-same-length-3 (writ
 write-item-same-length-3 t c = search needs
 
 write-item-returns-3 : (t : ℕ) → write-item-lts.Need-returns-3 (write-item-calls t) (write-item-at t) write-item.Post
-write-item-returns-3 t c = 
+write-item-returns-3 t c =
     let z = body-item _ _ _ (c .before .before .before .before .before .before .before .before .before .before .before .before .before .before .before .before .before .look .ensures) (c .before .before .before .before .before .before .before .before .before .before .before .before .if2 .taken) _ (c .before .before .before .before .before .before .before .before .before .before .before .before .before .before .before .before .before .before .before .before .before .before .before .args .bodies .now) _ (c .before .before .before .before .before .before .before .before .before .before .before .before .before .before .before .before .before .before .before .before .before .before .before .args .j) ((c .before .before .before .before .before .before .before .before .before .before .before .before .before .before .before .before .before .before .before .before .before .before .before .pre .1 .0) .legal) _ (sym (c .before .before .before .before .before .before .before .before .before .c .given .1) ∙ c .before .before .before .before .before .before .before .before .before .before .before .select .ensures) in
     body-done _ _ _ _ _ _ _ (z .0) (z .1) _ (c .before .before .before .before .before .before .put-selector2 .ensures) _ _ (c .before .before .write-item .ensures)
 

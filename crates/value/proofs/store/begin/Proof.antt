@@ -4,27 +4,19 @@ use borrow.Author.Tests.{ne-eqb}
 use borrow.Author.Needs.{needs}
 use Rattle.value.proofs.store.begin.Statement.{statement}
 use Rattle.value.proofs.store.begin.Tie as tie
-use Rattle.value.proofs.store.begin.Reads as reads
-use Rattle.value.proofs.store.begin.Lts as lts
-use Rattle.standard.proofs.words.put_four.Reads as put-four-reads
 
--- src/store.rt:164:19
 sub-off : tie.Need-sub-off
 sub-off c = search needs
 
--- src/store.rt:165:9
 put-four-requires : tie.Need-put-four-requires
 put-four-requires c κs = search needs
 
--- src/store.rt:166:9
 same-length : tie.Need-same-length
 same-length c = search needs
 
--- src/store.rt:166:9
 returns : tie.Need-returns
 returns c = record { place = rw (c .before .before .before .before .if1 .taken); list = rw (c .before .before .before .before .if1 .taken) (c .before .before .put-four .ensures) }
 
--- src/store.rt:159:1
 returns-2 : tie.Need-returns-2
 returns-2 c = record { place = rw (ne-eqb _ _ (c .if1 .left)); list = rw (ne-eqb _ _ (c .if1 .left)) }
 

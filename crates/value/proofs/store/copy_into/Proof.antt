@@ -5,8 +5,6 @@ use lib.ListN.{length}
 use Rattle.value.proofs.Fills.{Copying, copying-none, copying-more, copying-all}
 use Rattle.value.proofs.store.copy_into.Statement.{statement}
 use Rattle.value.proofs.store.copy_into.Tie as tie
-use Rattle.value.proofs.store.copy_into.Reads as reads
-use Rattle.value.proofs.store.copy_into.Lts as lts
 
 abbrev Inv-loop : tie.InvT-loop
 Inv-loop out₀ at src i₀ out i = Copying out₀ at src out i
@@ -14,39 +12,30 @@ Inv-loop out₀ at src i₀ out i = Copying out₀ at src out i
 abbrev μ-loop : tie.MeasureT-loop
 μ-loop out₀ at src i₀ out i = length src - i
 
--- src/store.rt:40:5
 loop-holds : tie.Need-loop-holds Inv-loop μ-loop
 loop-holds c = copying-none _ _ _
 
--- src/store.rt:41:23
 shared-slice-read-out : tie.Need-shared-slice-read-out Inv-loop μ-loop
 shared-slice-read-out c = omega arith
 
--- src/store.rt:41:13
 add-out : tie.Need-add-out Inv-loop μ-loop
 add-out c = omega arith
 
--- src/store.rt:41:9
 slice-write-out : tie.Need-slice-write-out Inv-loop μ-loop
 slice-write-out c = omega arith
 
--- src/store.rt:42:9
 add-i : tie.Need-add-i Inv-loop μ-loop
 add-i c = omega arith
 
--- src/store.rt:40:5
 loop-less : tie.Need-loop-less Inv-loop μ-loop
 loop-less c = omega arith
 
--- src/store.rt:40:5
 loop-again : tie.Need-loop-again Inv-loop μ-loop
 loop-again c = copying-more _ _ _ _ _ (c .before .before .loop .inv) (c .before .loop-test .taken)
 
--- src/store.rt:35:1
 same-length : tie.Need-same-length Inv-loop μ-loop
 same-length c = c .before .loop .inv .long
 
--- src/store.rt:35:1
 returns : tie.Need-returns Inv-loop μ-loop
 returns c = copying-all _ _ _ _ _ (c .before .loop .inv) (c .loop-test .left)
 

@@ -5,26 +5,19 @@ use Rattle.value.proofs.Fills.{mark-set}
 use borrow.Author.Needs.{needs}
 use Rattle.value.proofs.store.mark_byte.Statement.{statement}
 use Rattle.value.proofs.store.mark_byte.Tie as tie
-use Rattle.value.proofs.store.mark_byte.Reads as reads
-use Rattle.value.proofs.store.mark_byte.Lts as lts
 
--- src/store.rt:63:9
 returns : tie.Need-returns
 returns c = rw (c .if1 .taken)
 
--- src/store.rt:65:13
 shared-slice-read-x : tie.Need-shared-slice-read-x
 shared-slice-read-x c = c .before .before .pre .1 (c .before .if1 .left) .0
 
--- src/store.rt:66:20
 cast-m : tie.Need-cast-m
 cast-m c = search needs
 
--- src/store.rt:66:13
 shl-m : tie.Need-shl-m
 shl-m c = search needs
 
--- src/store.rt:58:1
 returns-2 : tie.Need-returns-2
 returns-2 c = rw (ne-eqb _ _ (c .before .if1 .left)) (mark-set _ _ (c .before .before .pre .1 (c .before .if1 .left) .1) (c .before .before .pre .0))
 

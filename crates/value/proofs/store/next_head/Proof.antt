@@ -3,18 +3,13 @@ use native.Mathlib.Omega.{arith}
 use borrow.Author.Tests.{ne-eqb}
 use Rattle.value.proofs.store.next_head.Statement.{statement}
 use Rattle.value.proofs.store.next_head.Tie as tie
-use Rattle.value.proofs.store.next_head.Reads as reads
-use Rattle.value.proofs.store.next_head.Lts as lts
 
--- src/store.rt:176:17
 add-result : tie.Need-add-result
 add-result c = omega (arith, c .before .pre (c .if1 .taken))
 
--- src/store.rt:172:1
 returns : tie.Need-returns
 returns c = rw (c .if1 .taken)
 
--- src/store.rt:172:1
 returns-2 : tie.Need-returns-2
 returns-2 c = rw (ne-eqb _ _ (c .if1 .left))
 

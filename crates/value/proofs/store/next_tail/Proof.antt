@@ -2,14 +2,10 @@
 use borrow.Author.Tests.{ne-eqb}
 use Rattle.value.proofs.store.next_tail.Statement.{statement}
 use Rattle.value.proofs.store.next_tail.Tie as tie
-use Rattle.value.proofs.store.next_tail.Reads as reads
-use Rattle.value.proofs.store.next_tail.Lts as lts
 
--- src/store.rt:180:1
 returns : tie.Need-returns
 returns c = rw (c .if1 .taken)
 
--- src/store.rt:180:1
 returns-2 : tie.Need-returns-2
 returns-2 c = rw (ne-eqb _ _ (c .if1 .left))
 

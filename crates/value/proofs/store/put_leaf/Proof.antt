@@ -5,103 +5,75 @@ use Rattle.value.proofs.Leaves.{kind-0, kind-1, kind-2, kind-3, kind-4,
 use borrow.Author.Needs.{needs}
 use Rattle.value.proofs.store.put_leaf.Statement.{statement}
 use Rattle.value.proofs.store.put_leaf.Tie as tie
-use Rattle.value.proofs.store.put_leaf.Reads as reads
-use Rattle.value.proofs.store.put_leaf.Lts as lts
-use Rattle.value.proofs.measure.raw_bytes.Reads as raw-bytes-reads
-use Rattle.value.proofs.store.put_list.Reads as put-list-reads
-use Rattle.value.proofs.store.put_part.Reads as put-part-reads
 
--- src/store.rt:104:9
 put-part-requires : tie.Need-put-part-requires
 put-part-requires c κs = part-need _ _ _ _ _ _ _ _ _ (kind-0 _ _ _ _ _ (c .before .before .before .before .before .pre .0) (c .before .if1 .taken)) (c .before .before .before .before .before .pre .1)
 
--- src/store.rt:104:9
 same-length : tie.Need-same-length
 same-length c = search needs
 
--- src/store.rt:104:9
 returns : tie.Need-returns
 returns c = part-done _ _ _ _ _ _ _ _ _ (kind-0 _ _ _ _ _ (c .before .before .before .before .before .before .before .before .pre .0) (c .before .before .before .before .if1 .taken)) _ _ (c .before .before .put-part .ensures)
 
--- src/store.rt:107:9
 put-part-requires-2 : tie.Need-put-part-requires-2
 put-part-requires-2 c κs = part-need _ _ _ _ _ _ _ _ _ (kind-1 _ _ _ _ _ (c .before .before .before .before .before .before .pre .0) (c .before .if2 .taken)) (c .before .before .before .before .before .before .pre .1)
 
--- src/store.rt:107:9
 same-length-2 : tie.Need-same-length-2
 same-length-2 c = search needs
 
--- src/store.rt:107:9
 returns-2 : tie.Need-returns-2
 returns-2 c = part-done _ _ _ _ _ _ _ _ _ (kind-1 _ _ _ _ _ (c .before .before .before .before .before .before .before .before .before .pre .0) (c .before .before .before .before .if2 .taken)) _ _ (c .before .before .put-part2 .ensures)
 
--- src/store.rt:110:9
 put-part-requires-3 : tie.Need-put-part-requires-3
 put-part-requires-3 c κs = part-need _ _ _ _ _ _ _ _ _ (kind-2 _ _ _ _ _ (c .before .before .before .before .before .before .before .pre .0) (c .before .if3 .taken)) (c .before .before .before .before .before .before .before .pre .1)
 
--- src/store.rt:110:9
 same-length-3 : tie.Need-same-length-3
 same-length-3 c = search needs
 
--- src/store.rt:110:9
 returns-3 : tie.Need-returns-3
 returns-3 c = part-done _ _ _ _ _ _ _ _ _ (kind-2 _ _ _ _ _ (c .before .before .before .before .before .before .before .before .before .before .pre .0) (c .before .before .before .before .if3 .taken)) _ _ (c .before .before .put-part3 .ensures)
 
--- src/store.rt:113:13
 raw-bytes-requires : tie.Need-raw-bytes-requires
 raw-bytes-requires c κs = search needs
 
--- src/store.rt:114:9
 put-part-requires-4 : tie.Need-put-part-requires-4
 put-part-requires-4 c κs = rw (c .before .raw-bytes .ensures) (part-need _ _ _ _ _ _ _ _ _ (kind-4 _ _ _ _ _ (c .before .before .before .before .before .before .before .before .before .pre .0) (c .before .before .if4 .taken)) (c .before .before .before .before .before .before .before .before .before .pre .1))
 
--- src/store.rt:114:9
 same-length-4 : tie.Need-same-length-4
 same-length-4 c = search needs
 
--- src/store.rt:114:9
 returns-4 : tie.Need-returns-4
 returns-4 c = part-done _ _ _ _ _ _ _ _ _ (kind-4 _ _ _ _ _ (c .before .before .before .before .before .before .before .before .before .before .before .before .pre .0) (c .before .before .before .before .before .if4 .taken)) _ _ (rw (c .before .before .before .before .raw-bytes .ensures) at (c .before .before .put-part4 .ensures))
 
--- src/store.rt:116:13
 mul-k : tie.Need-mul-k
-mul-k c = 
+mul-k c =
     let h = kind-word _ _ _ _ _ (c .before .before .before .before .before .before .before .pre .0) (c .before .before .before .if1 .left) (c .before .before .if2 .left) (c .before .if3 .left) (c .if4 .left) in
     search needs
 
--- src/store.rt:116:13
 shared-slice-read-k : tie.Need-shared-slice-read-k
 shared-slice-read-k c = kind-word _ _ _ _ _ (c .before .before .before .before .before .before .before .before .pre .0) (c .before .before .before .before .if1 .left) (c .before .before .before .if2 .left) (c .before .before .if3 .left) (c .before .if4 .left)
 
--- src/store.rt:116:13
 cast-k : tie.Need-cast-k
 cast-k c = omega (arith, c .shared-slice-known3 .given (c .before .before .before .before .before .before .before .before .args .i))
 
--- src/store.rt:117:16
 add-next : tie.Need-add-next
 add-next c = omega (arith, kind-word _ _ _ _ _ (c .before .before .before .before .before .before .before .before .pre .0) (c .before .before .before .before .if1 .left) (c .before .before .before .if2 .left) (c .before .before .if3 .left) (c .before .if4 .left))
 
--- src/store.rt:119:9
 put-part-requires-5 : tie.Need-put-part-requires-5
 put-part-requires-5 c κs = part-need _ _ _ _ _ _ _ _ _ (kind-3 _ _ _ _ _ (c .before .before .before .before .before .before .before .before .before .before .pre .0) (c .before .if5 .taken) .0) (c .before .before .before .before .before .before .before .before .before .before .pre .1)
 
--- src/store.rt:119:9
 same-length-5 : tie.Need-same-length-5
 same-length-5 c = search needs
 
--- src/store.rt:119:9
 returns-5 : tie.Need-returns-5
 returns-5 c = part-done _ _ _ _ _ _ _ _ _ (kind-3 _ _ _ _ _ (c .before .before .before .before .before .before .before .before .before .before .before .before .before .pre .0) (c .before .before .before .before .if5 .taken) .0) _ _ (c .before .before .put-part5 .ensures)
 
--- src/store.rt:121:5
 put-list-requires : tie.Need-put-list-requires
 put-list-requires c κs = list-need _ _ _ _ _ _ _ _ _ (kind-5 _ _ _ _ _ (c .before .before .before .before .before .before .before .before .before .before .pre .0) (c .before .before .before .before .before .before .if1 .left) (c .before .before .before .before .before .if2 .left) (c .before .before .before .before .if3 .left) (c .before .if5 .left) (c .before .before .before .if4 .left) .0) (c .before .before .before .before .before .before .before .before .before .before .pre .1)
 
--- src/store.rt:89:1
 same-length-6 : tie.Need-same-length-6
 same-length-6 c = search needs
 
--- src/store.rt:89:1
 returns-6 : tie.Need-returns-6
 returns-6 c = list-done _ _ _ _ _ _ _ _ _ (kind-5 _ _ _ _ _ (c .before .before .before .before .before .before .before .before .before .before .before .before .before .pre .0) (c .before .before .before .before .before .before .before .before .before .if1 .left) (c .before .before .before .before .before .before .before .before .if2 .left) (c .before .before .before .before .before .before .before .if3 .left) (c .before .before .before .before .if5 .left) (c .before .before .before .before .before .before .if4 .left) .0) _ _ (c .before .before .put-list .ensures)
 

@@ -3,15 +3,11 @@ use borrow.Author.Tests.{ne-eqb}
 use Rattle.standard.specs.Types.{width}
 use Rattle.value.proofs.store.width_of.Statement.{statement}
 use Rattle.value.proofs.store.width_of.Tie as tie
-use Rattle.value.proofs.store.width_of.Reads as reads
-use Rattle.value.proofs.store.width_of.Lts as lts
 
--- src/store.rt:152:1
 returns : tie.Need-returns
 unfolding width
 returns c = rw (c .if1 .taken)
 
--- src/store.rt:152:1
 returns-2 : tie.Need-returns-2
 unfolding width
 returns-2 c = rw (ne-eqb _ _ (c .if1 .left))
