@@ -6,3 +6,4 @@ pub mod Leaves
 pub mod Fills
 pub mod Calls
 pub mod Forms
+pub mod Round
