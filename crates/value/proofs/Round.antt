@@ -1,4 +1,4 @@
--- The two calls, one behind the other: the message of a value, unfolded and written again, is the message. Assumes nothing.
+-- The two calls, one behind the other: a message unfolded and written again is the message, a form written and unfolded again is the form. Assumes nothing.
 use mathlib.Core.Path.{_≡_, sym, ap, _∙_}
 use mathlib.Core.List.{List, _++_}
 use Prim.Native.Nat.{ℕ, _+_, _≤_, _<_, _^_}
@@ -11,7 +11,8 @@ use Rattle.layout.specs.Table.{tableOf}
 use Rattle.layout.specs.declared.Checked.the-variants.{Upto}
 use Rattle.message.specs.Check.{messageType}
 use Rattle.message.specs.Form.{contents, bodies}
-use Rattle.message.specs.Unfold.{unfoldedWords, unfoldedBytes}
+use Rattle.message.specs.Unfold.{unfoldMessage, unfoldedWords, unfoldedBytes}
+use Rattle.message.specs.declared.Unfolded.{Unfolded}
 use Rattle.message.proofs.UnfoldTheorem.{unfold-value}
 use Rattle.value.specs.Write.{writeMessage, writtenBytes}
 use Rattle.value.specs.declared.Written.the-variants.{Length}
@@ -36,3 +37,18 @@ written-back l n h e m k v g s o p q i j r c b x y =
     let b-is : b ≡ bodies t v = y ∙ ap (take (length (bodies t v))) (u .2) ∙ stored-first p (bodies t v) j in
     let w = form-written l n h e v g q (rw s k) (rw s r) in
     (rw (c-is, b-is) (rw s at (w .0)), rw (c-is, b-is) (rw s at (w .1)))
+
+-- And the other way: the form of a value, written and unfolded again, is the form.
+pub unfolded-back :
+    (l : List ℕ) (n : ℕ) → Bytes l → tableOf l ≡ Upto n → (v : Val (messageType l n)) → Ok (messageType l n) v → (o p q : List ℕ)
+    → length (serialize (messageType l n) v) < 2 ^ 32 → length (serialize (messageType l n) v) ≤ length q
+    → length (contents (messageType l n) v) ≤ length o → length (bodies (messageType l n) v) ≤ length p
+    → (m : List ℕ)
+    → m ≡ take (length (serialize (messageType l n) v)) (writtenBytes l (contents (messageType l n) v) (bodies (messageType l n) v) q)
+    → (unfoldMessage l m o p ≡ Unfolded.Sizes (length (contents (messageType l n) v)) (length (bodies (messageType l n) v)))
+    × (unfoldedWords l m o p ≡ sets o 0 (contents (messageType l n) v)) × (unfoldedBytes l m o p ≡ sets p 0 (bodies (messageType l n) v))
+unfolded-back l n h e v g o p q small room i j m x =
+    let s = serialize (messageType l n) v in
+    let w = form-written l n h e v g q small room in
+    let m-is : m ≡ s = x ∙ ap (take (length s)) (w .1) ∙ stored-first q s room in
+    unfold-value l n h e m (rw m-is small) o p v g (sym m-is) i j
