@@ -4,6 +4,7 @@ use crate::encoder;
 use crate::lists;
 use crate::messages;
 use crate::offsets;
+use crate::states;
 use crate::vectors;
 use cases::Verdict;
 use standard::words::word_at;
@@ -31,7 +32,9 @@ pub(crate) fn ask(b: &[u8], first: &mut [u8], second: &mut [u8], words: &mut [u3
         38 => vectors::set(b),
         50 => builder::build(b),
         51 => builder::item(b),
+        52 => states::builder(b),
         60 => encoder::encode(b, first, second),
+        61 => states::encoder(b, first, second),
         70 => messages::layout_check(b),
         71 => messages::check(b),
         72 => messages::listing(b, first),

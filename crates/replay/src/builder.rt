@@ -2,6 +2,7 @@
 use crate::answers::is_empty;
 use crate::answers::is_fine;
 use crate::answers::is_refusal;
+use crate::walked;
 use cases::ANY;
 use cases::Verdict;
 use cases::is_formed;
@@ -23,7 +24,7 @@ pub(crate) struct Ran {
     built: Built,
 }
 
-fn register(state: SszDecoderBuilder, item: usize, bytes: &[u8]) -> Registered {
+pub(crate) fn register(state: SszDecoderBuilder, item: usize, bytes: &[u8]) -> Registered {
     if item == ANY {
         state.register_variable(bytes)
     } else {
@@ -69,7 +70,7 @@ fn register_all(bytes: &[u8], row: &[u8]) -> Ran {
 }
 
 // Whether the row has just these ranges.
-fn is_ranges(row: &[u8], decoder: SszDecoder) -> bool {
+pub(crate) fn is_ranges(row: &[u8], decoder: SszDecoder) -> bool {
     let count = decoder.count;
     let starts = decoder.starts;
     let ends = decoder.ends;
@@ -146,9 +147,15 @@ pub(crate) fn item(b: &[u8]) -> Verdict {
     let decoder = decoder_of(row);
     let said = decoder.item_told(index, bytes.len());
     match said {
-        Told::Fine => {
-            cases::told(is_fine(part(b, 3)) && check::same(decoder.item(index, bytes), part(b, 4)))
-        }
-        Told::Refused(e) => cases::told(is_refusal(part(b, 3), e) && is_empty(part(b, 4))),
+        Told::Fine => cases::told(
+            is_fine(part(b, 3))
+                && check::same(decoder.item(index, bytes), part(b, 4))
+                && walked::hands_out(decoder, index, bytes, part(b, 4)),
+        ),
+        Told::Refused(e) => cases::told(
+            is_refusal(part(b, 3), e)
+                && is_empty(part(b, 4))
+                && walked::refuses(decoder, index, bytes, part(b, 3)),
+        ),
     }
 }

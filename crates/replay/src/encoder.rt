@@ -29,7 +29,7 @@ pub(crate) enum Encoding {
 }
 
 // Where the item that begins at a place ends: a word for its kind, then a part.
-fn item_end(items: &[u8], at: usize) -> Extent
+pub(crate) fn item_end(items: &[u8], at: usize) -> Extent
     requires { ⌜ at < length (now items) ⌝ }
     ensures { λ r. ⌜ Past (at + 8) (length (now (items .entry))) r ⌝ }
 {

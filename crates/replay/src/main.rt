@@ -9,7 +9,9 @@ mod messages;
 mod offsets;
 mod print;
 mod run;
+mod states;
 mod vectors;
+mod walked;
 
 use run::Outcome;
 ghost use mathlib.Core.Path.{_≡_};

@@ -71,6 +71,18 @@ fn told(part: &[u8], kind: Kind) -> String {
             let each = pairs.chunks(2).map(|pair| format!("{}..{}", pair[0], pair[1]));
             format!("ranges {}", each.collect::<Vec<String>>().join(" "))
         }
+        Kind::Builder | Kind::BuilderAfter if part.len() == format::BUILDER_BYTES => {
+            let row = to_row(part);
+            let each = (2..66).map(|i| (row[i], row[i + 64])).enumerate();
+            let used = each.filter(|(i, pair)| (*i as u64) < row[0] || *pair != (0, 0));
+            let texts = used.map(|(i, pair)| format!("{i}: {}..{}", pair.0, pair.1));
+            let texts = texts.collect::<Vec<String>>().join(", ");
+            format!("state count {} position {} items {texts}", row[0], row[1])
+        }
+        Kind::Encoder | Kind::EncoderAfter if part.len() == format::ENCODER_BYTES => {
+            let row = to_row(part);
+            format!("state fixed size {} used {} and {}", row[0], row[1], row[2])
+        }
         Kind::Registrations if part.len() % 8 == 0 => {
             let each = to_row(part).into_iter().map(|length| match length {
                 VARIABLE => "variable".to_string(),

@@ -12,6 +12,10 @@ pub const LONGEST_RECORD: usize = 262_144;
 pub const HELD_BITS: u64 = 2_048;
 pub const HELD_BYTES: usize = 256;
 
+/// A builder's state and an encoder's as parts.
+pub const BUILDER_BYTES: usize = 8 * 130;
+pub const ENCODER_BYTES: usize = 8 * 3;
+
 /// Stands in a row of registrations for a variable item.
 pub const VARIABLE: u64 = u64::MAX;
 
@@ -30,8 +34,18 @@ impl Head {
         Self { number, a, b }
     }
 
-    fn part(self) -> Part {
+    pub fn part(self) -> Part {
         row(&[self.number, self.a, self.b, 0, 0])
+    }
+}
+
+/// Puts a record of these parts, question and answer, behind what is there.
+pub fn put_record(record: &mut Vec<u8>, op: u32, parts: &[&[u8]]) {
+    record.extend_from_slice(&op.to_le_bytes());
+    record.extend_from_slice(&(parts.len() as u32).to_le_bytes());
+    for part in parts {
+        record.extend_from_slice(&(part.len() as u32).to_le_bytes());
+        record.extend_from_slice(part);
     }
 }
 
@@ -49,14 +63,9 @@ impl Case {
         self.assert_shape();
         let head = self.head.part();
         let answer = std::iter::once(&head).chain(&self.results);
-        let parts: Vec<&Part> = self.question.iter().chain(answer).collect();
+        let parts: Vec<&[u8]> = self.question.iter().chain(answer).map(|part| &part[..]).collect();
         let mut record = Vec::new();
-        record.extend(self.op.to_le_bytes());
-        record.extend((parts.len() as u32).to_le_bytes());
-        for part in parts {
-            record.extend((part.len() as u32).to_le_bytes());
-            record.extend(part);
-        }
+        put_record(&mut record, self.op, &parts);
         assert!(record.len() <= LONGEST_RECORD, "record of operation {} too long", self.op);
         record
     }
@@ -70,7 +79,7 @@ impl Case {
             assert!(fits(part, *kind), "{kind:?} in a question of {}", op.name);
         }
         for (part, kind) in self.results.iter().zip(op.gives) {
-            let given = !refused || matches!(kind, Kind::Buffer | Kind::Count);
+            let given = !refused || matches!(kind, Kind::Buffer | Kind::Count | Kind::BuilderAfter);
             let right = if given { fits(part, *kind) } else { part.is_empty() };
             assert!(right, "{kind:?} in an answer of {}", op.name);
         }
@@ -85,6 +94,10 @@ fn fits(part: &[u8], kind: Kind) -> bool {
         Kind::Held => part.len() == HELD_BYTES + 16,
         Kind::Ranges => part.len() % 16 == 0,
         Kind::Registrations => part.len() % 8 == 0,
+        Kind::Builder => part.len() == BUILDER_BYTES,
+        Kind::BuilderAfter => part.is_empty() || part.len() == BUILDER_BYTES,
+        Kind::Encoder => part.len() == ENCODER_BYTES,
+        Kind::EncoderAfter => part.is_empty() || part.len() == ENCODER_BYTES,
     }
 }
 

@@ -2,6 +2,7 @@
 
 mod document;
 mod dump;
+mod every;
 mod format;
 mod make;
 mod ops;
@@ -23,8 +24,12 @@ const USAGE: &str = "usage:
       until there are N (200000); with --part only each OF-th case from number K on is written
   compare cases --sample --out FILE [--ops LIST] [--seed S] [--bytes B]
       a part of them that takes at most B bytes (640000)
-  compare document --out FILE
+  compare document --out FILE [--seed S]
       cases whose answers are document 01's and not the crate's
+  compare pairs --replay PROGRAM [--most N]
+      every pair of bitfields of each N up to 10, every length of a list, in each operation on two,
+      and every string of up to two bytes read with each N up to 17: the crate's answers, in files
+      of about 100 MB, each of which PROGRAM replays
   compare dump FILE [FIRST [COUNT]]
       the records as text
   compare messages [--seed S] [--count N] [--depth D] [--short D]
@@ -180,7 +185,9 @@ fn write_sample(options: &Options) -> io::Result<()> {
 
 fn write_document(options: &Options) -> io::Result<()> {
     let mut cases = Cases::create(&options.out, (0, 1))?;
-    collect(&mut cases, |take| document::cases(&mut |case| take(Made::Answered(case))))?;
+    collect(&mut cases, |take| {
+        document::cases(options.seed, &mut |case| take(Made::Answered(case)))
+    })?;
     cases.end()
 }
 
@@ -236,6 +243,7 @@ fn run(arguments: &[String]) -> Result<(), String> {
     let written = match command.as_str() {
         "dump" => return print_dump(rest),
         "messages" => return compare_messages(rest),
+        "pairs" => return every::compare(rest),
         "cases" => {
             let options = Options::parse(rest)?;
             if options.sample {

@@ -21,6 +21,14 @@ pub enum Kind {
     Buffer,
     /// A number that is given on a refusal too.
     Count,
+    /// A builder's state: count, position, 64 starts, 64 ends.
+    Builder,
+    /// The same behind a registration, refused or not; none behind the end.
+    BuilderAfter,
+    /// An encoder's state: fixed size, bytes used of each buffer.
+    Encoder,
+    /// The same behind an append; none behind the end.
+    EncoderAfter,
 }
 
 pub struct Op {
@@ -83,8 +91,16 @@ const MESSAGES: &[Op] = &[
     op(72, "listing", &[Bytes, Bytes, Buffer], &[Number, Buffer]),
 ];
 
+/// Operations of our own, which the crate cannot be asked: `document` makes their cases.
+const STATES: &[Op] = &[
+    op(52, "builder's state", &[Bytes, Builder, Maybe], &[BuilderAfter, Ranges]),
+    op(61, "encoder's state", &[Encoder, Items, Buffer, Buffer], STATE_GIVES),
+];
+
+const STATE_GIVES: &[Kind] = &[EncoderAfter, Maybe, Buffer, Buffer];
+
 pub fn find(number: u32) -> Option<&'static Op> {
-    OPS.iter().chain(MESSAGES).find(|op| op.number == number)
+    OPS.iter().chain(STATES).chain(MESSAGES).find(|op| op.number == number)
 }
 
 /// A BitVector's operation has the number of the BitList's plus 20.

@@ -7,8 +7,8 @@ const LIMIT: u64 = u32::MAX as u64;
 const FULL: Head = Head::new(26, 64, 0);
 
 /// "For a builder, after 23: bytes of 2^32 or more 21, a 65th item 26, a fixed item above
-/// 4,294,967,295 bytes 14 (length, that limit)", then the crate's own (reading 59). 23 and 21 are
-/// out of reach of a fresh builder over bytes that fit into a record.
+/// 4,294,967,295 bytes 14 (length, that limit)", then the crate's own (reading 59). 23 is out
+/// of reach of a fresh builder (`builder_states` reaches it), and 21 of bytes that fit into a record.
 pub fn cases(take: Take) {
     full(take);
     too_long(take);

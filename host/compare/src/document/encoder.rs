@@ -6,15 +6,16 @@ use crate::format::{items, number, Case, Head, Item, Part};
 /// Document 01's encoder, module 5: "a state by value (fixed size, bytes used of each) over two
 /// lent buffers". It is run on questions whose buffers are short or whose offsets are too large;
 /// where there is room, a test below holds it against the crate.
-struct Encoder {
-    fixed_size: u64,
-    fixed: Part,
-    variable: Part,
-    fixed_used: usize,
-    variable_used: usize,
+pub struct Encoder {
+    pub fixed_size: u64,
+    pub fixed: Part,
+    pub variable: Part,
+    pub fixed_used: usize,
+    pub variable_used: usize,
 }
 
 const TOO_LARGE: Head = Head::new(21, 0, 0);
+const BAD_STATE: Head = Head::new(23, 0, 0);
 
 fn no_room(needed: usize, room: usize) -> Head {
     Head::new(22, needed as u64, room as u64)
@@ -23,9 +24,9 @@ fn no_room(needed: usize, room: usize) -> Head {
 impl Encoder {
     /// "21 if the offset to write (fixed size plus variable bytes used) is 2^32 or more": for
     /// variable items only (reading 64). "22 (bytes used after it, room) if a buffer is short, the
-    /// fixed one first" (reading 66). Nothing is written on a refusal. 23 cannot come in a run of
-    /// calls over the same buffers.
-    fn append(&mut self, item: &Item) -> Result<(), Head> {
+    /// fixed one first" (reading 66). Nothing is written on a refusal.
+    pub fn append(&mut self, item: &Item) -> Result<(), Head> {
+        self.holds()?;
         if item.fixed {
             return self.store_fixed(&item.bytes);
         }
@@ -44,6 +45,17 @@ impl Encoder {
         self.store_fixed(&offset.to_le_bytes())
     }
 
+    /// "23 if a buffer has less than is used", before all else. In a run of calls over the same
+    /// buffers it cannot come.
+    fn holds(&self) -> Result<(), Head> {
+        let fixed = self.fixed_used <= self.fixed.len();
+        if fixed && self.variable_used <= self.variable.len() {
+            Ok(())
+        } else {
+            Err(BAD_STATE)
+        }
+    }
+
     fn store_fixed(&mut self, bytes: &[u8]) -> Result<(), Head> {
         let end = self.fixed_used + bytes.len();
         if end > self.fixed.len() {
@@ -54,10 +66,11 @@ impl Encoder {
         Ok(())
     }
 
-    /// "The end ... moves the second behind the first, else 22": (fixed used + variable used, room
+    /// "The end, 23 likewise, moves the second behind the first, else 22": (fixed used + variable used, room
     /// of the fixed buffer), the variable buffer untouched (reading 67). The fixed size is compared
     /// with nothing (readings 65, 68).
-    fn end(&mut self) -> Result<usize, Head> {
+    pub fn end(&mut self) -> Result<usize, Head> {
+        self.holds()?;
         let bytes = self.variable[..self.variable_used].to_vec();
         self.store_fixed(&bytes)?;
         Ok(self.fixed_used)
@@ -88,16 +101,16 @@ fn encoded(fixed_size: u64, row: &[Item], fixed: Part, variable: Part) -> Case {
     }
 }
 
-fn fixed(length: u8) -> Item {
+pub fn fixed(length: u8) -> Item {
     Item { fixed: true, bytes: (1..=length).collect() }
 }
 
-fn variable(length: u8) -> Item {
+pub fn variable(length: u8) -> Item {
     Item { fixed: false, bytes: (1..=length).map(|i| 0x40 + i).collect() }
 }
 
 /// Buffers whose bytes are all unlike what is written.
-fn buffers(room: (usize, usize)) -> (Part, Part) {
+pub fn buffers(room: (usize, usize)) -> (Part, Part) {
     (vec![0xee; room.0], vec![0xdd; room.1])
 }
 

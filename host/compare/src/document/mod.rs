@@ -6,20 +6,25 @@
 
 mod bits;
 mod builder;
+mod builder_states;
 mod encoder;
+mod encoder_states;
 
 use crate::format::{number, Case, Head, Part};
 use crate::ops::{self, Kind};
+use crate::rng::Rng;
 
 /// Where the cases go.
 pub type Take<'a> = &'a mut dyn FnMut(Case);
 
-pub fn cases(take: Take) {
+pub fn cases(seed: u64, take: Take) {
     lengths(take);
     bits::cases(take);
     builder::cases(take);
     builder::reader_cases(take);
+    builder_states::cases(&mut Rng::for_op(seed, 52), take);
     encoder::cases(take);
+    encoder_states::cases(&mut Rng::for_op(seed, 61), take);
 }
 
 /// "`encode_length` above it is 21", where "it" is 4,294,967,295.
@@ -51,14 +56,23 @@ mod tests {
 
     fn tally() -> Tally {
         let mut tally = Tally::default();
-        cases(&mut |case| tally.add(case.op, case.head.number, case.record().len()));
+        cases(1, &mut |case| tally.add(case.op, case.head.number, case.record().len()));
         tally
     }
 
     #[test]
     fn every_refusal_of_our_own_is_there() {
         let found: Vec<u64> = tally().refusals().into_keys().collect();
-        assert_eq!(found, [1, 14, 21, 22, 23, 24, 26]);
+        assert_eq!(found, [1, 2, 4, 5, 6, 7, 14, 21, 22, 23, 24, 26]);
+    }
+
+    #[test]
+    fn states_as_given_reach_every_refusal_of_their_calls() {
+        let tally = tally();
+        let of = |op: u32| tally.of(op).into_keys().collect::<Vec<u64>>();
+        // 21 of a builder needs bytes that no record holds.
+        assert_eq!(of(52), [0, 1, 2, 4, 5, 6, 7, 14, 23, 26]);
+        assert_eq!(of(61), [0, 21, 22, 23]);
     }
 
     #[test]

@@ -4,7 +4,7 @@ mod bit_bytes;
 mod bits;
 mod builder;
 mod encoder;
-mod fields;
+pub mod fields;
 mod offsets;
 
 use crate::format::{Case, Part};

@@ -7,7 +7,7 @@ use crate::ops::{as_list, is_vector};
 use ssz::BitfieldError;
 
 /// The crate's field that holds what the part says: made by its calls, bit after bit.
-fn lent(op: u32, part: &Part) -> Box<dyn Field> {
+pub fn lent(op: u32, part: &Part) -> Box<dyn Field> {
     let held = Held::from_part(part);
     let mut field = blank(is_vector(op), held.length, held.n);
     for i in (0..held.length).filter(|i| held.bit(*i)) {
@@ -51,13 +51,18 @@ pub fn answer(op: u32, question: &[Part]) -> Answer {
 
 fn of_two(op: u32, question: &[Part]) -> Answer {
     let (first, second) = (lent(op, &question[0]), lent(op, &question[1]));
+    accepted(vec![of_pair(op, &*first, &*second)])
+}
+
+/// The result of an operation on two fields of one type, which the crate never refuses.
+pub fn of_pair(op: u32, first: &dyn Field, second: &dyn Field) -> Part {
     let field = match as_list(op) {
-        13 => first.both(&*second),
-        14 => first.either(&*second),
-        15 => return counted(usize::from(first.within(&*second))),
-        _ => first.without(&*second),
+        13 => first.both(second),
+        14 => first.either(second),
+        15 => return number(u64::from(first.within(second))),
+        _ => first.without(second),
     };
-    accepted(vec![given(&*field)])
+    given(&*field)
 }
 
 fn of_one(op: u32, question: &[Part]) -> Answer {

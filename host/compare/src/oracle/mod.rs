@@ -14,6 +14,7 @@ pub mod sizes;
 use crate::format::{Case, Head, Part};
 use crate::ops;
 
+pub use bits::{lent, of_pair};
 pub use containers::reader_case;
 
 /// The head and the results.

@@ -1,0 +1,34 @@
+// The forms that are walked by hand, asked beside the core: each of them must give the same answer.
+use decode::decoder::SszDecoder;
+use standard::Told;
+
+fn is_one_more(n: usize, k: usize) -> bool {
+    k < n && n - k == 1
+}
+
+// Whether the reader over the lent bytes hands out this item as well, and moves on by one.
+pub(crate) fn hands_out(ranges: SszDecoder, index: usize, bytes: &[u8], item: &[u8]) -> bool {
+    let step = reader::step_after(ranges, index, bytes.len());
+    let said = step.told;
+    match said {
+        Told::Fine => {
+            is_one_more(step.next, index)
+                && check::same(reader::item_after(bytes, ranges, index), item)
+        }
+        Told::Refused(_) => false,
+    }
+}
+
+// Whether it refuses as well, with these numbers, hands out nothing and does not move.
+pub(crate) fn refuses(ranges: SszDecoder, index: usize, bytes: &[u8], head: &[u8]) -> bool {
+    let step = reader::step_after(ranges, index, bytes.len());
+    let said = step.told;
+    match said {
+        Told::Fine => false,
+        Told::Refused(e) => {
+            step.next == index
+                && cases::refusal_matches(head, e)
+                && reader::item_after(bytes, ranges, index).len() == 0
+        }
+    }
+}
