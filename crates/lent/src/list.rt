@@ -1,5 +1,6 @@
 // A bit list of the caller's, changed where it lies.
 use bitfield::BitList;
+use bitfield::ListResult;
 use bitfield::Told;
 ghost use mathlib.Core.Path.{_≡_};
 ghost use Rattle.bitfield.specs.Lists.{listSet, listNot, listDifference};
@@ -30,4 +31,30 @@ pub fn difference_inplace(b: &mut BitList, other: BitList) -> Told
     let made = (*b).difference(other);
     *b = made.field;
     made.told
+}
+
+// What each of them leaves of a bitfield of its own that it is lent, and what it tells. Their parameters are plain, so whoever calls them needs
+// no walk.
+pub fn after_set(b: BitList, i: usize, value: bool) -> ListResult
+    ensures { λ r. ⌜ r ≡ listSet b i value ⌝ }
+{
+    let mut field = b;
+    let told = set(&mut field, i, value);
+    ListResult { field, told }
+}
+
+pub fn after_not(b: BitList) -> ListResult
+    ensures { λ r. ⌜ r ≡ listNot b ⌝ }
+{
+    let mut field = b;
+    let told = not_inplace(&mut field);
+    ListResult { field, told }
+}
+
+pub fn after_difference(b: BitList, other: BitList) -> ListResult
+    ensures { λ r. ⌜ r ≡ listDifference b other ⌝ }
+{
+    let mut field = b;
+    let told = difference_inplace(&mut field, other);
+    ListResult { field, told }
 }

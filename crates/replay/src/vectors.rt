@@ -43,6 +43,35 @@ fn made(head: &[u8], result: &[u8], answer: VectorResult) -> Verdict {
     }
 }
 
+// The same of the form that acts on the caller's own bitfield, which a refusal leaves as it was.
+fn left(question: &[u8], head: &[u8], result: &[u8], answer: VectorResult) -> Verdict {
+    let field = answer.field;
+    let bytes = field.bytes;
+    let said = answer.told;
+    match said {
+        Told::Fine => told(is_fine(head) && has(result, bytes, field.len, field.n)),
+        Told::Refused(e) => told(
+            is_refusal(head, e) && is_empty(result) && has(question, bytes, field.len, field.n),
+        ),
+    }
+}
+
+// The answer by value, and what the lent form leaves: the record differs if either does.
+fn both(
+    question: &[u8],
+    head: &[u8],
+    result: &[u8],
+    by_value: VectorResult,
+    lent: VectorResult,
+) -> Verdict {
+    let verdict = made(head, result, by_value);
+    if let Verdict::Same = verdict {
+        left(question, head, result, lent)
+    } else {
+        verdict
+    }
+}
+
 // 30: N. Held.
 pub(crate) fn new(b: &[u8]) -> Verdict {
     if !is_formed(b, 1, 3) {
@@ -108,7 +137,10 @@ pub(crate) fn with_other(b: &[u8], operation: usize) -> Verdict {
         33 => made(head, result, f.intersection(g)),
         34 => made(head, result, f.union(g)),
         35 => bit(head, result, f.is_subset(g)),
-        _ => made(head, result, f.difference(g)),
+        _ => {
+            let lent = lent::vector::after_difference(f, g);
+            both(part(b, 0), head, result, f.difference(g), lent)
+        }
     }
 }
 
@@ -147,7 +179,13 @@ pub(crate) fn alone(b: &[u8], operation: usize) -> Verdict {
         40 => highest(head, result, f.highest_set_bit()),
         41 => bit(head, result, f.is_zero()),
         42 => count(head, result, f.num_set_bits()),
-        _ => made(head, result, f.not()),
+        _ => both(
+            part(b, 0),
+            head,
+            result,
+            f.not(),
+            lent::vector::after_not(f),
+        ),
     }
 }
 
@@ -166,5 +204,7 @@ pub(crate) fn set(b: &[u8]) -> Verdict {
         return Verdict::Malformed;
     }
     let is_one = is_number(part(b, 2), 1);
-    made(part(b, 3), part(b, 4), field_of(part(b, 0)).set(i, is_one))
+    let f = field_of(part(b, 0));
+    let lent = lent::vector::after_set(f, i, is_one);
+    both(part(b, 0), part(b, 3), part(b, 4), f.set(i, is_one), lent)
 }
