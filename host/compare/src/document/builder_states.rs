@@ -296,8 +296,7 @@ fn small_states() -> Vec<State> {
 #[cfg(test)]
 mod tests {
     use super::*;
-    use crate::format::{to_number, Raw};
-    use crate::make;
+    use crate::format::to_number;
 
     /// The crate's own fresh runs: how many registrations it accepts, and what the end gives.
     #[test]
@@ -325,8 +324,7 @@ mod tests {
     fn a_foreign_state_is_refused_or_goes_on_as_a_fresh_run() {
         let (mut refused, mut went_on) = (0, 0);
         cases(&mut Rng::new(3), &mut |case| {
-            let record = Raw { op: case.op, parts: case.question.clone() };
-            let (bytes, told) = (&record.parts[0], to_row(&record.parts[1]));
+            let (bytes, told) = (&case.question[0], to_row(&case.question[1]));
             if case.head.number == 23 {
                 refused += 1;
                 return;
