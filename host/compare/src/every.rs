@@ -1,9 +1,11 @@
 //! Every short question about bitfields, with the crate's answers, replayed in files of cases that
 //! are made and thrown away one after another: all of them together would take tens of gigabytes.
 
-use crate::format::{number, put_record, Head, Held, Part};
-use crate::make::fields;
+use crate::format::{number, put_record, Case, Head, Held, Part};
+use crate::make::{self, fields};
+use crate::ops::{as_list, OPS};
 use crate::oracle;
+use crate::rng::Rng;
 use std::fs;
 use std::path::{Path, PathBuf};
 use std::process::Command;
@@ -36,11 +38,24 @@ impl Files {
 
     fn put(&mut self, op: u32, parts: &[&[u8]]) -> Result<(), String> {
         put_record(&mut self.records, op, parts);
+        self.counted()
+    }
+
+    fn put_case(&mut self, case: &Case) -> Result<(), String> {
+        self.records.extend(case.record());
+        self.counted()
+    }
+
+    fn counted(&mut self) -> Result<(), String> {
         self.waiting += 1;
         if self.records.len() >= FILE_BYTES {
             self.replayed()?;
         }
         Ok(())
+    }
+
+    fn made(&self) -> u64 {
+        self.cases + self.waiting
     }
 
     /// Replays what is waiting. A run that does not tell of just these cases is a failure, and not
@@ -75,6 +90,21 @@ impl Drop for Files {
 fn differing(line: &str, cases: u64) -> Option<u64> {
     let rest = line.strip_prefix(&format!("{cases} cases, "))?;
     rest.strip_suffix(" differ")?.parse().ok()
+}
+
+/// Every field of each N up to `most`, at every place up to its end and just past it.
+fn singles(files: &mut Files, most: u64) -> Result<(), String> {
+    let of_one = |op: &u32| (10..=45).contains(op) && !matches!(as_list(*op), 11 | 13..=15 | 23);
+    for op in OPS.iter().map(|op| op.number).filter(of_one) {
+        let mut outcome = Ok(());
+        make::exhaustive(op, most, &mut Rng::for_op(1, op), &mut |made| {
+            if outcome.is_ok() {
+                outcome = files.put_case(&made.case());
+            }
+        });
+        outcome?;
+    }
+    Ok(())
 }
 
 /// Every pair of fields of each N up to `most`, of vectors and of lists of any two lengths.
@@ -130,11 +160,14 @@ pub fn compare(arguments: &[String]) -> Result<(), String> {
     }
     let mut files = Files::new(&replay)?;
     strings(&mut files)?;
-    let of_strings = files.cases + files.waiting;
+    let strings = files.made();
+    singles(&mut files, most)?;
+    let singles = files.made() - strings;
     pairs(&mut files, most)?;
     files.replayed()?;
     let (cases, differ) = (files.cases, files.differ);
-    println!("strings: {of_strings}; pairs up to {most} bits: {}", cases - of_strings);
+    let pairs = cases - strings - singles;
+    println!("strings: {strings}; up to {most} bits, one field: {singles}, two: {pairs}");
     println!("{cases} cases, {differ} differ");
     match differ {
         0 => Ok(()),

@@ -27,9 +27,9 @@ const USAGE: &str = "usage:
   compare document --out FILE [--seed S]
       cases whose answers are document 01's and not the crate's
   compare pairs --replay PROGRAM [--most N]
-      every pair of bitfields of each N up to 10, every length of a list, in each operation on two,
-      and every string of up to two bytes read with each N up to 17: the crate's answers, in files
-      of about 100 MB, each of which PROGRAM replays
+      every bitfield and every pair of them of each N up to 10, lists of every length, in each
+      operation, and every string of up to two bytes read with each N up to 17: the crate's
+      answers, in files of about 100 MB, each of which PROGRAM replays
   compare dump FILE [FIRST [COUNT]]
       the records as text
   compare messages [--seed S] [--count N] [--depth D] [--short D]
