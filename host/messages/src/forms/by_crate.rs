@@ -2,18 +2,25 @@
 
 use super::ask::Head;
 use super::value::Form;
+use super::writer::written;
 use crate::answers::expected;
 use crate::types::Subject;
 use crate::watch::Notes;
 use cartwhisker::{Kind, Layout, Record, Type};
 
-/// What unfolding is to answer where there is room.
+/// What unfolding is to answer where there is room. The model has to write the form as the message
+/// again.
 pub fn told(subject: &Subject, message: &[u8]) -> Result<Form, Head> {
     let mut notes = Notes::default();
     let decoded = (subject.decode)(message, &mut notes);
     let number_of = |note: &_| subject.number_of(note);
     match expected(&subject.layout, message, decoded, &notes, number_of).answer {
-        Ok(records) => Ok(form_of(&subject.layout, message, &records)),
+        Ok(records) => {
+            let form = form_of(&subject.layout, message, &records);
+            let again = written(&subject.layout, &form);
+            assert_eq!(again.as_deref(), Ok(message), "written otherwise: {:?}", subject.layout);
+            Ok(form)
+        }
         Err(refusal) => Err([
             u64::from(refusal.number),
             refusal.a,
