@@ -1,15 +1,17 @@
--- Document 01's twelve proved cases ("Worked bids") in one table under one statement, and the listing of P, all by computation.
--- Assumes nothing.
+-- Document 01's twelve proved cases ("Worked bids") in one table under one statement; the listing, the value form and the pieces of P; all
+-- by computation. Assumes nothing.
 use mathlib.Core.Path.{_≡_, refl}
+use mathlib.Core.Logic.{inl}
 use mathlib.Core.List.{List, [], _∷_, _++_}
-use mathlib.Core.Bool.{false}
+use mathlib.Core.Bool.{true, false}
 use Prim.Native.Nat.{ℕ}
 use lib.ListN.{take}
 use Rattle.standard.specs.Bytes.{le, num, numAt, wordAt}
-use Rattle.standard.specs.Types.{bitList, head, heads, joined, width, portion}
-use Rattle.standard.specs.Parts.{next}
+use Rattle.standard.specs.Types.{Ty, number, freeBytes, bitList, container, union, end, field, over, body, head, heads, joined, width, portion}
+use Rattle.standard.specs.Parts.{next, fixedLengths, fronts, backs, join}
 use Rattle.standard.specs.Bits.{bitNum, packs, pack, marked}
-use Rattle.standard.specs.Serialize.{serialize}
+use Rattle.standard.specs.Serialize.{Val, serialize}
+use Rattle.standard.specs.Pieces.{offsetWord, selectorByte, leafBody, pieces}
 use Rattle.standard.specs.declared.Refusal.the-variants.{InvalidByteLength, InvalidLengthPrefix, OffsetIntoFixedPortion, OffsetSkipsVariableBytes, OffsetsAreDecreasing, OffsetOutOfBounds, OutOfBounds, MissingLengthInformation, ExcessBits, InvalidByteCount}
 use Rattle.standard.proofs.Bits.{bitsOf}
 use Rattle.decode.specs.Builder.{step, register, build, layOut}
@@ -87,3 +89,43 @@ four-zeros = (refl, refl)
 unfolded : (unfoldWords (treeOf layoutL 3) messageP ≡ 3 ∷ 3 ∷ []) × (unfoldBytes (treeOf layoutL 3) messageP ≡ 0x2a ∷ 0 ∷ 0 ∷ 0 ∷ 0 ∷ 0 ∷ 0 ∷ 0 ∷ 0x0a ∷ 0x0b ∷ 0x0c ∷ 0x05 ∷ [])
 unfolding messageP offsets layoutL bytesOf le num numAt wordAt head heads joined width portion next nodeOf leafOf fromNode fields options trees treeOf bitsOf bitNum packs highest bitListBody rawOf unfoldWords unfoldBytes
 unfolded = (refl, refl)
+
+-- The value of P, and its pieces: the number's body, the two offsets, each with the field that it says behind it
+typeP : Ty
+typeP = container 3 (field (number 0 8) (field (freeBytes 1 16) (field (bitList 2 8) end)))
+
+valueP : Val typeP
+unfolding typeP
+valueP = (42, (0x0a ∷ 0x0b ∷ 0x0c ∷ [], (true ∷ false ∷ true ∷ [], tt)))
+
+of-P : (messageType layoutL 4 ≡ typeP) × (serialize typeP valueP ≡ messageP)
+unfolding messageP offsets layoutL typeP valueP bytesOf le num numAt wordAt head heads joined nodeOf leafOf fromNode fields options trees treeOf bitNum packs pack marked fixedLengths fronts backs join serialize
+of-P = (refl, refl)
+
+pieces-P :
+    pieces typeP valueP 0
+    ≡ record { kind = leafBody 0; from = 0; to = 8; bytes = 0x2a ∷ 0 ∷ 0 ∷ 0 ∷ 0 ∷ 0 ∷ 0 ∷ 0 ∷ [] }
+    ∷ record { kind = offsetWord; from = 8; to = 12; bytes = 16 ∷ 0 ∷ 0 ∷ 0 ∷ [] }
+    ∷ record { kind = leafBody 1; from = 16; to = 19; bytes = 0x0a ∷ 0x0b ∷ 0x0c ∷ [] }
+    ∷ record { kind = offsetWord; from = 12; to = 16; bytes = 19 ∷ 0 ∷ 0 ∷ 0 ∷ [] }
+    ∷ record { kind = leafBody 2; from = 19; to = 20; bytes = 0x0d ∷ [] }
+    ∷ []
+unfolding typeP valueP le head joined bitNum packs pack marked fixedLengths serialize pieces
+pieces-P = refl
+
+-- A container in a union: the selector comes first, and the offset counts from the container's start, not the message's
+inUnion : Ty
+inUnion = union 2 (body 0 (container 1 (field (freeBytes 0 4) end)) over)
+
+bodyInUnion : Val inUnion
+unfolding inUnion
+bodyInUnion = inl ((7 ∷ []), tt)
+
+pieces-nested :
+    pieces inUnion bodyInUnion 0
+    ≡ record { kind = selectorByte; from = 0; to = 1; bytes = 0 ∷ [] }
+    ∷ record { kind = offsetWord; from = 1; to = 5; bytes = 4 ∷ 0 ∷ 0 ∷ 0 ∷ [] }
+    ∷ record { kind = leafBody 0; from = 5; to = 6; bytes = 7 ∷ [] }
+    ∷ []
+unfolding inUnion bodyInUnion le head joined fixedLengths serialize pieces
+pieces-nested = refl

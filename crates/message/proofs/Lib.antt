@@ -9,5 +9,6 @@ pub mod UnfoldLeaves
 pub mod Unfolds
 pub mod UnfoldCounts
 pub mod Theorem
+pub mod Tiles
 pub mod UnfoldTheorem
 pub mod Cases

@@ -1,6 +1,7 @@
 // A record's question put to the library. `first`, `second` and `words` are room for what a call is lent.
 use crate::builder;
 use crate::encoder;
+use crate::forms;
 use crate::lists;
 use crate::messages;
 use crate::offsets;
@@ -38,6 +39,8 @@ pub(crate) fn ask(b: &[u8], first: &mut [u8], second: &mut [u8], words: &mut [u3
         70 => messages::layout_check(b),
         71 => messages::check(b),
         72 => messages::listing(b, first),
+        73 => forms::unfolding(b, first, words),
+        74 => forms::writing(b, first, words),
         _ => Verdict::Malformed,
     }
 }

@@ -4,6 +4,7 @@ mod ask;
 mod bits;
 mod builder;
 mod encoder;
+mod forms;
 mod lists;
 mod messages;
 mod offsets;

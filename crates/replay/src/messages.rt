@@ -17,7 +17,7 @@ use standard::Refusal;
 use standard::Told;
 
 // Whether the expected head is that of a refusal at an item.
-fn is_refusal_at(head: &[u8], refusal: Refusal, kind: usize, start: usize) -> bool {
+pub(crate) fn is_refusal_at(head: &[u8], refusal: Refusal, kind: usize, start: usize) -> bool {
     let said = refusal.numbers();
     head_matches(head, said.number, said.a, said.b, kind, start)
 }

@@ -4,3 +4,4 @@ pub mod Bits
 pub mod Store
 pub mod Join
 pub mod Laws
+pub mod Pieces

@@ -5,3 +5,4 @@ pub mod Bits
 pub mod Types
 pub mod Parts
 pub mod Serialize
+pub mod Pieces

@@ -4,7 +4,7 @@ use mathlib.Core.Logic.{inl, inr}
 use mathlib.Core.List.{List, [], _∷_, _++_, append-assoc, append-nil}
 use mathlib.Core.Bool.{Bool, true, false}
 use Prim.Native.Nat.{ℕ, zero, suc, _+_, _-_, _*_, _/_, _%_, _≤_, _<_, _^_}
-use native.Mathlib.Nat.{add-zero, add-assoc, mul-add}
+use native.Mathlib.Nat.{add-zero, zero-add, mul-add}
 use native.Mathlib.Omega.{arith}
 use borrow.Author.Tests.{le-leb, lt-ltb, le-ltb, eq-eqb, ne-eqb, eqb-true, eqb-false}
 use lib.Dec.{eqb, ltb, leb}
@@ -23,11 +23,10 @@ use Rattle.standard.proofs.Bits.{bit-bound, length-packs, bytes-packs, num-pack
 use Rattle.bitfield.proofs.Bodies.{cut-below}
 use Rattle.layout.specs.Table.{tableOf}
 use Rattle.layout.specs.declared.Checked.the-variants.{Upto}
-use Rattle.layout.proofs.Tables.{table-legal}
-use Rattle.layout.proofs.Trees.{legal-tree}
 use Rattle.message.specs.Read.{rawBytes}
 use Rattle.message.specs.Check.{messageType}
 use Rattle.message.specs.Form.{rawBits, contents, contentsAll, contentsOption, bodies, bodiesAll, bodiesOption}
+use Rattle.message.proofs.Theorem.{message-legal}
 use Rattle.value.specs.Walk.{Walked, upto, wrong, onward, lastBits, walkBits, walkItem, walkFields, walkOption}
 use Rattle.value.specs.Write.{wordAfter, byteAfter, bytesAt, withMark, writeItem, partsFrom, writeOption, walkAll, writeMessage, writtenBytes}
 use Rattle.value.specs.declared.Written.the-variants.{Length}
@@ -43,7 +42,7 @@ module _ (b : List ℕ) (j : ℕ) (x r : List ℕ) (e : drop j b ≡ x ++ r) (h 
   at-rest : drop (j + length x) b ≡ r
   at-rest = sym (drop-drop (length x) j b) ∙ rw e (drop-at x r (length x) refl)
 
-  at-byte : (i : ℕ) → i < length x → getD b (j + i) 0 ≡ getD x i 0
+  pub at-byte : (i : ℕ) → i < length x → getD b (j + i) 0 ≡ getD x i 0
   at-byte i k = sym (getD-drop j b i 0) ∙ rw e (List·getD-append x r 0 i k)
 
 module _ (c : List ℕ) (i k : ℕ) (r : List ℕ) (e : drop i c ≡ k ∷ r) where
@@ -57,10 +56,10 @@ module _ (c : List ℕ) (i k : ℕ) (r : List ℕ) (e : drop i c ≡ k ∷ r) wh
   at-next = sym (drop-drop 1 i c) ∙ ap (drop 1) e
 
 -- Bits.
-last-alone : (l : List ℕ) (q : ℕ) → length l ≡ suc q → drop q l ≡ getD l q 0 ∷ []
+pub last-alone : (l : List ℕ) (q : ℕ) → length l ≡ suc q → drop q l ≡ getD l q 0 ∷ []
 last-alone l q h = drop-cons l q 0 (omega arith) ∙ rw (← h, drop-length l)
 
-num-one : (x : ℕ) → num (x ∷ []) ≡ x
+pub num-one : (x : ℕ) → num (x ∷ []) ≡ x
 unfolding num
 num-one x = omega arith
 
@@ -68,7 +67,7 @@ module _ (bs : List Bool) where
   raw-length : length (rawBits bs) ≡ rawBytes (length bs)
   raw-length = length-packs (rawBytes (length bs)) bs
 
-  raw-num : num (rawBits bs) ≡ bitNum bs
+  pub raw-num : num (rawBits bs) ≡ bitNum bs
   raw-num = num-packs (rawBytes (length bs)) bs (omega arith)
 
   raw-cut : (q r : ℕ) → 8 * q + r ≡ length bs → q ≤ rawBytes (length bs) → num (drop q (rawBits bs)) < 2 ^ r
@@ -238,6 +237,21 @@ mutual
       let d = ne-eqb (getD c i 0) s (λ (q : getD c i 0 ≡ s). omega (arith, g .from)) in
       record { there = g .there; from = omega (arith, g .from, r .0); walk = rw d (g .walk); write = rw d (g .write) }
 
+-- The form of a value and nothing else: it is walked to its end.
+module _ (t : Ty) (v : Val t) (l : LegalTy t) (o : Ok t v) where
+  pub formed-alone : Formed t v (contents t v) (bodies t v) 0 0
+  formed-alone =
+      let c = contents t v in
+      let b = bodies t v in
+      formed t v l o c b 0 0 [] [] (sym (append-nil c)) (sym (append-nil b)) (omega arith)
+
+  pub walked-alone : walkAll t (contents t v) (bodies t v) ≡ upto (length (contents t v)) (length (bodies t v))
+  walked-alone =
+      let c = contents t v in
+      let b = bodies t v in
+      let w : walkItem t c b 0 0 ≡ upto (length c) (length b) = rw (zero-add (length c), zero-add (length b)) at (formed-alone .walk) in
+      rw (w, le-ltb (length c) (length c) (omega arith), le-ltb (length b) (length b) (omega arith))
+
 -- The call: the form of a value within its bounds is accepted, and what is stored is the value's serialization.
 pub form-written :
     (l : List ℕ) (n : ℕ) → Bytes l → tableOf l ≡ Upto n → (v : Val (messageType l n)) → Ok (messageType l n) v → (o : List ℕ)
@@ -247,12 +261,9 @@ pub form-written :
 unfolding writeMessage writtenBytes
 form-written l n b e v k o small room =
     let t = messageType l n in
-    let c = contents t v in
-    let d = bodies t v in
-    let g = table-legal l n b e in
-    let f = formed t v (legal-tree l n (n - 1) (g .0) (omega (arith, g .1))) k c d 0 0 [] [] (sym (append-nil c)) (sym (append-nil d)) (omega arith) in
-    let w : walkAll t c d ≡ upto (0 + length c) (0 + length d) =
-    rw (f .walk, le-ltb (0 + length c) (length c) (omega arith), le-ltb (0 + length d) (length d) (omega arith)) in
+    let g = message-legal l n b e [] (omega arith) in
+    let w = walked-alone t v g k in
+    let f = formed-alone t v g k in
     let p = le-ltb 4294967295 (length (serialize t v)) (omega arith) in
     let q = le-ltb (length o) (length (serialize t v)) room in
     (rw (e, w, f .write, p, q), rw (e, w, f .write, p, q))

@@ -6,4 +6,6 @@ pub mod Leaves
 pub mod Fills
 pub mod Calls
 pub mod Forms
+pub mod Values
+pub mod Accepts
 pub mod Round

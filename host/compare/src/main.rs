@@ -4,6 +4,8 @@ mod document;
 mod dump;
 mod every;
 mod format;
+#[cfg(feature = "messages")]
+mod forms;
 mod make;
 mod ops;
 mod oracle;
@@ -38,6 +40,9 @@ const USAGE: &str = "usage:
       random values' encodings, damaged in every offset, cut at every length, extended and so on
   compare messages --out FILE [--seed S] [--count N]
       the shortest message of each type and answer among N (1000000), as cases of operations 71, 72
+  compare forms --out FILE [--seed S] [--count N]
+  compare forms --sample --out FILE [--seed S]
+      N (200000) cases of the unfolding and the value writer, or a few of each kind
 LIST is as 1-4,11,50; without it all operations are asked.";
 
 struct Options {
@@ -238,6 +243,13 @@ fn compare_messages(_: &[String]) -> Result<(), String> {
     Err("this driver was built without the archive: build it with the feature messages".to_string())
 }
 
+#[cfg(not(feature = "messages"))]
+mod forms {
+    pub fn write(_: &crate::Options) -> std::io::Result<()> {
+        Err(std::io::Error::other("this driver was built without the archive"))
+    }
+}
+
 fn run(arguments: &[String]) -> Result<(), String> {
     let (command, rest) = arguments.split_first().ok_or(USAGE)?;
     let written = match command.as_str() {
@@ -253,6 +265,7 @@ fn run(arguments: &[String]) -> Result<(), String> {
             }
         }
         "document" => write_document(&Options::parse(rest)?),
+        "forms" => forms::write(&Options::parse(rest)?),
         _ => return Err(USAGE.to_string()),
     };
     written.map_err(|error| error.to_string())

@@ -89,6 +89,8 @@ const MESSAGES: &[Op] = &[
     op(70, "layout check", &[Bytes], &[]),
     op(71, "message check", &[Bytes, Bytes], &[Number, Number, Number]),
     op(72, "listing", &[Bytes, Bytes, Buffer], &[Number, Buffer]),
+    op(73, "unfolding", &[Bytes, Bytes, Buffer, Buffer], &[Number, Number, Buffer, Buffer]),
+    op(74, "value writer", &[Bytes, Bytes, Bytes, Buffer], &[Number, Buffer]),
 ];
 
 /// Operations of our own, which the crate cannot be asked: `document` makes their cases.

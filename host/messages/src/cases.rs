@@ -114,7 +114,7 @@ fn counts(subject: &Subject, message: &[u8], records: &[Record]) -> (u64, u64) {
     (words, bytes)
 }
 
-fn record(op: u32, parts: &[&[u8]], output: &mut dyn Write) -> io::Result<()> {
+pub(crate) fn record(op: u32, parts: &[&[u8]], output: &mut dyn Write) -> io::Result<()> {
     output.write_all(&op.to_le_bytes())?;
     output.write_all(&(parts.len() as u32).to_le_bytes())?;
     for part in parts {
@@ -124,7 +124,7 @@ fn record(op: u32, parts: &[&[u8]], output: &mut dyn Write) -> io::Result<()> {
     Ok(())
 }
 
-fn row(numbers: &[u64]) -> Vec<u8> {
+pub(crate) fn row(numbers: &[u64]) -> Vec<u8> {
     numbers.iter().flat_map(|number| number.to_le_bytes()).collect()
 }
 

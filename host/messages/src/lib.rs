@@ -7,6 +7,7 @@
 mod answers;
 mod cases;
 mod damage;
+pub mod forms;
 mod random_tables;
 mod report;
 // The driver's own generator: one source, built here for speed.

@@ -70,7 +70,7 @@ fn layout(rng: &mut Rng) -> Layout {
 }
 
 /// Items at most, as far as a few hundred.
-fn items(layout: &Layout, of: Type) -> u64 {
+pub(crate) fn items(layout: &Layout, of: Type) -> u64 {
     match layout.kind(of) {
         Some(Kind::Container(fields)) => {
             fields.iter().fold(
