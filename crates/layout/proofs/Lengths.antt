@@ -1,41 +1,34 @@
--- The loop of `fixed_len`: the fields' lengths so far, and what is left of them, make the type's. Assumes nothing.
+-- The loop of `fields_len`: what the fields so far take, and what is left of them, make the whole. Assumes nothing.
 use mathlib.Core.Path.{_≡_, refl, sym, ap, _∙_}
 use mathlib.Core.List.{List}
 use mathlib.Core.Bool.{Bool, true, false}
 use Prim.Native.Nat.{ℕ, zero, suc, _+_, _-_, _≤_, _<_, _^_}
 use native.Mathlib.Numerals.{add-one}
 use native.Mathlib.Omega.{arith}
-use borrow.Author.Tests.{lt-ltb, le-ltb}
+use borrow.Author.Tests.{lt-ltb, le-ltb, ne-eqb}
 use lib.ListN.{set}
 use lib.Dec.{ltb}
 use Rattle.standard.specs.Choice.{pick}
 use Rattle.standard.specs.Bytes.{wordAt}
-use Rattle.standard.specs.Types.{Ty, head, headAll, heads, joined, width, portion, LegalTy}
+use Rattle.standard.specs.Types.{Ty, Tys, end, field, head, headAll, heads, joined, width, portion, LegalTy}
 use Rattle.standard.specs.declared.Head.{Head}
 use Rattle.standard.specs.declared.Head.the-variants.{Fixed, Variable}
 use Rattle.standard.proofs.Laws.{fixed-some}
-use Rattle.layout.specs.Tree.{nodeOf, fields, trees, treeOf, lenOf, filled}
+use Rattle.layout.specs.Tree.{nodeOf, fields, trees, treeOf, lenOf, headOf, filled}
 use Rattle.layout.specs.Legal.{Lower, LegalNode, Legal}
-use Rattle.layout.specs.Steps.{Known, Lengthened}
+use Rattle.layout.specs.Steps.{leafLen, sizesOf, Lengthened, Ended}
 use Rattle.layout.specs.declared.Node.{Node}
-use Rattle.layout.proofs.Facts.{fields-first, fields-none, heads-first, lower-here, lower-rest, filled-set, as-container, legal-node, legal-below}
-use Rattle.layout.proofs.Trees.{legal-tree}
+use Rattle.layout.specs.declared.Sizes.{Sizes}
+use Rattle.layout.specs.declared.Checked.{Checked}
+use Rattle.layout.specs.declared.Checked.the-variants.{Bad}
+use Rattle.layout.proofs.Facts.{fields-first, fields-none, filled-set, head-len, as-container}
+use Rattle.layout.proofs.Tables.{Adding, adding-below, adding-next, adding-end, bad-upto}
+use Rattle.layout.proofs.Trees.{legal-tree, len-small, leaf-length}
 
--- A length that is not 0 is a fixed type's; 0 is a variable one's.
-len-fixed : (h : Head) (k : ℕ) → k ≡ lenOf h → (k ≡ 0 → ⊥) → h ≡ Fixed k
-len-fixed (Fixed n) k e z = ap Fixed (sym e)
-len-fixed Variable k e z = absurd (z e)
-
-len-variable : (h : Head) → ((n : ℕ) → h ≡ Fixed n → 1 ≤ n) → 0 ≡ lenOf h → h ≡ Variable
-len-variable (Fixed n) f e = absurd (omega (arith, f n refl))
-len-variable Variable f e = refl
-
-pub record Summing (l : List ℕ) (t known : ℕ) (lens : List ℕ) (left a sum : ℕ) : Type 0 where
-  pub found : lens ≡ filled l known
-  pub lower : Lower l t a left
-  pub place : a + left < 2 ^ 33
-  pub short : sum + portion (heads (fields l (trees l t) a left)) < 2 ^ 32
-  pub same : joined (Fixed sum) (headAll (fields l (trees l t) a left)) ≡ head (treeOf l t)
+width-small : (m : ℕ) → m < 2 ^ 32 → width (headOf m) < 2 ^ 32
+unfolding width
+width-small zero h = omega arith
+width-small (suc m) h = rw (ne-eqb (suc m) 0 (λ (z : suc m ≡ 0). omega arith)) h
 
 joined-zero : (h : Head) → joined (Fixed 0) h ≡ h
 unfolding joined
@@ -47,68 +40,87 @@ unfolding joined
 joined-add n k (Fixed m) = ap Fixed (omega arith)
 joined-add n k Variable = refl
 
-joined-variable : (n : ℕ) (h : Head) → joined (Fixed n) (joined Variable h) ≡ Variable
+-- The head of the fields so far, each of them fixed or not, with that of the rest
+abbrev withRest : Bool → ℕ → Head → Head
+withRest fixed sum h = pick fixed (joined (Fixed sum) h) Variable
+
+with-next : (fixed : Bool) (sum k : ℕ) (h : Head) → withRest fixed sum (joined (Fixed k) h) ≡ withRest fixed (sum + k) h
+with-next true sum k h = joined-add sum k h
+with-next false sum k h = refl
+
+with-variable : (fixed : Bool) (sum : ℕ) (h : Head) → withRest fixed sum (joined Variable h) ≡ Variable
 unfolding joined
-joined-variable n h = refl
+with-variable true sum h = refl
+with-variable false sum h = refl
 
-pub summing-start : (l : List ℕ) (t known : ℕ) (lens : List ℕ) (r : Node) → r ≡ nodeOf l t → Legal l (t + 1) → lens ≡ filled l known → r .kind ≡ 6 → Summing l t known lens (r .second) (r .at + 2) 0
-unfolding head
-summing-start l t known lens r e g f h =
-    let m = legal-node l t r e g in
-    record {
-      found = f;
-      lower = m .lower h;
-      place = omega (arith, m .near, m .few h);
-      short = omega (arith, m .short h);
-      same = rw (as-container l t r e h) (joined-zero _);
-    }
+with-end : (fixed : Bool) (sum : ℕ) → lenOf (withRest fixed sum (Fixed 0)) ≡ pick fixed sum 0
+unfolding joined
+with-end true sum = omega arith
+with-end false sum = refl
 
-module _ (l : List ℕ) (t known : ℕ) (lens : List ℕ) (left a sum f : ℕ) (s : Summing l t known lens left a sum) (p : 0 < left) (e : f ≡ wordAt l a) where
-  pub summing-below : f < t
-  summing-below = rw e (lower-here l t a left (s .lower) p)
+pub record Taking (l : List ℕ) (t known a₀ n : ℕ) (lens : List ℕ) (a left sum : ℕ) (fixed : Bool) : Type 0 where
+  pub found : lens ≡ filled l known
+  pub adding : Adding l t a₀ n a left sum
+  pub same : withRest fixed sum (headAll (fields l (trees l t) a left)) ≡ headAll (fields l (trees l t) a₀ n)
+
+pub taking-start : (l : List ℕ) (t known a₀ n : ℕ) (lens : List ℕ) → lens ≡ filled l known → Lower l t a₀ n → Taking l t known a₀ n lens a₀ n 0 true
+taking-start l t known a₀ n lens f h =
+    record { found = f; adding = record { lower = h; some = omega arith; place = refl; bound = omega arith; same = omega arith }; same = joined-zero _ }
+
+module _ (l : List ℕ) (t known a₀ n : ℕ) (lens : List ℕ) (a left sum : ℕ) (fixed : Bool) (f k : ℕ) (s : Taking l t known a₀ n lens a left sum fixed) (p : 0 < left) (e : f ≡ wordAt l a) (i : t ≤ known) where
+  pub taking-lower : f < t
+  taking-lower = adding-below l t a₀ n a left sum f (s .adding) p e
+
+  pub taking-below : f < known
+  taking-below = omega (arith, taking-lower)
 
   -- what the call for the field leaves in the array
-  pub summing-kept : (lens′ : List ℕ) → lens′ ≡ filled l (pick (ltb f known) known (known + 1)) → t ≤ known → lens′ ≡ filled l known
-  summing-kept lens′ q i = let b = summing-below in rw (lt-ltb f known (omega arith)) at q
+  pub taking-kept : (lens′ : List ℕ) → lens′ ≡ filled l (pick (ltb f known) known (known + 1)) → lens′ ≡ filled l known
+  taking-kept lens′ q = rw (lt-ltb f known taking-below) at q
 
-  module _ (k : ℕ) (g : Legal l (t + 1)) (h : k ≡ lenOf (head (treeOf l f))) where
-    summing-legal : LegalTy (treeOf l f)
-    summing-legal = let b = summing-below in legal-tree l (t + 1) f g (omega arith)
+  module _ (g : Legal l known) (h : k ≡ lenOf (head (treeOf l f))) where
+    taking-legal : LegalTy (treeOf l f)
+    taking-legal = legal-tree l known f g taking-below
 
-    summing-same : (x : Head) → head (treeOf l f) ≡ x → joined (Fixed sum) (joined x (headAll (fields l (trees l t) (a + 1) (left - 1)))) ≡ head (treeOf l t)
+    taking-head : head (treeOf l f) ≡ headOf k
+    taking-head = rw h (sym (head-len (treeOf l f) taking-legal))
+
+    taking-small : k < 2 ^ 32
+    unfolding Legal
+    taking-small = rw h (len-small l f (g f taking-below))
+
+    taking-first : (x : Head) → head (treeOf l f) ≡ x → withRest fixed sum (joined x (headAll (fields l (trees l t) (a + 1) (left - 1)))) ≡ headAll (fields l (trees l t) a₀ n)
     unfolding head
-    summing-same x q = rw (← q, e) (rw (fields-first l t a left (s .lower) p) at (s .same))
+    taking-first x q = rw (← q, e) (rw (fields-first l t a left (s .adding .lower) p) at (s .same))
 
-    summing-short : (x : Head) → head (treeOf l f) ≡ x → sum + (width x + portion (heads (fields l (trees l t) (a + 1) (left - 1)))) < 2 ^ 32
-    unfolding portion
-    summing-short x q = rw (← q) (rw (heads-first l t a left (s .lower) p f e) at (s .short))
+    module _ (w : ℕ) (v : w ≡ width (headOf k)) where
+      pub taking-width : w < 2 ^ 32
+      taking-width = rw v (width-small k taking-small)
 
-    pub summing-fits : (k ≡ 0 → ⊥) → sum + k < 2 ^ 32
-    unfolding width
-    summing-fits z = let x = summing-short (Fixed k) (len-fixed _ k h z) in omega arith
+      taking-adding : Adding l t a₀ n (a + 1) (left - 1) (sum + w)
+      taking-adding = adding-next l t a₀ n a left sum f (s .adding) p e w (rw taking-head v) taking-width
 
-    pub summing-next : (lens′ : List ℕ) → (k ≡ 0 → ⊥) → lens′ ≡ filled l (pick (ltb f known) known (known + 1)) → t ≤ known → Summing l t known lens′ (left - 1) (a + 1) (sum + k)
-    unfolding width
-    summing-next lens′ z q i =
-        record {
-          found = summing-kept lens′ q i;
-          lower = lower-rest l t a left (s .lower) p;
-          place = omega (arith, s .place);
-          short = let x = summing-short (Fixed k) (len-fixed _ k h z) in omega arith;
-          same = sym (joined-add sum k _) ∙ summing-same (Fixed k) (len-fixed _ k h z);
-        }
+      pub taking-fixed : (lens′ : List ℕ) → lens′ ≡ filled l (pick (ltb f known) known (known + 1)) → (k ≡ 0 → ⊥) → Taking l t known a₀ n lens′ (a + 1) (left - 1) (sum + w) fixed
+      unfolding width
+      taking-fixed lens′ q z =
+          let y : w ≡ k = rw (ne-eqb k 0 z) at v in
+          record { found = taking-kept lens′ q; adding = taking-adding; same = rw y (sym (with-next fixed sum k _) ∙ taking-first (Fixed k) (rw (ne-eqb k 0 z) at taking-head)) }
 
-    pub summing-variable : k ≡ 0 → 0 ≡ lenOf (head (treeOf l t))
-    summing-variable z =
-        let v = len-variable (head (treeOf l f)) (λ n q. fixed-some (treeOf l f) n summing-legal q) (sym z ∙ h) in
-        ap lenOf (sym (joined-variable sum _) ∙ summing-same Variable v)
+      pub taking-variable : (lens′ : List ℕ) → lens′ ≡ filled l (pick (ltb f known) known (known + 1)) → k ≡ 0 → Taking l t known a₀ n lens′ (a + 1) (left - 1) (sum + w) false
+      taking-variable lens′ q z =
+          record { found = taking-kept lens′ q; adding = taking-adding; same = sym (with-variable fixed sum _) ∙ taking-first Variable (rw z at taking-head) }
 
-pub summing-end : (l : List ℕ) (t known : ℕ) (lens : List ℕ) (left a sum : ℕ) → Summing l t known lens left a sum → left ≤ 0 → sum ≡ lenOf (head (treeOf l t))
-unfolding head joined
-summing-end l t known lens left a sum s h =
+pub taking-end : (l : List ℕ) (t known a₀ n : ℕ) (lens : List ℕ) (a left sum : ℕ) (fixed : Bool) → Taking l t known a₀ n lens a left sum fixed → left ≤ 0 → record { portion = sum; length = pick fixed sum 0 } ≡ sizesOf (fields l (trees l t) a₀ n)
+unfolding head
+taking-end l t known a₀ n lens a left sum fixed s h =
     let q = rw (fields-none l (trees l t) a left h) at (s .same) in
-    let e : sum + 0 ≡ sum = omega arith in
-    rw e at (ap lenOf q)
+    let y : pick fixed sum 0 ≡ lenOf (headAll (fields l (trees l t) a₀ n)) = sym (with-end fixed sum) ∙ ap lenOf q in
+    rw (← adding-end l t a₀ n a left sum (s .adding) h, y)
+
+-- The length of a container is that of its fields.
+pub sizes-len : (l : List ℕ) (t : ℕ) (r : Node) (s : Sizes) → r ≡ nodeOf l t → r .kind ≡ 6 → s ≡ sizesOf (fields l (trees l t) (r .at + 2) (r .second)) → s .length ≡ lenOf (head (treeOf l t))
+unfolding head
+sizes-len l t r s e h q = rw (as-container l t r e h) (ap (λ (x : Sizes). x .length) q)
 
 -- A length that is found is remembered.
 pub lengthened : (l : List ℕ) (known t r : ℕ) (lens : List ℕ) → lens ≡ filled l known → t ≤ known → known ≤ t → t < 64 → r ≡ lenOf (head (treeOf l t)) → Lengthened l known t r (set lens t r)
@@ -118,3 +130,42 @@ lengthened l known t r lens f i j b h =
       gives = h;
       found = rw (le-ltb t known j, h, f, add-one, ← q) (filled-set l t b);
     }
+
+pub found-set : (l : List ℕ) (t v : ℕ) (lens : List ℕ) → lens ≡ filled l t → t < 64 → v ≡ lenOf (head (treeOf l t)) → set lens t v ≡ filled l (t + 1)
+found-set l t v lens f b h = rw (h, f, add-one) (filled-set l t b)
+
+-- A length is no more than the fixed portion.
+len-portion : (ts : Tys) → lenOf (headAll ts) ≤ portion (heads ts)
+unfolding head heads portion joined width
+len-portion end = omega arith
+len-portion (field t ts) = go (head t) (headAll ts) (len-portion ts)
+  where
+    go : (h g : Head) → lenOf g ≤ portion (heads ts) → lenOf (joined h g) ≤ width h + portion (heads ts)
+    go (Fixed n) (Fixed m) q = omega arith
+    go (Fixed n) Variable q = omega arith
+    go Variable g q = omega arith
+
+pub sizes-small : (ts : Tys) (s : Sizes) → s ≡ sizesOf ts → s .portion ≤ 4294967295 → s .length < 2 ^ 32
+sizes-small ts s e h =
+    let p : s .portion ≡ portion (heads ts) = ap (λ (x : Sizes). x .portion) e in
+    let q : s .length ≡ lenOf (headAll ts) = ap (λ (x : Sizes). x .length) e in
+    omega (arith, p, q, len-portion ts)
+
+-- The type t, whose body starts at the word at.
+module _ (l : List ℕ) (t at : ℕ) (w : at ≡ wordAt l (1 + t)) where
+  node-here : (k m : ℕ) → k ≡ wordAt l at → m ≡ wordAt l (at + 1) → record { kind = k; at = at; second = m } ≡ nodeOf l t
+  unfolding nodeOf
+  node-here k m p q = rw (p, q, w)
+
+  pub container-len : (n : ℕ) (s : Sizes) → wordAt l at ≡ 6 → n ≡ wordAt l (at + 1) → s ≡ sizesOf (fields l (trees l t) (at + 2) n) → s .length ≡ lenOf (head (treeOf l t))
+  container-len n s k m q = sizes-len l t (record { kind = wordAt l at; at = at; second = n }) s (node-here _ n refl m) k q
+
+  pub leaf-found : (k m v : ℕ) (lens : List ℕ) → k ≡ wordAt l at → m ≡ wordAt l (at + 1) → (k ≡ 6 → ⊥) → v ≡ leafLen (record { kind = k; at = at; second = m }) → lens ≡ filled l t → t < 64 → set lens t v ≡ filled l (t + 1)
+  leaf-found k m v lens p q z h f b = found-set l t v lens f b (h ∙ leaf-length l t _ (node-here k m p q) z)
+
+-- A body that does not end leaves nothing found.
+pub ended-bad : (l : List ℕ) (t w : ℕ) (x : Checked) (lens : List ℕ) → Bad w ≡ x → Ended l t x (Bad w) lens
+ended-bad l t w x lens h = record { gives = h; found = λ e q. bad-upto w e q }
+
+pub ended : (l : List ℕ) (t : ℕ) (x r : Checked) (lens : List ℕ) → r ≡ x → lens ≡ filled l (t + 1) → Ended l t x r lens
+ended l t x r lens h f = record { gives = h; found = λ e q. f }

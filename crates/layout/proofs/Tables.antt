@@ -61,7 +61,7 @@ module _ (l : List ℕ) (t : ℕ) (none : Bool) (a left : ℕ) (x : Checked) (p 
     pub refs-next : ok ≡ true → refs l t none (a + 1) (left - 1) ≡ x
     refs-next s = rw (refs-cons l t none a left p, lt-ltb _ _ h, ← q, ← r, s) at e
 
--- The loop of `portion_of`: what is added, and what is left to add.
+-- The loop of `fields_len`: what is added to the fixed portion, and what is left to add.
 pub record Adding (l : List ℕ) (t a₀ n a left sum : ℕ) : Type 0 where
   pub lower : Lower l t a left
   pub some : left ≤ n
@@ -69,26 +69,14 @@ pub record Adding (l : List ℕ) (t a₀ n a left sum : ℕ) : Type 0 where
   pub bound : sum + 4294967296 * left ≤ 4294967296 * n
   pub same : sum + portion (heads (fields l (trees l t) a left)) ≡ portion (heads (fields l (trees l t) a₀ n))
 
-module _ (lens l : List ℕ) (t a₀ n a left sum f k : ℕ) (g : Known lens l t) (s : Adding l t a₀ n a left sum) (p : 0 < left) (e : f ≡ wordAt l a) (q : k ≡ width (headOf (getD lens f 0))) where
+module _ (l : List ℕ) (t a₀ n a left sum f : ℕ) (s : Adding l t a₀ n a left sum) (p : 0 < left) (e : f ≡ wordAt l a) where
   pub adding-below : f < t
   adding-below = rw e (lower-here l t a left (s .lower) p)
 
-  adding-width : k ≡ width (head (treeOf l f))
-  adding-width = q ∙ ap width (known-head lens l t g f adding-below)
-
-  width-small : (m : ℕ) → m < 2 ^ 32 → width (headOf m) < 2 ^ 32
-  unfolding width
-  width-small zero h = omega arith
-  width-small (suc m) h = rw (ne-eqb (suc m) 0 (λ (z : suc m ≡ 0). omega arith)) h
-
-  pub adding-small : k < 2 ^ 32
-  adding-small = rw q (width-small _ (known-small lens l t g f adding-below))
-
-  pub adding-next : Adding l t a₀ n (a + 1) (left - 1) (sum + k)
+  pub adding-next : (w : ℕ) → w ≡ width (head (treeOf l f)) → w < 2 ^ 32 → Adding l t a₀ n (a + 1) (left - 1) (sum + w)
   unfolding portion
-  adding-next =
-      let z = adding-small in
-      let x = rw (heads-first l t a left (s .lower) p f e, ← adding-width) at (s .same) in
+  adding-next w q z =
+      let x = rw (heads-first l t a left (s .lower) p f e, ← q) at (s .same) in
       record { lower = lower-rest l t a left (s .lower) p; some = omega arith; place = omega (arith, s .place); bound = omega arith; same = omega arith }
 
 pub adding-end : (l : List ℕ) (t a₀ n a left sum : ℕ) → Adding l t a₀ n a left sum → left ≤ 0 → sum ≡ portion (heads (fields l (trees l t) a₀ n))
@@ -278,13 +266,13 @@ module _ (l lens : List ℕ) (n t at : ℕ) (g : Checking l lens n t at) (p : t 
       pub checking-legal : Legal l (t + 1)
       checking-legal = legal-more l t (g .known .legal) (body-legal l t at e (sym h) b (sym q ∙ k))
 
-      pub checking-next : (lens′ : List ℕ) → n ≤ 64 → lens′ ≡ filled l (pick (ltb t t) t (t + 1)) → Checking l lens′ n (t + 1) e
+      pub checking-next : (lens′ : List ℕ) → n ≤ 64 → lens′ ≡ filled l (t + 1) → Checking l lens′ n (t + 1) e
       checking-next lens′ m f =
           let i : n - t - 1 ≡ n - (t + 1) = omega arith in
           record {
             some = omega arith;
             within = body-within l t at e (sym h);
-            known = record { found = rw (le-ltb t t (omega arith)) at f; legal = checking-legal; few = omega arith };
+            known = record { found = f; legal = checking-legal; few = omega arith };
             same = rw (← h, i) at checking-body;
           }
 

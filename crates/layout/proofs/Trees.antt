@@ -51,6 +51,9 @@ module _ (t : ℕ) (n : Node) where
   leaf-small s =
       leaf-cases (λ (x : Ty). lenOf (head x) < 2 ^ 32) (λ k. s) (λ k. omega arith) (λ k. s) (omega arith) (λ k. omega arith) (omega arith)
 
+pub leaf-len-small : (n : Node) (r : ℕ) → r ≡ leafLen n → n .second < 2 ^ 32 → r < 2 ^ 32
+leaf-len-small n r e h = rw e (leaf-small 0 n h)
+
 -- Fields and options of lower types.
 module _ (l : List ℕ) (t : ℕ) (f : (u : ℕ) → u < t → LegalTy (treeOf l u)) where
   fields-legal : (at n : ℕ) → Lower l t at n → LegalAll (fields l (trees l t) at n)

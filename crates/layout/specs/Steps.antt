@@ -5,11 +5,12 @@ use mathlib.Core.List.{List}
 use lib.Dec.{ltb}
 use Rattle.standard.specs.Choice.{pick}
 use Rattle.standard.specs.Bytes.{Bytes}
-use Rattle.standard.specs.Types.{head}
+use Rattle.standard.specs.Types.{Tys, head, headAll, heads, portion}
 use Rattle.layout.specs.Tree.{leafOf, treeOf, lenOf, filled}
 use Rattle.layout.specs.Table.{typesEnd}
 use Rattle.layout.specs.Legal.{Legal}
 use Rattle.layout.specs.declared.Node.{Node}
+use Rattle.layout.specs.declared.Sizes.{Sizes}
 use Rattle.layout.specs.declared.Checked.{Checked}
 use Rattle.layout.specs.declared.Checked.the-variants.{Upto}
 
@@ -23,10 +24,19 @@ pub record Known (lens l : List ℕ) (k : ℕ) : Type 0 where
 abbrev pub leafLen : Node → ℕ
 leafLen n = lenOf (head (leafOf 0 n))
 
+-- What some fields take of a fixed portion, and their length; 0 stands for variable size
+abbrev pub sizesOf : Tys → Sizes
+sizesOf ts = record { portion = portion (heads ts); length = lenOf (headAll ts) }
+
 -- r is the length of the type t, and lens′ has it.
 pub record Lengthened (l : List ℕ) (known t r : ℕ) (lens′ : List ℕ) : Type 0 where
   pub gives : r ≡ lenOf (head (treeOf l t))
   pub found : lens′ ≡ filled l (pick (ltb t known) known (known + 1))
+
+-- r is where the body of the type t ends, or what is wrong, as x says; if it ends, lens′ has its length too.
+pub record Ended (l : List ℕ) (t : ℕ) (x r : Checked) (lens′ : List ℕ) : Type 0 where
+  pub gives : r ≡ x
+  pub found : (e : ℕ) → r ≡ Upto e → lens′ ≡ filled l (t + 1)
 
 -- r is where the n types end; if they do, lens′ has their lengths.
 pub record Typed (l : List ℕ) (n : ℕ) (r : Checked) (lens′ : List ℕ) : Type 0 where

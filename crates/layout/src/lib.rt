@@ -7,11 +7,11 @@ ghost use mathlib.Core.Path.{_≡_};
 ghost use mathlib.Core.List.{[]};
 ghost use Prim.Native.Nat.{_+_, _≤_, _<_, _^_};
 ghost use Rattle.standard.specs.Bytes.{wordAt};
-ghost use Rattle.standard.specs.Types.{isWidth, width, portion, heads};
+ghost use Rattle.standard.specs.Types.{isWidth, width};
 ghost use Rattle.layout.specs.Tree.{nodeOf, fields, trees, headOf};
 ghost use Rattle.layout.specs.Table.{count, mayName, refs, many, containerEnd, leafWord, leafEnd, bodyEnd, typesEnd, tableOf, withLengths, toldOf};
 ghost use Rattle.layout.specs.Legal.{Lower, Legal};
-ghost use Rattle.layout.specs.Steps.{Known, leafLen, Lengthened, Typed};
+ghost use Rattle.layout.specs.Steps.{Known, leafLen, sizesOf, Lengthened, Ended, Typed};
 
 // What stands in an option's place where it has no body.
 pub const NO_BODY: usize = 4294967295;
@@ -32,7 +32,13 @@ pub enum Checked {
 // The number of types, or the first bad word; and the types' fixed lengths, 0 for a type of variable size.
 pub struct Table {
     pub checked: Checked,
-    pub lens: [usize; 64],
+    pub lens: [u32; 64],
+}
+
+// What some fields take of a fixed portion, and how long they are, 0 if one of them is of variable size.
+struct Sizes {
+    portion: usize,
+    length: usize,
 }
 
 fn start_of(layout: &[u8], t: usize) -> usize
@@ -128,46 +134,6 @@ fn width_of(len: usize) -> usize
     if len == 0 { 4 } else { len }
 }
 
-// The fixed portion of the n fields that the words from a0 on name.
-fn portion_of(lens: &[usize], layout: &[u8], t: usize, a0: usize, n: usize) -> usize
-    requires { ⌜ Known (now lens) (now layout) t × Lower (now layout) t a0 n × (n ≤ 64) × (a0 < 2 ^ 62) ⌝ }
-    ensures { λ r. ⌜ r ≡ portion (heads (fields (now (layout .entry)) (trees (now (layout .entry)) t) a0 n)) ⌝ }
-{
-    let mut a = a0;
-    let mut left = n;
-    let mut sum: usize = 0;
-    while left > 0 {
-        let f = word_at(layout, a);
-        let k = width_of(lens[f]);
-        sum += k;
-        a += 1;
-        left -= 1;
-    }
-    sum
-}
-
-// The container t at the word at: its references end, and its fixed portion fits an offset.
-fn container_end(lens: &[usize], layout: &[u8], t: usize, at: usize) -> Checked
-    requires { ⌜ Known (now lens) (now layout) t × (at ≤ 2 ^ 61) ⌝ }
-    ensures { λ r. ⌜ r ≡ containerEnd (now (layout .entry)) t at ⌝ }
-{
-    let c = many_end(layout, t, at, false, 64);
-    match c {
-        Checked::Bad(w) => Checked::Bad(w),
-        Checked::Upto(e) => {
-            let next = at + 1;
-            let n = word_at(layout, next);
-            let first = at + 2;
-            let p = portion_of(lens, layout, t, first, n);
-            if p <= 4294967295 {
-                Checked::Upto(e)
-            } else {
-                Checked::Bad(at)
-            }
-        }
-    }
-}
-
 // A width that a number may have.
 fn width_ok(w: usize) -> bool
     ensures { λ r. ⌜ r ≡ isWidth w ⌝ }
@@ -219,31 +185,6 @@ fn leaf_end(layout: &[u8], at: usize) -> Checked
     }
 }
 
-// Where the body of type t ends, which starts at the word at.
-fn body_end(lens: &[usize], layout: &[u8], t: usize, at: usize) -> Checked
-    requires { ⌜ Known (now lens) (now layout) t × (at ≤ 2 ^ 61) ⌝ }
-    ensures { λ r. ⌜ r ≡ bodyEnd (now (layout .entry)) t at ⌝ }
-{
-    let words = layout.len() / 4;
-    if at >= words {
-        return Checked::Bad(words);
-    }
-    let kind = word_at(layout, at);
-    if kind == 6 {
-        return container_end(lens, layout, t, at);
-    }
-    if kind == 7 {
-        return many_end(layout, t, at, true, 128);
-    }
-    if kind == 1 {
-        return Checked::Upto(at + 1);
-    }
-    if kind < 6 {
-        return leaf_end(layout, at);
-    }
-    Checked::Bad(at)
-}
-
 // The fixed length of a type that holds no fields.
 fn leaf_len(n: Node) -> usize
     requires { ⌜ n .second < 2 ^ 32 ⌝ }
@@ -264,41 +205,109 @@ fn leaf_len(n: Node) -> usize
     0
 }
 
-// The fixed length of the type t, worked out from its fields' lower types; the first `known` lengths are in `lens`, and one that
-// is found goes there, so that none is worked out twice.
-fn fixed_len(lens: &mut [usize], known: usize, layout: &[u8], t: usize) -> usize
+// The fixed length of the type t: remembered below `known`, or worked out from the lower types of its fields and remembered.
+fn fixed_len(lens: &mut [u32; 64], known: usize, layout: &[u8], t: usize) -> usize
     requires { ⌜ Known (now lens) (now layout) known × Legal (now layout) (t + 1) × (t ≤ known) × (t < 64) ⌝ }
     ensures { λ r. ⌜ Lengthened (now (layout .entry)) known t r (now (lens .exit)) ⌝ }
 {
     if t < known {
-        return lens[t];
+        return lens[t] as usize;
     }
     let n = look(layout, t);
     if n.kind != 6 {
         let len = leaf_len(n);
-        lens[t] = len;
+        lens[t] = len as u32;
         return len;
     }
-    let mut left = n.second;
-    let mut a = n.at + 2;
-    let mut sum: usize = 0;
+    let first = n.at + 2;
+    let sizes = fields_len(lens, known, layout, t, first, n.second);
+    let len = sizes.length;
+    lens[t] = len as u32;
+    len
+}
+
+// The sizes of the n fields of type t that the words from a0 on name, from their fixed lengths.
+fn fields_len(
+    lens: &mut [u32; 64],
+    known: usize,
+    layout: &[u8],
+    t: usize,
+    a0: usize,
+    n: usize,
+) -> Sizes
+    requires { ⌜ Known (now lens) (now layout) known × (t ≤ known) × Lower (now layout) t a0 n × (n ≤ 64) × (a0 < 2 ^ 62) ⌝ }
+    ensures { λ r. ⌜ r ≡ sizesOf (fields (now (layout .entry)) (trees (now (layout .entry)) t) a0 n) ⌝ }
+    ensures { λ _. ⌜ now (lens .exit) ≡ now (lens .entry) ⌝ }
+{
+    let mut a = a0;
+    let mut left = n;
+    let mut portion: usize = 0;
+    let mut fixed = true;
     while left > 0 {
         let f = word_at(layout, a);
         let k = fixed_len(lens, known, layout, f);
         if k == 0 {
-            lens[t] = 0;
-            return 0;
+            fixed = false;
         }
-        sum += k;
+        portion += width_of(k);
         a += 1;
         left -= 1;
     }
-    lens[t] = sum;
-    sum
+    let length = if fixed { portion } else { 0 };
+    Sizes { portion, length }
+}
+
+// The container t at the word at: its references end, and its fixed portion fits an offset; its length goes to `lens`.
+fn container_end(lens: &mut [u32; 64], layout: &[u8], t: usize, at: usize) -> Checked
+    requires { ⌜ Known (now lens) (now layout) t × (t < 64) × (at < 2 ^ 32) × (at ≡ wordAt (now layout) (1 + t)) × (wordAt (now layout) at ≡ 6) ⌝ }
+    ensures { λ r. ⌜ Ended (now (layout .entry)) t (containerEnd (now (layout .entry)) t at) r (now (lens .exit)) ⌝ }
+{
+    let c = many_end(layout, t, at, false, 64);
+    match c {
+        Checked::Bad(w) => Checked::Bad(w),
+        Checked::Upto(e) => {
+            let next = at + 1;
+            let n = word_at(layout, next);
+            let first = at + 2;
+            let sizes = fields_len(lens, t, layout, t, first, n);
+            if sizes.portion > 4294967295 {
+                return Checked::Bad(at);
+            }
+            lens[t] = sizes.length as u32;
+            Checked::Upto(e)
+        }
+    }
+}
+
+// Where the body of type t ends, which starts at the word at; its length goes to `lens`.
+fn body_end(lens: &mut [u32; 64], layout: &[u8], t: usize, at: usize) -> Checked
+    requires { ⌜ Known (now lens) (now layout) t × (t < 64) × (at < 2 ^ 32) × (at ≡ wordAt (now layout) (1 + t)) ⌝ }
+    ensures { λ r. ⌜ Ended (now (layout .entry)) t (bodyEnd (now (layout .entry)) t at) r (now (lens .exit)) ⌝ }
+{
+    let words = layout.len() / 4;
+    if at >= words {
+        return Checked::Bad(words);
+    }
+    let kind = word_at(layout, at);
+    if kind == 6 {
+        return container_end(lens, layout, t, at);
+    }
+    let second = word_at(layout, at + 1);
+    lens[t] = leaf_len(Node { kind, at, second }) as u32;
+    if kind == 7 {
+        return many_end(layout, t, at, true, 128);
+    }
+    if kind == 1 {
+        return Checked::Upto(at + 1);
+    }
+    if kind < 6 {
+        return leaf_end(layout, at);
+    }
+    Checked::Bad(at)
 }
 
 // Where the n types end, whose bodies follow the contents; their lengths go to `lens`.
-fn types_end(lens: &mut [usize], layout: &[u8], n: usize) -> Checked
+fn types_end(lens: &mut [u32; 64], layout: &[u8], n: usize) -> Checked
     requires { ⌜ Known (now lens) (now layout) 0 × (n ≤ 64) × (n < count (now layout)) ⌝ }
     ensures { λ r. ⌜ Typed (now (layout .entry)) n r (now (lens .exit)) ⌝ }
 {
@@ -319,7 +328,6 @@ fn types_end(lens: &mut [usize], layout: &[u8], n: usize) -> Checked
                 at = e;
             }
         }
-        fixed_len(lens, t, layout, t);
         t += 1;
     }
     Checked::Upto(at)
@@ -355,7 +363,7 @@ pub fn table_of(layout: &[u8]) -> Table
     if n >= words {
         return refused(words);
     }
-    let mut lens = [0usize; 64];
+    let mut lens = [0u32; 64];
     let c = types_end(&mut lens, layout, n);
     match c {
         Checked::Bad(w) => refused(w),

@@ -49,12 +49,12 @@ returns-5 : tie.Need-returns-5
 unfolding tableOf count
 returns-5 c = rw (eq-eqb _ _ (c .before .before .before .before .before .before .if1 .left), lt-ltb 0 (length (c .before .before .before .before .before .before .before .before .args .layout .now) / 4) (omega (arith, c .before .before .before .before .before .if2 .left)), ← c .before .before .before .before .word-at .ensures .0, lt-ltb 0 (c .before .before .before .before .word-at .result) (omega (arith, c .before .before .before .if3 .left)), le-leb _ _ (c .before .before .if4 .left), le-ltb _ _ (c .before .if5 .taken)) (c .refused5 .ensures)
 
-slice-aggregate-types-end : tie.Need-slice-aggregate-types-end
-slice-aggregate-types-end c = search needs
-
 types-end-requires : tie.Need-types-end-requires
 unfolding filled lengths Legal count
-types-end-requires c κs = (record { found = refl; legal = λ t h. absurd (omega arith); few = omega arith }, c .before .before .if4 .left, c .before .if5 .left)
+types-end-requires c κs =
+    let c1 = c .before in
+    let c2 = c1 .before in
+    (record { found = refl; legal = λ t h. absurd (omega arith); few = omega arith }, c2 .if4 .left, c1 .if5 .left)
 
 enum-known-c : tie.Need-enum-known-c
 enum-known-c c = search needs
@@ -70,15 +70,77 @@ refused-requires-7 c κs = search needs
 
 returns-6 : tie.Need-returns-6
 unfolding tableOf count
-returns-6 c = rw (eq-eqb _ _ (c .before .before .before .before .before .before .before .before .before .before .before .before .if1 .left), lt-ltb 0 (length (c .before .before .before .before .before .before .before .before .before .before .before .before .before .before .args .layout .now) / 4) (omega (arith, c .before .before .before .before .before .before .before .before .before .before .before .if2 .left)), ← c .before .before .before .before .before .before .before .before .before .before .word-at .ensures .0, lt-ltb 0 (c .before .before .before .before .before .before .before .before .before .before .word-at .result) (omega (arith, c .before .before .before .before .before .before .before .before .before .if3 .left)), le-leb _ _ (c .before .before .before .before .before .before .before .before .if4 .left), lt-ltb _ _ (c .before .before .before .before .before .before .before .if5 .left), ← c .before .before .before .before .before .types-end .ensures .gives, c .before .before .c .given .1) (c .refused6 .ensures)
+returns-6 c =
+    let c2 = c .before .before in
+    let c4 = c2 .before .before in
+    let c6 = c4 .before .before in
+    let c7 = c6 .before in
+    let c8 = c7 .before in
+    let c9 = c8 .before in
+    let c10 = c9 .before in
+    let c11 = c10 .before in
+    let c13 = c11 .before .before in
+    rw (
+      eq-eqb _ _ (c11 .if1 .left),
+      lt-ltb 0 (length (c13 .args .layout .now) / 4) (omega (arith, c10 .if2 .left)),
+      ← c9 .word-at .ensures .0,
+      lt-ltb 0 (c9 .word-at .result) (omega (arith, c8 .if3 .left)),
+      le-leb _ _ (c7 .if4 .left),
+      lt-ltb _ _ (c6 .if5 .left),
+      ← c4 .types-end .ensures .gives,
+      c2 .c .given .1,
+    ) (c .refused6 .ensures)
 
 returns-7 : tie.Need-returns-7
 unfolding tableOf count
-returns-7 c = rw (eq-eqb _ _ (c .before .before .before .before .before .before .before .before .before .before .before .before .if1 .left), lt-ltb 0 (length (c .before .before .before .before .before .before .before .before .before .before .before .before .before .before .args .layout .now) / 4) (omega (arith, c .before .before .before .before .before .before .before .before .before .before .before .if2 .left)), ← c .before .before .before .before .before .before .before .before .before .before .word-at .ensures .0, lt-ltb 0 (c .before .before .before .before .before .before .before .before .before .before .word-at .result) (omega (arith, c .before .before .before .before .before .before .before .before .before .if3 .left)), le-leb _ _ (c .before .before .before .before .before .before .before .before .if4 .left), lt-ltb _ _ (c .before .before .before .before .before .before .before .if5 .left), ← c .before .before .before .before .before .types-end .ensures .gives, c .before .before .c2 .given .1, eq-eqb _ _ (c .if6 .taken), c .before .before .before .before .before .types-end .ensures .found _ (c .before .before .c2 .given .1))
+returns-7 c =
+    let c2 = c .before .before in
+    let c4 = c2 .before .before in
+    let c6 = c4 .before .before in
+    let c7 = c6 .before in
+    let c8 = c7 .before in
+    let c9 = c8 .before in
+    let c10 = c9 .before in
+    let c11 = c10 .before in
+    let c13 = c11 .before .before in
+    rw (
+      eq-eqb _ _ (c11 .if1 .left),
+      lt-ltb 0 (length (c13 .args .layout .now) / 4) (omega (arith, c10 .if2 .left)),
+      ← c9 .word-at .ensures .0,
+      lt-ltb 0 (c9 .word-at .result) (omega (arith, c8 .if3 .left)),
+      le-leb _ _ (c7 .if4 .left),
+      lt-ltb _ _ (c6 .if5 .left),
+      ← c4 .types-end .ensures .gives,
+      c2 .c2 .given .1,
+      eq-eqb _ _ (c .if6 .taken),
+      c4 .types-end .ensures .found _ (c2 .c2 .given .1),
+    )
 
 returns-8 : tie.Need-returns-8
 unfolding tableOf count
-returns-8 c = rw (eq-eqb _ _ (c .before .before .before .before .before .before .before .before .before .before .before .before .before .if1 .left), lt-ltb 0 (length (c .before .before .before .before .before .before .before .before .before .before .before .before .before .before .before .args .layout .now) / 4) (omega (arith, c .before .before .before .before .before .before .before .before .before .before .before .before .if2 .left)), ← c .before .before .before .before .before .before .before .before .before .before .before .word-at .ensures .0, lt-ltb 0 (c .before .before .before .before .before .before .before .before .before .before .before .word-at .result) (omega (arith, c .before .before .before .before .before .before .before .before .before .before .if3 .left)), le-leb _ _ (c .before .before .before .before .before .before .before .before .before .if4 .left), lt-ltb _ _ (c .before .before .before .before .before .before .before .before .if5 .left), ← c .before .before .before .before .before .before .types-end .ensures .gives, c .before .before .before .c2 .given .1, ne-eqb _ _ (c .before .if6 .left)) (c .refused7 .ensures)
+returns-8 c =
+    let c1 = c .before in
+    let c2 = c1 .before in
+    let c3 = c2 .before in
+    let c5 = c3 .before .before in
+    let c7 = c5 .before .before in
+    let c8 = c7 .before in
+    let c9 = c8 .before in
+    let c10 = c9 .before in
+    let c11 = c10 .before in
+    let c12 = c11 .before in
+    let c14 = c12 .before .before in
+    rw (
+      eq-eqb _ _ (c12 .if1 .left),
+      lt-ltb 0 (length (c14 .args .layout .now) / 4) (omega (arith, c11 .if2 .left)),
+      ← c10 .word-at .ensures .0,
+      lt-ltb 0 (c10 .word-at .result) (omega (arith, c9 .if3 .left)),
+      le-leb _ _ (c8 .if4 .left),
+      lt-ltb _ _ (c7 .if5 .left),
+      ← c5 .types-end .ensures .gives,
+      c3 .c2 .given .1,
+      ne-eqb _ _ (c1 .if6 .left),
+    ) (c .refused7 .ensures)
 
 pub table-of-spec : {M : Type 1} → statement M
 table-of-spec =
@@ -95,7 +157,6 @@ table-of-spec =
     returns-4
     refused-requires-5
     returns-5
-    slice-aggregate-types-end
     types-end-requires
     enum-known-c
     refused-requires-6

@@ -1,11 +1,11 @@
 -- The loop keeps `Checking`. Assumes nothing.
 use mathlib.Core.Path.{_≡_, refl, sym, ap, _∙_}
+use Prim.Native.Nat.{_-_}
 use native.Mathlib.Omega.{arith}
 use borrow.Author.Needs.{needs}
-use Prim.Native.Nat.{_-_}
 use Rattle.layout.specs.Table.{count}
 use Rattle.standard.proofs.Bytes.{bytes-known}
-use Rattle.layout.proofs.Tables.{Checking, known-length, typed-bad, checking-start, checking-bad, checking-legal, checking-next, checking-end}
+use Rattle.layout.proofs.Tables.{Checking, typed-bad, checking-start, checking-bad, checking-next, checking-end}
 use Rattle.layout.proofs.types_end.Statement.{statement}
 use Rattle.layout.proofs.types_end.Tie as tie
 
@@ -21,8 +21,9 @@ add-at c = omega arith
 loop-holds : tie.Need-loop-holds Inv-loop μ-loop
 unfolding count
 loop-holds c =
-    let e : c .before .before .args .n - 0 ≡ c .before .before .args .n = omega arith in
-    record { some = omega arith; within = omega (arith, c .before .before .pre .2); known = c .before .before .pre .0; same = rw e }
+    let c1 = c .before in
+    let e : c1 .args .n - 0 ≡ c1 .args .n = omega arith in
+    record { some = omega arith; within = omega (arith, c1 .pre .2); known = c1 .pre .0; same = rw e }
 
 add-next : tie.Need-add-next Inv-loop μ-loop
 add-next c = omega arith
@@ -30,30 +31,42 @@ add-next c = omega arith
 word-at-requires : tie.Need-word-at-requires Inv-loop μ-loop
 word-at-requires c κs = search needs
 
-same-length : tie.Need-same-length Inv-loop μ-loop
-same-length c = known-length _ _ _ (c .before .before .before .loop .inv .known) ∙ sym (known-length _ _ _ (c .before .before .before .before .before .before .pre .0))
-
 returns : tie.Need-returns Inv-loop μ-loop
-returns c = typed-bad _ _ _ _ (checking-start _ _ _ _ _ (c .before .before .before .loop .inv) (c .before .before .loop-test .taken) _ (c .before .word-at .ensures .0) (c .if1 .taken))
+returns c =
+    let c1 = c .before in
+    let c2 = c1 .before in
+    let c3 = c2 .before in
+    typed-bad _ _ _ _ (checking-start _ _ _ _ _ (c3 .loop .inv) (c2 .loop-test .taken) _ (c1 .word-at .ensures .0) (c .if1 .taken))
 
 body-end-requires : tie.Need-body-end-requires Inv-loop μ-loop
-unfolding count
-body-end-requires c κs = (c .before .before .before .before .loop .inv .known, omega (arith, c .before .before .before .before .loop .inv .within, c .before .before .before .before .before .before .before .good))
+body-end-requires c κs =
+    let c1 = c .before in
+    let c2 = c1 .before in
+    let c3 = c2 .before in
+    let c4 = c3 .before in
+    let c6 = c4 .before .before in (
+      c4 .loop .inv .known,
+      omega (arith, c6 .pre .1, c3 .loop-test .taken),
+      omega (arith, c2 .word-at .ensures .1, c1 .if1 .left),
+      sym (c1 .if1 .left) ∙ c2 .word-at .ensures .0,
+    )
 
 enum-known-c : tie.Need-enum-known-c Inv-loop μ-loop
 enum-known-c c = search needs
 
-same-length-2 : tie.Need-same-length-2 Inv-loop μ-loop
-same-length-2 c = known-length _ _ _ (c .before .before .before .before .before .before .before .before .loop .inv .known) ∙ sym (known-length _ _ _ (c .before .before .before .before .before .before .before .before .before .before .before .pre .0))
-
 returns-2 : tie.Need-returns-2 Inv-loop μ-loop
-returns-2 c = typed-bad _ _ _ _ (checking-bad _ _ _ _ _ (c .before .before .before .before .before .before .before .before .loop .inv) (c .before .before .before .before .before .before .before .loop-test .taken) _ (c .before .before .before .before .before .before .word-at .ensures .0) (c .before .before .before .before .before .if1 .left) _ (sym (c .before .c .given .1) ∙ c .before .before .before .body-end .ensures))
+returns-2 c =
+    let c1 = c .before in
+    let c3 = c1 .before .before in
+    let c5 = c3 .before .before in
+    let c6 = c5 .before in
+    let c7 = c6 .before in
+    let c8 = c7 .before in
+    typed-bad _ _ _ _
+    (checking-bad _ _ _ _ _ (c8 .loop .inv) (c7 .loop-test .taken) _ (c6 .word-at .ensures .0) (c5 .if1 .left) _ (sym (c1 .c .given .1) ∙ c3 .body-end .ensures .gives))
 
 enum-known-c-2 : tie.Need-enum-known-c-2 Inv-loop μ-loop
 enum-known-c-2 c = search needs
-
-fixed-len-requires : tie.Need-fixed-len-requires Inv-loop μ-loop
-fixed-len-requires c κs = (c .before .before .before .before .before .before .before .before .before .loop .inv .known, checking-legal _ _ _ _ _ (c .before .before .before .before .before .before .before .before .before .loop .inv) (c .before .before .before .before .before .before .before .before .loop-test .taken) _ (c .before .before .before .before .before .before .before .word-at .ensures .0) (c .before .before .before .before .before .before .if1 .left) (bytes-known _ (λ i. c .before .before .before .before .before .before .before .before .before .before .shared-slice-known .given i .fits)) _ (sym (c .before .before .c2 .given .1) ∙ c .before .before .before .before .body-end .ensures), omega arith, omega (arith, c .before .before .before .before .before .before .before .before .before .before .before .before .pre .1))
 
 add-t : tie.Need-add-t Inv-loop μ-loop
 add-t c = omega arith
@@ -62,14 +75,24 @@ loop-less : tie.Need-loop-less Inv-loop μ-loop
 loop-less c = omega arith
 
 loop-again : tie.Need-loop-again Inv-loop μ-loop
-loop-again c = checking-next _ _ _ _ _ (c .before .before .before .before .before .before .before .before .before .before .before .before .loop .inv) (c .before .before .before .before .before .before .before .before .before .before .before .loop-test .taken) _ (c .before .before .before .before .before .before .before .before .before .before .word-at .ensures .0) (c .before .before .before .before .before .before .before .before .before .if1 .left) (bytes-known _ (λ i. c .before .before .before .before .before .before .before .before .before .before .before .before .before .shared-slice-known .given i .fits)) _ (sym (c .before .before .before .before .before .c2 .given .1) ∙ c .before .before .before .before .before .before .before .body-end .ensures) _ (c .before .before .before .before .before .before .before .before .before .before .before .before .before .before .before .pre .1) (c .before .before .fixed-len .ensures .found)
-
-same-length-3 : tie.Need-same-length-3 Inv-loop μ-loop
-same-length-3 c = known-length _ _ _ (c .before .loop .inv .known) ∙ sym (known-length _ _ _ (c .before .before .before .before .pre .0))
+loop-again c =
+    let c1 = c .before in
+    let c2 = c1 .before in
+    let c3 = c2 .before in
+    let c5 = c3 .before .before in
+    let c6 = c5 .before in
+    let c7 = c6 .before in
+    let c8 = c7 .before in
+    let c9 = c8 .before in
+    let c10 = c9 .before in
+    let b = bytes-known _ (λ i. c9 .shared-slice-known .given i .fits) in
+    checking-next _ _ _ _ _ (c8 .loop .inv) (c7 .loop-test .taken) _ (c6 .word-at .ensures .0) (c5 .if1 .left) b _
+    (sym (c1 .c2 .given .1) ∙ c3 .body-end .ensures .gives) _ (c10 .pre .1) (c3 .body-end .ensures .found _ (c1 .c2 .given .1))
 
 returns-3 : tie.Need-returns-3 Inv-loop μ-loop
 returns-3 c =
-    let e = checking-end _ _ _ _ _ (c .before .loop .inv) (c .loop-test .left) in
+    let c1 = c .before in
+    let e = checking-end _ _ _ _ _ (c1 .loop .inv) (c .loop-test .left) in
     record { gives = e .0; found = λ _ _. e .1 }
 
 pub types-end-spec : {M : Type 1} → statement M
@@ -82,16 +105,12 @@ types-end-spec =
     loop-holds
     add-next
     word-at-requires
-    same-length
     returns
     body-end-requires
     enum-known-c
-    same-length-2
     returns-2
     enum-known-c-2
-    fixed-len-requires
     add-t
     loop-less
     loop-again
-    same-length-3
     returns-3)

@@ -1,0 +1,273 @@
+-- The cycle of calls of `fixed_len` and `fields_len`: the type number falls. The loop keeps `Taking`. Assumes nothing.
+use mathlib.Core.Path.{_≡_, refl, sym, ap, _∙_}
+use mathlib.Core.Logic.{⊎-elim}
+use Prim.Native.Nat.{_+_, _*_}
+use native.Mathlib.Omega.{arith}
+use borrow.Author.Needs.{needs}
+use borrow.Author.Tests.{lt-ltb}
+use Rattle.layout.proofs.Facts.{length-filled, legal-node, legal-below}
+use Rattle.layout.proofs.Trees.{leaf-length, len-small}
+use Rattle.layout.proofs.Tables.{known-len, known-small}
+use Rattle.layout.proofs.Lengths.{Taking, taking-start, taking-lower, taking-below, taking-width, taking-kept, taking-fixed, taking-variable, taking-end, sizes-len, lengthened}
+use Prim.Native.Nat.{ℕ, _<_}
+use borrow.Fn.Kinds.{In}
+use borrow.Fn.PlainCycle.{Measures, is, falls, and}
+use Rattle.layout.proofs.fields_len.Reads as fields-len
+use Rattle.layout.proofs.fields_len.Kinds as fields-len-kinds
+use Rattle.layout.proofs.+fields_len+fixed_len.Lts-fields_len as fields-len-lts
+use Rattle.layout.proofs.fixed_len.Reads as fixed-len
+use Rattle.layout.proofs.fixed_len.Kinds as fixed-len-kinds
+use Rattle.layout.proofs.+fields_len+fixed_len.Lts-fixed_len as fixed-len-lts
+use Rattle.layout.proofs.leaf_len.Reads as leaf-len-reads
+use Rattle.layout.proofs.look.Reads as look-reads
+use Rattle.layout.proofs.width_of.Reads as width-of-reads
+use Rattle.standard.proofs.words.word_at.Reads as word-at-reads
+use Rattle.layout.proofs.+fields_len+fixed_len.{statement}
+use Rattle.layout.proofs.+fields_len+fixed_len.Tie.{close}
+
+abbrev μ-fields-len : Measures 2 fields-len-kinds.ps ℕ
+μ-fields-len κs a = 2 * a .1 .1 .1 .0
+
+abbrev μ-fixed-len : Measures 2 fixed-len-kinds.ps ℕ
+μ-fixed-len κs a = 2 * a .1 .1 .1 .0 + 1
+
+abbrev fields-len-at : ℕ → In 2 fields-len-kinds.ps
+fields-len-at t =
+    and 2 fields-len-kinds.ps (is 2 fields-len-kinds.ps μ-fields-len t) fields-len.Pre
+
+abbrev fields-len-below : ℕ → In 2 fields-len-kinds.ps
+fields-len-below t =
+    and 2 fields-len-kinds.ps (falls 2 fields-len-kinds.ps _<_ μ-fields-len t) fields-len.Pre
+
+abbrev fixed-len-at : ℕ → In 2 fixed-len-kinds.ps
+fixed-len-at t = and 2 fixed-len-kinds.ps (is 2 fixed-len-kinds.ps μ-fixed-len t) fixed-len.Pre
+
+abbrev fixed-len-below : ℕ → In 2 fixed-len-kinds.ps
+fixed-len-below t =
+    and 2 fixed-len-kinds.ps (falls 2 fixed-len-kinds.ps _<_ μ-fixed-len t) fixed-len.Pre
+
+-- what each of the two calls, at the measure t
+abbrev fields-len-calls : ℕ → fields-len-lts.Claims
+fields-len-calls t = (word-at-reads.Asked, word-at-reads.Learnt, fixed-len-below t, fixed-len.Post, width-of-reads.Asked, width-of-reads.Learnt)
+
+abbrev fixed-len-calls : ℕ → fixed-len-lts.Claims
+fixed-len-calls t = (look-reads.Asked, look-reads.Learnt, leaf-len-reads.Asked, leaf-len-reads.Learnt, fields-len-below t, fields-len.Post)
+
+abbrev fields-len-Inv-loop : fields-len-lts.InvT-loop
+fields-len-Inv-loop lens₀ known layout t a0 n a₀ left₀ portion₀ fixed₀ lens a left portion fixed =
+    Taking layout t known a0 n lens a left portion fixed
+
+abbrev fields-len-μ-loop : fields-len-lts.MeasureT-loop
+fields-len-μ-loop lens₀ known layout t a0 n a₀ left₀ portion₀ fixed₀ lens a left portion fixed = left
+
+fields-len-loop-holds : (t : ℕ) → fields-len-lts.Need-loop-holds (fields-len-calls t) (fields-len-at t) fields-len.Post fields-len-Inv-loop fields-len-μ-loop
+fields-len-loop-holds t c =
+    let c1 = c .before in
+    taking-start _ _ _ _ _ _ (c1 .pre .1 .0 .found) (c1 .pre .1 .2)
+
+fields-len-word-at-requires : (t : ℕ) → fields-len-lts.Need-word-at-requires (fields-len-calls t) (fields-len-at t) fields-len.Post fields-len-Inv-loop fields-len-μ-loop
+fields-len-word-at-requires t c κs = search needs
+
+fields-len-fixed-len-requires : (t : ℕ) → fields-len-lts.Need-fixed-len-requires (fields-len-calls t) (fields-len-at t) fields-len.Post fields-len-Inv-loop fields-len-μ-loop
+fields-len-fixed-len-requires t c κs =
+    let c1 = c .before in
+    let c2 = c1 .before in
+    let c3 = c2 .before in
+    let c5 = c3 .before .before in
+    let h = taking-lower _ _ _ _ _ _ _ _ _ _ _ 0 (c3 .loop .inv) (c2 .loop-test .taken) (c1 .word-at .ensures .0) (c5 .pre .1 .1) in (
+      rw (← c5 .pre .0) (omega (arith, h)),
+      (
+        record { found = c3 .loop .inv .found; legal = c5 .pre .1 .0 .legal; few = c5 .pre .1 .0 .few },
+        legal-below _ _ _ (omega (arith, h, c5 .pre .1 .1)) (c5 .pre .1 .0 .legal),
+        omega (arith, h, c5 .pre .1 .1),
+        omega (arith, h, c5 .pre .1 .1, c5 .pre .1 .0 .few),
+      ),
+    )
+
+fields-len-width-of-requires : (t : ℕ) → fields-len-lts.Need-width-of-requires (fields-len-calls t) (fields-len-at t) fields-len.Post fields-len-Inv-loop fields-len-μ-loop
+fields-len-width-of-requires t c κs = search needs
+
+fields-len-add-portion : (t : ℕ) → fields-len-lts.Need-add-portion (fields-len-calls t) (fields-len-at t) fields-len.Post fields-len-Inv-loop fields-len-μ-loop
+fields-len-add-portion t c =
+    let c2 = c .before .before in
+    let c4 = c2 .before .before in
+    let c5 = c4 .before in
+    let c6 = c5 .before in
+    let c8 = c6 .before .before in
+    let w = taking-width _ _ _ _ _ _ _ _ _ _ _ _ (c6 .loop .inv) (c5 .loop-test .taken) (c4 .word-at .ensures .0) (c8 .pre .1 .1) (c8 .pre .1 .0 .legal) (c2 .fixed-len .ensures .gives) _ (c .width-of .ensures) in
+    omega (arith, w, c6 .loop .inv .adding .bound, c8 .pre .1 .3, c5 .loop-test .taken)
+
+fields-len-add-a : (t : ℕ) → fields-len-lts.Need-add-a (fields-len-calls t) (fields-len-at t) fields-len.Post fields-len-Inv-loop fields-len-μ-loop
+fields-len-add-a t c =
+    let c6 = c .before .before .before .before .before .before in
+    let c8 = c6 .before .before in
+    omega (arith, c6 .loop .inv .adding .place, c8 .pre .1 .3, c8 .pre .1 .4)
+
+fields-len-sub-left : (t : ℕ) → fields-len-lts.Need-sub-left (fields-len-calls t) (fields-len-at t) fields-len.Post fields-len-Inv-loop fields-len-μ-loop
+fields-len-sub-left t c = omega arith
+
+fields-len-loop-less : (t : ℕ) → fields-len-lts.Need-loop-less (fields-len-calls t) (fields-len-at t) fields-len.Post fields-len-Inv-loop fields-len-μ-loop
+fields-len-loop-less t c = omega arith
+
+fields-len-loop-again : (t : ℕ) → fields-len-lts.Need-loop-again (fields-len-calls t) (fields-len-at t) fields-len.Post fields-len-Inv-loop fields-len-μ-loop
+fields-len-loop-again t c =
+    let c1 = c .before in
+    let c2 = c1 .before in
+    let c4 = c2 .before .before in
+    let c5 = c4 .before in
+    let c6 = c5 .before in
+    let c8 = c6 .before .before in
+    ⊎-elim
+    (λ h. rw (h .1) (taking-variable _ _ _ _ _ _ _ _ _ _ _ _ (c6 .loop .inv) (c5 .loop-test .taken) (c4 .word-at .ensures .0) (c8 .pre .1 .1) (c8 .pre .1 .0 .legal) (c2 .fixed-len .ensures .gives) _ (c .width-of .ensures) _ (c2 .fixed-len .ensures .found) (h .0 .taken)))
+    (λ h. rw (h .1) (taking-fixed _ _ _ _ _ _ _ _ _ _ _ _ (c6 .loop .inv) (c5 .loop-test .taken) (c4 .word-at .ensures .0) (c8 .pre .1 .1) (c8 .pre .1 .0 .legal) (c2 .fixed-len .ensures .gives) _ (c .width-of .ensures) _ (c2 .fixed-len .ensures .found) (h .0 .left)))
+    (c1 .if1 .came)
+
+fields-len-returns : (t : ℕ) → fields-len-lts.Need-returns (fields-len-calls t) (fields-len-at t) fields-len.Post fields-len-Inv-loop fields-len-μ-loop
+fields-len-returns t c =
+    let c1 = c .before in
+    let c2 = c1 .before in
+    let c4 = c2 .before .before in
+    (rw (c .if2 .taken) at (taking-end _ _ _ _ _ _ _ _ _ _ (c2 .loop .inv) (c1 .loop-test .left)), c2 .loop .inv .found ∙ sym (c4 .pre .1 .0 .found))
+
+fields-len-returns-2 : (t : ℕ) → fields-len-lts.Need-returns-2 (fields-len-calls t) (fields-len-at t) fields-len.Post fields-len-Inv-loop fields-len-μ-loop
+fields-len-returns-2 t c =
+    let c1 = c .before in
+    let c2 = c1 .before in
+    let c4 = c2 .before .before in
+    (rw (c .if2 .left) at (taking-end _ _ _ _ _ _ _ _ _ _ (c2 .loop .inv) (c1 .loop-test .left)), c2 .loop .inv .found ∙ sym (c4 .pre .1 .0 .found))
+
+fixed-len-mul-result : (t : ℕ) → fixed-len-lts.Need-mul-result (fixed-len-calls t) (fixed-len-at t) fixed-len.Post
+fixed-len-mul-result t c =
+    let c2 = c .before .before in
+    omega (arith, c2 .pre .1 .3)
+
+fixed-len-element-copy-out-result : (t : ℕ) → fixed-len-lts.Need-element-copy-out-result (fixed-len-calls t) (fixed-len-at t) fixed-len.Post
+fixed-len-element-copy-out-result t c =
+    let c2 = c .before .before in
+    c2 .pre .1 .3
+
+fixed-len-cast-result : (t : ℕ) → fixed-len-lts.Need-cast-result (fixed-len-calls t) (fixed-len-at t) fixed-len.Post
+fixed-len-cast-result t c =
+    let c1 = c .before in
+    let c3 = c1 .before .before in
+    omega (arith, known-small _ _ _ (c3 .pre .1 .0) _ (c1 .if1 .taken))
+
+fixed-len-returns : (t : ℕ) → fixed-len-lts.Need-returns (fixed-len-calls t) (fixed-len-at t) fixed-len.Post
+fixed-len-returns t c =
+    let c1 = c .before in
+    let c3 = c1 .before .before in
+    record { gives = known-len _ _ _ (c3 .pre .1 .0) _ (c1 .if1 .taken); found = rw (lt-ltb _ _ (c1 .if1 .taken)) (c3 .pre .1 .0 .found) }
+
+fixed-len-look-requires : (t : ℕ) → fixed-len-lts.Need-look-requires (fixed-len-calls t) (fixed-len-at t) fixed-len.Post
+fixed-len-look-requires t c κs = search needs
+
+fixed-len-leaf-len-requires : (t : ℕ) → fixed-len-lts.Need-leaf-len-requires (fixed-len-calls t) (fixed-len-at t) fixed-len.Post
+fixed-len-leaf-len-requires t c κs =
+    let c2 = c .before .before in
+    let c5 = c2 .before .before .before in
+    legal-node _ _ _ (c2 .look .ensures) (c5 .pre .1 .1) .small
+
+fixed-len-cast-lens : (t : ℕ) → fixed-len-lts.Need-cast-lens (fixed-len-calls t) (fixed-len-at t) fixed-len.Post
+fixed-len-cast-lens t c =
+    let c1 = c .before in
+    let c3 = c1 .before .before in
+    let c6 = c3 .before .before .before in
+    let e = c .leaf-len .ensures ∙ leaf-length _ _ _ (c3 .look .ensures) (c1 .if2 .taken) in
+    omega (arith, e, len-small _ _ (legal-node _ _ _ refl (c6 .pre .1 .1)))
+
+fixed-len-mul-lens : (t : ℕ) → fixed-len-lts.Need-mul-lens (fixed-len-calls t) (fixed-len-at t) fixed-len.Post
+fixed-len-mul-lens t c =
+    let c6 = c .before .before .before .before .before .before in
+    omega (arith, c6 .pre .1 .3)
+
+fixed-len-element-write-lens : (t : ℕ) → fixed-len-lts.Need-element-write-lens (fixed-len-calls t) (fixed-len-at t) fixed-len.Post
+fixed-len-element-write-lens t c =
+    let c6 = c .before .before .before .before .before .before in
+    c6 .pre .1 .3
+
+fixed-len-returns-2 : (t : ℕ) → fixed-len-lts.Need-returns-2 (fixed-len-calls t) (fixed-len-at t) fixed-len.Post
+fixed-len-returns-2 t c =
+    let c1 = c .before in
+    let c3 = c1 .before .before in
+    let c4 = c3 .before in
+    let c6 = c4 .before .before in
+    let e = c .leaf-len .ensures ∙ leaf-length _ _ _ (c3 .look .ensures) (c1 .if2 .taken) in
+    lengthened _ _ _ _ _ (c6 .pre .1 .0 .found) (c6 .pre .1 .2) (c4 .if1 .left) (c6 .pre .1 .3) e
+
+fixed-len-add-first : (t : ℕ) → fixed-len-lts.Need-add-first (fixed-len-calls t) (fixed-len-at t) fixed-len.Post
+fixed-len-add-first t c =
+    let c3 = c .before .before .before in
+    let c6 = c3 .before .before .before in
+    let g = legal-node _ _ _ (c3 .look .ensures) (c6 .pre .1 .1) in omega (arith, g .near)
+
+fixed-len-fields-len-requires : (t : ℕ) → fixed-len-lts.Need-fields-len-requires (fixed-len-calls t) (fixed-len-at t) fixed-len.Post
+fixed-len-fields-len-requires t c κs =
+    let c2 = c .before .before in
+    let c4 = c2 .before .before in
+    let c7 = c4 .before .before .before in
+    let g = legal-node _ _ _ (c4 .look .ensures) (c7 .pre .1 .1) in
+    (rw (← c7 .pre .0) (omega arith), (c7 .pre .1 .0, c7 .pre .1 .2, g .lower (c2 .if2 .left), g .few (c2 .if2 .left), omega (arith, g .near)))
+
+fixed-len-cast-lens-2 : (t : ℕ) → fixed-len-lts.Need-cast-lens-2 (fixed-len-calls t) (fixed-len-at t) fixed-len.Post
+fixed-len-cast-lens-2 t c =
+    let c3 = c .before .before .before in
+    let c5 = c3 .before .before in
+    let c8 = c5 .before .before .before in
+    let e = sizes-len _ _ _ _ (c5 .look .ensures) (c3 .if2 .left) (c .fields-len .ensures .0) in
+    omega (arith, e, len-small _ _ (legal-node _ _ _ refl (c8 .pre .1 .1)))
+
+fixed-len-mul-lens-2 : (t : ℕ) → fixed-len-lts.Need-mul-lens-2 (fixed-len-calls t) (fixed-len-at t) fixed-len.Post
+fixed-len-mul-lens-2 t c =
+    let c8 = c .before .before .before .before .before .before .before .before in
+    omega (arith, c8 .pre .1 .3)
+
+fixed-len-element-write-lens-2 : (t : ℕ) → fixed-len-lts.Need-element-write-lens-2 (fixed-len-calls t) (fixed-len-at t) fixed-len.Post
+fixed-len-element-write-lens-2 t c =
+    let c8 = c .before .before .before .before .before .before .before .before in
+    c8 .pre .1 .3
+
+fixed-len-returns-3 : (t : ℕ) → fixed-len-lts.Need-returns-3 (fixed-len-calls t) (fixed-len-at t) fixed-len.Post
+fixed-len-returns-3 t c =
+    let c3 = c .before .before .before in
+    let c5 = c3 .before .before in
+    let c6 = c5 .before in
+    let c8 = c6 .before .before in
+    let e = sizes-len _ _ _ _ (c5 .look .ensures) (c3 .if2 .left) (c .fields-len .ensures .0) in
+    lengthened _ _ _ _ _ (c .fields-len .ensures .1 ∙ c8 .pre .1 .0 .found) (c8 .pre .1 .2) (c6 .if1 .left) (c8 .pre .1 .3) e
+
+pub +fields-len+fixed-len-spec : {M : Type 1} → statement M
++fields-len+fixed-len-spec = close μ-fields-len μ-fixed-len (λ t. fields-len-lts.spec (fields-len-calls t)
+    (fields-len-at t)
+    fields-len.Post
+    fields-len-Inv-loop
+    fields-len-μ-loop
+    (fields-len-loop-holds t)
+    (fields-len-word-at-requires t)
+    (fields-len-fixed-len-requires t)
+    (fields-len-width-of-requires t)
+    (fields-len-add-portion t)
+    (fields-len-add-a t)
+    (fields-len-sub-left t)
+    (fields-len-loop-less t)
+    (fields-len-loop-again t)
+    (fields-len-returns t)
+    (fields-len-returns-2 t))
+    λ t. fixed-len-lts.spec (fixed-len-calls t)
+    (fixed-len-at t)
+    fixed-len.Post
+    (fixed-len-mul-result t)
+    (fixed-len-element-copy-out-result t)
+    (fixed-len-cast-result t)
+    (fixed-len-returns t)
+    (fixed-len-look-requires t)
+    (fixed-len-leaf-len-requires t)
+    (fixed-len-cast-lens t)
+    (fixed-len-mul-lens t)
+    (fixed-len-element-write-lens t)
+    (fixed-len-returns-2 t)
+    (fixed-len-add-first t)
+    (fixed-len-fields-len-requires t)
+    (fixed-len-cast-lens-2 t)
+    (fixed-len-mul-lens-2 t)
+    (fixed-len-element-write-lens-2 t)
+    (fixed-len-returns-3 t)
