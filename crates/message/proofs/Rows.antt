@@ -3,9 +3,10 @@ use mathlib.Core.Path.{_≡_, refl, sym, ap, _∙_}
 use mathlib.Core.List.{List, [], _∷_}
 use Prim.Native.Nat.{ℕ, zero, suc, _+_, _-_, _≤_, _<_, _^_}
 use native.Mathlib.Omega.{arith}
+use borrow.Author.Tests.{le-ltb, eq-eqb}
 use lib.ListN.{length, getD, take, drop, length-take, length-drop}
 use Rattle.standard.specs.Bytes.{four, wordAt}
-use Rattle.standard.specs.Types.{Ty, Tys, end, field, head, heads}
+use Rattle.standard.specs.Types.{Ty, Tys, container, end, field, head, headAll, heads}
 use Rattle.standard.specs.Parts.{next, spanOf, part, InRange}
 use Rattle.standard.specs.declared.Head.{Head}
 use Rattle.standard.specs.declared.Head.the-variants.{Fixed, Variable}
@@ -13,8 +14,9 @@ use Rattle.standard.specs.declared.Span.{Span}
 use Rattle.standard.specs.declared.Told.{Told}
 use Rattle.standard.specs.declared.Refusal.{Refusal}
 use Rattle.standard.proofs.Join.{range-weaken, span-ranges}
-use Rattle.standard.proofs.Laws.{fixed-some}
-use Rattle.decode.specs.Builder.{fresh, step, registerHead, follow, register, build, layOut}
+use Rattle.standard.specs.declared.Maybe.the-variants.{Nothing}
+use Rattle.standard.proofs.Laws.{fixed-some, fixed-injective, joined-fixed}
+use Rattle.decode.specs.Builder.{fresh, step, registerHead, follow, register, build, ended, layOut}
 use Rattle.decode.specs.declared.builder.Progress.{Progress}
 use Rattle.decode.specs.declared.builder.Step.{Step}
 use Rattle.decode.proofs.Register.{register-step, step-within}
@@ -23,7 +25,7 @@ use Rattle.layout.specs.Legal.{Legal}
 use Rattle.layout.specs.Steps.{Known}
 use Rattle.layout.proofs.Facts.{fields-none, heads-first, lower-here, lower-rest, head-len, legal-below}
 use Rattle.layout.proofs.Tables.{known-len, known-length}
-use Rattle.layout.proofs.Trees.{legal-tree}
+use Rattle.layout.proofs.Trees.{legal-tree, len-small}
 use Rattle.message.specs.Steps.{Under, Row, rowOf, headsOf}
 
 -- The lengths that the table check found.
@@ -37,6 +39,10 @@ under-below lens l t f h g =
 module _ (lens l : List ℕ) (t : ℕ) (g : Under lens l t) (f : ℕ) (h : f < t) where
   pub under-head : headOf (getD lens f 0) ≡ head (treeOf l f)
   under-head = ap headOf (g .found f h) ∙ head-len (treeOf l f) (legal-tree l t f (g .legal) h)
+
+  pub under-small : getD lens f 0 < 2 ^ 32
+  unfolding Legal
+  under-small = rw (g .found f h) (len-small l f (g .legal f h))
 
   pub under-index : f < length lens
   under-index = omega (arith, g .few, g .room)
@@ -57,6 +63,9 @@ module _ (lens l : List ℕ) (t a left f : ℕ) (g : Row lens l t a left) (p : 0
 
   pub row-index : f < length lens
   row-index = under-index lens l t (g .under) f row-below
+
+  pub row-small : getD lens f 0 < 2 ^ 32
+  row-small = under-small lens l t (g .under) f row-below
 
   pub row-head : headOf (getD lens f 0) ≡ head (treeOf l f)
   row-head = under-head lens l t (g .under) f row-below
@@ -114,6 +123,38 @@ module _ (lens l : List ℕ) (t a₀ n : ℕ) (b : List ℕ) (x : Progress) (a l
 pub laying-end : (lens l : List ℕ) (t a₀ n : ℕ) (b : List ℕ) (x : Progress) (a left : ℕ) → Laying lens l t a₀ n b x a left → left ≤ 0 → build (length b) x ≡ layOut (headsOf l t a₀ n) b
 unfolding layOut register
 laying-end lens l t a₀ n b x a left g h = rw (← g .same, heads-none l t a left h)
+
+-- Fields of fixed size that take all the bytes are laid out well.
+at-pos : ℕ → Progress
+at-pos p = record { pos = p; first = Nothing; previous = Nothing }
+
+fixed-step : (n : ℕ) (b : List ℕ) (p : ℕ) → p + n ≤ length b → length b < 2 ^ 32 → step (Fixed n) b (at-pos p) ≡ Step.Next (at-pos (p + n))
+unfolding step at-pos
+fixed-step n b p h k = rw (le-ltb 4294967295 n (omega arith), le-ltb (length b) (p + n) h)
+
+fixed-registers : (ts : Tys) (b : List ℕ) (p m : ℕ) → headAll ts ≡ Fixed m → p + m ≤ length b → length b < 2 ^ 32 → register (heads ts) b (at-pos p) ≡ Step.Next (at-pos (p + m))
+unfolding register heads head
+fixed-registers end b p m e h k = let z : p + m ≡ p = let q : 0 ≡ m = fixed-injective 0 m e in omega arith in rw z
+fixed-registers (field t ts) b p m e h k =
+    let j = joined-fixed (head t) (headAll ts) m e in
+    let i = fixed-step (j .0) b p (omega (arith, j .4)) k in
+    let r = fixed-registers ts b (p + j .0) (j .1) (j .3) (omega (arith, j .4)) k in
+    let z : p + j .0 + j .1 ≡ p + m = omega (arith, j .4) in
+    rw (j .2, i) (rw z at r)
+
+pub fixed-laid : (ts : Tys) (b : List ℕ) → headAll ts ≡ Fixed (length b) → length b < 2 ^ 32 → Told.Fine ≡ layOut (heads ts) b
+unfolding layOut build at-pos
+fixed-laid ts b e k =
+    let z : 0 + length b ≡ length b = omega arith in
+    let r : register (heads ts) b fresh ≡ Step.Next (at-pos (length b)) = rw z at (fixed-registers ts b 0 (length b) e (omega arith) k) in
+    let f : build (length b) (at-pos (length b)) ≡ Told.Fine = rw (eq-eqb (length b) (length b) refl) in
+    sym (ap (λ (x : Step). ended x (build (length b))) r ∙ f)
+
+pub container-fixed : (lens l : List ℕ) (t : ℕ) (ts : Tys) (b : List ℕ) (k : ℕ) → Under lens l (t + 1) → treeOf l t ≡ container t ts → k ≡ getD lens t 0 → 0 < k → k ≡ length b → length b < 2 ^ 32 → Told.Fine ≡ layOut (heads ts) b
+unfolding head
+container-fixed lens l t ts b k g e q z h s =
+    let f = len-head (head (treeOf l t)) k (q ∙ g .found t (omega arith)) (λ (v : k ≡ 0). omega arith) in
+    fixed-laid ts b (sym (rw (e, h) at f)) s
 
 -- The loop of `next_start`: looking on from here finds the same.
 pub record Seeking (lens l : List ℕ) (t a₀ n : ℕ) (b : List ℕ) (p₀ a left p : ℕ) : Type 0 where

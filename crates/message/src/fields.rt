@@ -13,15 +13,15 @@ ghost use mathlib.Core.Path.{_≡_};
 ghost use Prim.Native.Nat.{_+_, _-_, _<_, _^_};
 ghost use lib.ListN.{length};
 ghost use Rattle.standard.specs.Bytes.{wordAt};
-ghost use Rattle.standard.specs.Types.{head};
+ghost use Rattle.standard.specs.Types.{head, container};
 ghost use Rattle.standard.specs.Parts.{next, spanOf, InRange};
 ghost use Rattle.decode.specs.Builder.{layOut};
 ghost use Rattle.layout.specs.Tree.{treeOf};
-ghost use Rattle.message.specs.Steps.{Row, headsOf};
+ghost use Rattle.message.specs.Steps.{Under, Row, rowOf, headsOf};
 
 // Registers the n fields that the words from a0 on name, and builds.
-pub(crate) fn lay_out(
-    lens: &[usize],
+fn lay_out(
+    lens: &[u32],
     layout: &[u8],
     t: usize,
     a0: usize,
@@ -36,7 +36,7 @@ pub(crate) fn lay_out(
     let mut left = n;
     while left > 0 {
         let f = word_at(layout, a);
-        let h = head_of(lens[f]);
+        let h = head_of(lens[f] as usize);
         let s = register_head(x, h, b);
         match s {
             Step::Next(y) => {
@@ -52,9 +52,28 @@ pub(crate) fn lay_out(
     finalize(x, b.len())
 }
 
+// What the registration of a container's fields finds. One of fixed size that has its length needs no look at them.
+pub(crate) fn container_told(
+    lens: &[u32],
+    layout: &[u8],
+    t: usize,
+    a0: usize,
+    n: usize,
+    b: &[u8],
+) -> Told
+    requires { ⌜ Under (now lens) (now layout) (t + 1) × Row (now lens) (now layout) t a0 n × (length (now b) < 2 ^ 32) × (treeOf (now layout) t ≡ container t (rowOf (now layout) t a0 n)) ⌝ }
+    ensures { λ r. ⌜ r ≡ layOut (headsOf (now (layout .entry)) t a0 n) (now (b .entry)) ⌝ }
+{
+    let own = lens[t] as usize;
+    if own > 0 && own == b.len() {
+        return Told::Fine;
+    }
+    lay_out(lens, layout, t, a0, n, b)
+}
+
 // Where the next variable item starts, from the field at the position p0 on.
 fn next_start(
-    lens: &[usize],
+    lens: &[u32],
     layout: &[u8],
     t: usize,
     a0: usize,
@@ -70,7 +89,7 @@ fn next_start(
     let mut p = p0;
     while left > 0 {
         let f = word_at(layout, a);
-        let k = lens[f];
+        let k = lens[f] as usize;
         if k == 0 {
             return four_at(b, p);
         }
@@ -83,7 +102,7 @@ fn next_start(
 
 // Where the first of some fields lies, whose type is f.
 pub(crate) fn locate(
-    lens: &[usize],
+    lens: &[u32],
     layout: &[u8],
     t: usize,
     a: usize,
@@ -95,7 +114,7 @@ pub(crate) fn locate(
     requires { ⌜ Row (now lens) (now layout) t a left × (0 < left) × (f ≡ wordAt (now layout) a) × InRange (headsOf (now layout) t a left) (now b) p 0 ⌝ }
     ensures { λ r. ⌜ r ≡ spanOf (head (treeOf (now (layout .entry)) f)) (headsOf (now (layout .entry)) t (a + 1) (left - 1)) (now (b .entry)) p ⌝ }
 {
-    let k = lens[f];
+    let k = lens[f] as usize;
     if k == 0 {
         let from = four_at(b, p);
         let next = p + 4;

@@ -1,7 +1,7 @@
 // The items of a message: leaves, unions, and containers with their fields.
 use crate::Answer;
 use crate::Counts;
-use crate::fields::lay_out;
+use crate::fields::container_told;
 use crate::fields::locate;
 use bitfield::BodyBits;
 use bitfield::body::bitlist_body;
@@ -211,14 +211,14 @@ fn with_selector(r: Answer) -> Answer
 }
 
 // Checks the item b of the type t, which starts at start.
-pub(crate) fn item_check(lens: &[usize], layout: &[u8], t: usize, b: &[u8], start: usize) -> Answer
+pub(crate) fn item_check(lens: &[u32], layout: &[u8], t: usize, b: &[u8], start: usize) -> Answer
     requires { ⌜ Under (now lens) (now layout) (t + 1) × (start + length (now b) < 2 ^ 32) ⌝ }
     ensures { λ r. ⌜ r ≡ readItem (treeOf (now (layout .entry)) t) (now (b .entry)) start ⌝ }
 {
     let n = look(layout, t);
     let first = n.at + 2;
     if n.kind == 6 {
-        let told = lay_out(lens, layout, t, first, n.second, b);
+        let told = container_told(lens, layout, t, first, n.second, b);
         match told {
             Told::Fine => field_check(lens, layout, t, first, n.second, b, start),
             Told::Refused(r) => Answer::Refused(r, t, start),
@@ -241,7 +241,7 @@ pub(crate) fn item_check(lens: &[usize], layout: &[u8], t: usize, b: &[u8], star
 
 // Checks the n fields of type t that the words from a0 on name, and counts them with their container.
 fn field_check(
-    lens: &[usize],
+    lens: &[u32],
     layout: &[u8],
     t: usize,
     a0: usize,

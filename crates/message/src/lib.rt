@@ -44,7 +44,7 @@ pub enum Unfolded {
 }
 
 // The message under a legal table of n types.
-fn check_under(lens: &[usize], layout: &[u8], n: usize, message: &[u8]) -> Answer
+fn check_under(lens: &[u32], layout: &[u8], n: usize, message: &[u8]) -> Answer
     requires { ⌜ Under (now lens) (now layout) n × (1 ≤ n) ⌝ }
     ensures { λ r. ⌜ r ≡ underTable (Upto n) (now (layout .entry)) (now (message .entry)) ⌝ }
 {
@@ -61,15 +61,14 @@ pub fn check(layout: &[u8], message: &[u8]) -> Answer
 {
     let table = table_of(layout);
     let c = table.checked;
-    let lens = table.lens;
     match c {
         Checked::Bad(w) => Answer::Refused(Refusal::BadLayout(w), 0, 0),
-        Checked::Upto(n) => check_under(&lens, layout, n, message),
+        Checked::Upto(n) => check_under(&table.lens, layout, n, message),
     }
 }
 
 // Stores the listing of a message that was checked, where there is room for it.
-fn list_under(records: &mut [u8], lens: &[usize], layout: &[u8], n: usize, message: &[u8]) -> Listed
+fn list_under(records: &mut [u8], lens: &[u32], layout: &[u8], n: usize, message: &[u8]) -> Listed
     requires { ⌜ Under (now lens) (now layout) n × (1 ≤ n) ⌝ }
     ensures { λ r. ⌜ r ≡ listedOf (underTable (Upto n) (now (layout .entry)) (now (message .entry))) (now (records .entry)) ⌝ }
     ensures { λ _. ⌜ now (records .exit) ≡ recordsOf (underTable (Upto n) (now (layout .entry)) (now (message .entry))) (messageType (now (layout .entry)) n) (now (message .entry)) (now (records .entry)) ⌝ }
@@ -97,10 +96,9 @@ pub fn list(layout: &[u8], message: &[u8], records: &mut [u8]) -> Listed
 {
     let table = table_of(layout);
     let c = table.checked;
-    let lens = table.lens;
     match c {
         Checked::Bad(w) => Listed::Refused(Refusal::BadLayout(w), 0, 0),
-        Checked::Upto(n) => list_under(records, &lens, layout, n, message),
+        Checked::Upto(n) => list_under(records, &table.lens, layout, n, message),
     }
 }
 
@@ -108,7 +106,7 @@ pub fn list(layout: &[u8], message: &[u8], records: &mut [u8]) -> Listed
 fn unfold_under(
     contents: &mut [u32],
     bodies: &mut [u8],
-    lens: &[usize],
+    lens: &[u32],
     layout: &[u8],
     n: usize,
     message: &[u8],
@@ -146,9 +144,8 @@ pub fn unfold(layout: &[u8], message: &[u8], contents: &mut [u32], bodies: &mut 
 {
     let table = table_of(layout);
     let c = table.checked;
-    let lens = table.lens;
     match c {
         Checked::Bad(w) => Unfolded::Refused(Refusal::BadLayout(w), 0, 0),
-        Checked::Upto(n) => unfold_under(contents, bodies, &lens, layout, n, message),
+        Checked::Upto(n) => unfold_under(contents, bodies, &table.lens, layout, n, message),
     }
 }

@@ -44,7 +44,7 @@ joined-fixed (Fixed k) (Fixed m) n e = (k, m, refl, refl, cc)
 joined-fixed (Fixed k) Variable n e = let w : _≡_ {A = ℕ} 0 1 = cc in absurd (omega arith)
 joined-fixed Variable h n e = let w : _≡_ {A = ℕ} 0 1 = cc in absurd (omega arith)
 
-fixed-injective : (k m : ℕ) → Fixed k ≡ Fixed m → k ≡ m
+pub fixed-injective : (k m : ℕ) → Fixed k ≡ Fixed m → k ≡ m
 fixed-injective k m e = cc
 
 -- A fixed type of the standard takes at least one byte.

@@ -23,7 +23,7 @@ pub enum Written {
 // Writes under a legal table of n types.
 fn write_under(
     out: &mut [u8],
-    lens: &[usize],
+    lens: &[u32],
     layout: &[u8],
     n: usize,
     contents: &[u32],
@@ -68,9 +68,8 @@ pub fn write(layout: &[u8], contents: &[u32], bodies: &[u8], out: &mut [u8]) -> 
 {
     let table = table_of(layout);
     let c = table.checked;
-    let lens = table.lens;
     match c {
         Checked::Bad(w) => Written::Refused(Refusal::BadLayout(w)),
-        Checked::Upto(n) => write_under(out, &lens, layout, n, contents, bodies),
+        Checked::Upto(n) => write_under(out, &table.lens, layout, n, contents, bodies),
     }
 }

@@ -249,7 +249,7 @@ fn with_offset(k: usize, len: usize) -> usize
 
 // Measures the form of an item of the type t, from the contents word i and the body byte j on.
 pub(crate) fn measure_item(
-    lens: &[usize],
+    lens: &[u32],
     layout: &[u8],
     t: usize,
     contents: &[u32],
@@ -289,7 +289,7 @@ pub(crate) fn measure_item(
 
 // Measures the forms of the n fields of type t that the words from a0 on name.
 fn measure_fields(
-    lens: &[usize],
+    lens: &[u32],
     layout: &[u8],
     t: usize,
     a0: usize,
@@ -312,7 +312,7 @@ fn measure_fields(
         let r = measure_item(lens, layout, f, contents, bodies, i, j);
         match r {
             Measured::Upto(m) => {
-                let own = with_offset(lens[f], m.len);
+                let own = with_offset(lens[f] as usize, m.len);
                 sum = add(sum, own);
                 i = m.word;
                 j = m.byte;

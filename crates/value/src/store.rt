@@ -131,7 +131,7 @@ fn put_selector(out: &mut [u8], at: usize, contents: &[u32], i: usize)
 }
 
 // The fixed portion of the n fields that the words from a0 on name.
-fn portion_of(lens: &[usize], layout: &[u8], t: usize, a0: usize, n: usize) -> usize
+fn portion_of(lens: &[u32], layout: &[u8], t: usize, a0: usize, n: usize) -> usize
     requires { ⌜ Row (now lens) (now layout) t a0 n × (portion (headsOf (now layout) t a0 n) < 2 ^ 32) ⌝ }
     ensures { λ r. ⌜ r ≡ portion (headsOf (now (layout .entry)) t a0 n) ⌝ }
 {
@@ -140,7 +140,7 @@ fn portion_of(lens: &[usize], layout: &[u8], t: usize, a0: usize, n: usize) -> u
     let mut sum: usize = 0;
     while left > 0 {
         let f = word_at(layout, a);
-        let k = width_of(lens[f]);
+        let k = width_of(lens[f] as usize);
         sum += k;
         a += 1;
         left -= 1;
@@ -187,7 +187,7 @@ fn next_tail(k: usize, q: usize, to: usize) -> usize
 pub(crate) fn write_item(
     out: &mut [u8],
     at: usize,
-    lens: &[usize],
+    lens: &[u32],
     layout: &[u8],
     t: usize,
     contents: &[u32],
@@ -244,7 +244,7 @@ pub(crate) fn write_item(
 fn write_fields(
     out: &mut [u8],
     start: usize,
-    lens: &[usize],
+    lens: &[u32],
     layout: &[u8],
     t: usize,
     a0: usize,
@@ -266,7 +266,7 @@ fn write_fields(
     let mut j = j0;
     while left > 0 {
         let f = word_at(layout, a);
-        let k = lens[f];
+        let k = lens[f] as usize;
         let at = begin(out, k, p, q, start);
         let s = write_item(out, at, lens, layout, f, contents, bodies, i, j);
         p = next_head(k, p, s.to);

@@ -17,21 +17,31 @@ enum-known-c c = search needs
 enum-known-c-2 : tie.Need-enum-known-c-2
 enum-known-c-2 c = search needs
 
-slice-aggregate-check-under : tie.Need-slice-aggregate-check-under
-slice-aggregate-check-under c = search needs
 
 check-under-requires : tie.Need-check-under-requires
 check-under-requires c κs =
-    let k = table-known _ _ (c .before .before .before .before .before .table-of .ensures) _ (bytes-known _ (λ i. c .before .before .before .before .before .before .before .shared-slice-known .given i .fits)) (c .before .before .c2 .given .1) in
+    let c2 = c .before .before in
+    let c4 = c2 .before .before in
+    let c6 = c4 .before .before in
+    let c8 = c6 .before .before in
+    let b = bytes-known _ (λ i. c8 .shared-slice-known .given i .fits) in
+    let k = table-known _ _ (c6 .table-of .ensures) _ b (c4 .c2 .given .1) in
     (under-table _ _ _ (k .0), k .1)
 
 returns : tie.Need-returns
 unfolding checkMessage
-returns c = rw (← table-checked _ _ (c .before .before .before .before .table-of .ensures), c .before .c .given .1)
+returns c =
+    let c1 = c .before in
+    let c3 = c1 .before .before in
+    rw (← table-checked _ _ (c3 .table-of .ensures), c1 .c .given .1)
 
 returns-2 : tie.Need-returns-2
 unfolding checkMessage
-returns-2 c = rw (← table-checked _ _ (c .before .before .before .before .before .before .table-of .ensures), c .before .before .before .c2 .given .1) (c .check-under .ensures)
+returns-2 c =
+    let c2 = c .before .before in
+    let c5 = c2 .before .before .before in
+    let c7 = c5 .before .before in
+    rw (← table-checked _ _ (c7 .table-of .ensures), c5 .c2 .given .1) (c .check-under .ensures)
 
 pub check-spec : {M : Type 1} → statement M
 check-spec =
@@ -40,7 +50,6 @@ check-spec =
     table-of-requires
     enum-known-c
     enum-known-c-2
-    slice-aggregate-check-under
     check-under-requires
     returns
     returns-2)

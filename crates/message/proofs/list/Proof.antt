@@ -17,24 +17,36 @@ enum-known-c c = search needs
 enum-known-c-2 : tie.Need-enum-known-c-2
 enum-known-c-2 c = search needs
 
-slice-aggregate-list-under : tie.Need-slice-aggregate-list-under
-slice-aggregate-list-under c = search needs
 
 list-under-requires : tie.Need-list-under-requires
 list-under-requires c κs =
-    let k = table-known _ _ (c .before .before .before .before .before .before .table-of .ensures) _ (bytes-known _ (λ i. c .before .before .before .before .before .before .before .before .before .shared-slice-known .given i .fits)) (c .before .before .before .c2 .given .1) in
+    let c2 = c .before .before in
+    let c5 = c2 .before .before .before in
+    let c7 = c5 .before .before in
+    let c10 = c7 .before .before .before in
+    let b = bytes-known _ (λ i. c10 .shared-slice-known .given i .fits) in
+    let k = table-known _ _ (c7 .table-of .ensures) _ b (c5 .c2 .given .1) in
     (under-table _ _ _ (k .0), k .1)
 
 returns : tie.Need-returns
 unfolding listMessage listedRecords checkMessage
-returns c = (rw (← table-checked _ _ (c .before .before .before .before .table-of .ensures), c .before .c .given .1), rw (← table-checked _ _ (c .before .before .before .before .table-of .ensures), c .before .c .given .1))
+returns c =
+    let c1 = c .before in
+    let c3 = c1 .before .before in
+    let e = table-checked _ _ (c3 .table-of .ensures) in
+    (rw (← e, c1 .c .given .1), rw (← e, c1 .c .given .1))
 
 same-length : tie.Need-same-length
 same-length c = search needs
 
 returns-2 : tie.Need-returns-2
 unfolding listMessage listedRecords checkMessage
-returns-2 c = (rw (← table-checked _ _ (c .before .before .before .before .before .before .before .before .before .table-of .ensures), c .before .before .before .before .before .before .c2 .given .1) (c .before .before .list-under .ensures .0), rw (← table-checked _ _ (c .before .before .before .before .before .before .before .before .before .table-of .ensures), c .before .before .before .before .before .before .c2 .given .1) (c .before .before .list-under .ensures .1))
+returns-2 c =
+    let c2 = c .before .before in
+    let c8 = c2 .before .before .before .before .before .before in
+    let c10 = c8 .before .before in
+    let e = table-checked _ _ (c10 .table-of .ensures) in
+    (rw (← e, c8 .c2 .given .1) (c2 .list-under .ensures .0), rw (← e, c8 .c2 .given .1) (c2 .list-under .ensures .1))
 
 pub list-spec : {M : Type 1} → statement M
 list-spec =
@@ -43,7 +55,6 @@ list-spec =
     table-of-requires
     enum-known-c
     enum-known-c-2
-    slice-aggregate-list-under
     list-under-requires
     returns
     same-length

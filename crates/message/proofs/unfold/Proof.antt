@@ -17,17 +17,24 @@ enum-known-c c = search needs
 enum-known-c-2 : tie.Need-enum-known-c-2
 enum-known-c-2 c = search needs
 
-slice-aggregate-unfold-under : tie.Need-slice-aggregate-unfold-under
-slice-aggregate-unfold-under c = search needs
 
 unfold-under-requires : tie.Need-unfold-under-requires
 unfold-under-requires c κs =
-    let k = table-known _ _ (c .before .before .before .before .before .before .before .table-of .ensures) _ (bytes-known _ (λ i. c .before .before .before .before .before .before .before .before .before .before .before .shared-slice-known .given i .fits)) (c .before .before .before .before .c2 .given .1) in
+    let c2 = c .before .before in
+    let c6 = c2 .before .before .before .before in
+    let c8 = c6 .before .before in
+    let c12 = c8 .before .before .before .before in
+    let b = bytes-known _ (λ i. c12 .shared-slice-known .given i .fits) in
+    let k = table-known _ _ (c8 .table-of .ensures) _ b (c6 .c2 .given .1) in
     (under-table _ _ _ (k .0), k .1)
 
 returns : tie.Need-returns
 unfolding unfoldMessage unfoldedWords unfoldedBytes checkMessage
-returns c = (rw (← table-checked _ _ (c .before .before .before .before .table-of .ensures), c .before .c .given .1), (rw (← table-checked _ _ (c .before .before .before .before .table-of .ensures), c .before .c .given .1), rw (← table-checked _ _ (c .before .before .before .before .table-of .ensures), c .before .c .given .1)))
+returns c =
+    let c1 = c .before in
+    let c3 = c1 .before .before in
+    let e = table-checked _ _ (c3 .table-of .ensures) in
+    (rw (← e, c1 .c .given .1), (rw (← e, c1 .c .given .1), rw (← e, c1 .c .given .1)))
 
 same-length : tie.Need-same-length
 same-length c = search needs
@@ -37,7 +44,14 @@ same-length-2 c = search needs
 
 returns-2 : tie.Need-returns-2
 unfolding unfoldMessage unfoldedWords unfoldedBytes checkMessage
-returns-2 c = (rw (← table-checked _ _ (c .before .before .before .before .before .before .before .before .before .before .before .before .table-of .ensures), c .before .before .before .before .before .before .before .before .before .c2 .given .1) (c .before .before .before .before .unfold-under .ensures .0), (rw (← table-checked _ _ (c .before .before .before .before .before .before .before .before .before .before .before .before .table-of .ensures), c .before .before .before .before .before .before .before .before .before .c2 .given .1) (c .before .before .before .before .unfold-under .ensures .1 .0), rw (← table-checked _ _ (c .before .before .before .before .before .before .before .before .before .before .before .before .table-of .ensures), c .before .before .before .before .before .before .before .before .before .c2 .given .1) (c .before .before .before .before .unfold-under .ensures .1 .1)))
+returns-2 c =
+    let c2 = c .before .before in
+    let c4 = c2 .before .before in
+    let c11 = c4 .before .before .before .before .before .before .before in
+    let c13 = c11 .before .before in
+    let e = table-checked _ _ (c13 .table-of .ensures) in
+    let u = c4 .unfold-under .ensures in
+    (rw (← e, c11 .c2 .given .1) (u .0), (rw (← e, c11 .c2 .given .1) (u .1 .0), rw (← e, c11 .c2 .given .1) (u .1 .1)))
 
 pub unfold-spec : {M : Type 1} → statement M
 unfold-spec =
@@ -46,7 +60,6 @@ unfold-spec =
     table-of-requires
     enum-known-c
     enum-known-c-2
-    slice-aggregate-unfold-under
     unfold-under-requires
     returns
     same-length

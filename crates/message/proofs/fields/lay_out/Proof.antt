@@ -2,7 +2,7 @@
 use mathlib.Core.Path.{_≡_, refl, sym, ap, _∙_}
 use native.Mathlib.Omega.{arith}
 use borrow.Author.Needs.{needs}
-use Rattle.message.proofs.Rows.{Laying, row-index, laying-next, laying-bad, laying-end}
+use Rattle.message.proofs.Rows.{Laying, row-small, row-index, laying-next, laying-bad, laying-end}
 use Rattle.message.proofs.fields.lay_out.Statement.{statement}
 use Rattle.message.proofs.fields.lay_out.Tie as tie
 
@@ -26,6 +26,13 @@ mul-head-of c = omega (arith, c .word-at .ensures .1)
 
 shared-slice-read-head-of : tie.Need-shared-slice-read-head-of Inv-loop μ-loop
 shared-slice-read-head-of c = row-index _ _ _ _ _ _ (c .before .before .before .loop .inv .row) (c .before .before .loop-test .taken) (c .before .word-at .ensures .0)
+
+cast-head-of : tie.Need-cast-head-of Inv-loop μ-loop
+cast-head-of c =
+    let c1 = c .before in
+    let c2 = c1 .before in
+    let c3 = c2 .before in
+    omega (arith, row-small _ _ _ _ _ _ (c3 .loop .inv .row) (c2 .loop-test .taken) (c1 .word-at .ensures .0))
 
 head-of-requires : tie.Need-head-of-requires Inv-loop μ-loop
 head-of-requires c κs = search needs
@@ -71,6 +78,7 @@ lay-out-spec =
     word-at-requires
     mul-head-of
     shared-slice-read-head-of
+    cast-head-of
     head-of-requires
     register-head-requires
     enum-known-s

@@ -1,7 +1,7 @@
 -- By whether the field is of fixed or of variable size. Assumes nothing.
 use mathlib.Core.Path.{_≡_, refl, sym, ap, _∙_}
 use native.Mathlib.Omega.{arith}
-use Rattle.message.proofs.Rows.{row-below, row-index, row-variable, row-fixed, row-next, first-fits, first-room, first-rest}
+use Rattle.message.proofs.Rows.{row-below, row-small, row-index, row-variable, row-fixed, row-next, first-fits, first-room, first-rest}
 use borrow.Author.Needs.{needs}
 use Rattle.message.proofs.fields.locate.Statement.{statement}
 use Rattle.message.proofs.fields.locate.Tie as tie
@@ -15,6 +15,11 @@ shared-slice-read-k : tie.Need-shared-slice-read-k
 shared-slice-read-k c =
     let c4 = c .before .before .before .before in
     row-index _ _ _ _ _ _ (c4 .pre .0) (c4 .pre .1) (c4 .pre .2)
+
+cast-k : tie.Need-cast-k
+cast-k c =
+    let c4 = c .before .before .before .before in
+    omega (arith, row-small _ _ _ _ _ _ (c4 .pre .0) (c4 .pre .1) (c4 .pre .2))
 
 four-at-requires : tie.Need-four-at-requires
 four-at-requires c κs = search needs
@@ -73,6 +78,7 @@ locate-spec =
     (tie.spec
     mul-k
     shared-slice-read-k
+    cast-k
     four-at-requires
     add-next
     add-after

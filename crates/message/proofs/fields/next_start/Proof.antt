@@ -2,7 +2,7 @@
 use mathlib.Core.Path.{_≡_, refl, sym, ap, _∙_}
 use native.Mathlib.Omega.{arith}
 use borrow.Author.Needs.{needs}
-use Rattle.message.proofs.Rows.{Seeking, row-index, seeking-found, seeking-fits, seeking-next, seeking-end}
+use Rattle.message.proofs.Rows.{Seeking, row-small, row-index, seeking-found, seeking-fits, seeking-next, seeking-end}
 use Rattle.message.proofs.fields.next_start.Statement.{statement}
 use Rattle.message.proofs.fields.next_start.Tie as tie
 
@@ -23,6 +23,13 @@ mul-k c = omega (arith, c .word-at .ensures .1)
 
 shared-slice-read-k : tie.Need-shared-slice-read-k Inv-loop μ-loop
 shared-slice-read-k c = row-index _ _ _ _ _ _ (c .before .before .before .loop .inv .row) (c .before .before .loop-test .taken) (c .before .word-at .ensures .0)
+
+cast-k : tie.Need-cast-k Inv-loop μ-loop
+cast-k c =
+    let c1 = c .before in
+    let c2 = c1 .before in
+    let c3 = c2 .before in
+    omega (arith, row-small _ _ _ _ _ _ (c3 .loop .inv .row) (c2 .loop-test .taken) (c1 .word-at .ensures .0))
 
 four-at-requires : tie.Need-four-at-requires Inv-loop μ-loop
 four-at-requires c κs = search needs
@@ -58,6 +65,7 @@ next-start-spec =
     word-at-requires
     mul-k
     shared-slice-read-k
+    cast-k
     four-at-requires
     returns
     add-p

@@ -5,7 +5,7 @@ use borrow.Author.Needs.{needs}
 use Prim.Native.Nat.{_+_, _*_}
 use lib.ListN.{length-take, length-drop}
 use Rattle.decode.proofs.Register.{layout-ranges}
-use Rattle.layout.proofs.Facts.{as-leaf}
+use Rattle.layout.proofs.Facts.{as-leaf, as-container}
 use Rattle.message.specs.Read.{one, andThen}
 use Rattle.message.proofs.Rows.{row-below, row-under, under-below, span-ok, span-length}
 use Rattle.message.proofs.Bodies.{Reading, reading-small, reading-next, reading-stop, reading-end, item-small, small-more, node-ok, container-row, container-on, container-stop, bare-read, wrong-read, body-below, body-read}
@@ -19,7 +19,7 @@ use Rattle.message.proofs.items.item_check.Reads as item-check
 use Rattle.message.proofs.items.item_check.Kinds as item-check-kinds
 use Rattle.message.proofs.items.+field_check+item_check.Lts-item_check as item-check-lts
 use Rattle.layout.proofs.look.Reads as look-reads
-use Rattle.message.proofs.fields.lay_out.Reads as lay-out-reads
+use Rattle.message.proofs.fields.container_told.Reads as container-told-reads
 use Rattle.message.proofs.fields.locate.Reads as locate-reads
 use Rattle.message.proofs.items.add.Reads as add-reads
 use Rattle.message.proofs.items.leaf.Reads as leaf-reads
@@ -64,7 +64,7 @@ field-check-calls t = (word-at-reads.Asked, word-at-reads.Learnt, locate-reads.A
 
 -- what `item_check` calls, at the measure t
 abbrev item-check-calls : ℕ → item-check-lts.Claims
-item-check-calls t = (look-reads.Asked, look-reads.Learnt, lay-out-reads.Asked, lay-out-reads.Learnt, field-check-below t, field-check.Post, select-reads.Asked, select-reads.Learnt, leaf-reads.Asked, leaf-reads.Learnt, item-check-below t, item-check.Post, with-selector-reads.Asked, with-selector-reads.Learnt, leaf-check-reads.Asked, leaf-check-reads.Learnt)
+item-check-calls t = (look-reads.Asked, look-reads.Learnt, container-told-reads.Asked, container-told-reads.Learnt, field-check-below t, field-check.Post, select-reads.Asked, select-reads.Learnt, leaf-reads.Asked, leaf-reads.Learnt, item-check-below t, item-check.Post, with-selector-reads.Asked, with-selector-reads.Learnt, leaf-check-reads.Asked, leaf-check-reads.Learnt)
 
 field-check-loop-holds : (t : ℕ) → field-check-lts.Need-loop-holds (field-check-calls t) (field-check-at t) field-check.Post field-check-Inv-loop field-check-μ-loop
 field-check-loop-holds t c =
@@ -220,11 +220,16 @@ item-check-look-requires t c κs = search needs
 item-check-add-first : (t : ℕ) → item-check-lts.Need-add-first (item-check-calls t) (item-check-at t) item-check.Post
 item-check-add-first t c = omega (arith, node-ok _ _ _ _ (c .before .look .ensures) (c .before .before .before .before .before .pre .1 .0) .near)
 
-item-check-lay-out-requires : (t : ℕ) → item-check-lts.Need-lay-out-requires (item-check-calls t) (item-check-at t) item-check.Post
-item-check-lay-out-requires t c κs =
+item-check-container-told-requires : (t : ℕ) → item-check-lts.Need-container-told-requires (item-check-calls t) (item-check-at t) item-check.Post
+item-check-container-told-requires t c κs =
     let c3 = c .before .before .before in
     let c7 = c3 .before .before .before .before in
-    (container-row _ _ _ _ (c3 .look .ensures) (c7 .pre .1 .0) (c .if1 .taken), omega (arith, c7 .pre .1 .1))
+    (
+      c7 .pre .1 .0,
+      container-row _ _ _ _ (c3 .look .ensures) (c7 .pre .1 .0) (c .if1 .taken),
+      omega (arith, c7 .pre .1 .1),
+      as-container _ _ _ (c3 .look .ensures) (c .if1 .taken),
+    )
 
 item-check-enum-told : (t : ℕ) → item-check-lts.Need-enum-told (item-check-calls t) (item-check-at t) item-check.Post
 item-check-enum-told t c = search needs
@@ -241,7 +246,7 @@ item-check-field-check-requires t c κs =
         node-ok _ _ _ _ (c6 .look .ensures)
             (c10 .pre .1 .0) .few (c3 .if1 .taken),
         c10 .pre .1 .1,
-        layout-ranges _ _ (sym (c2 .lay-out .ensures) ∙ c .enum-told .given .1),
+        layout-ranges _ _ (sym (c2 .container-told .ensures) ∙ c .enum-told .given .1),
       ),
     )
 
@@ -338,7 +343,7 @@ item-check-returns t c =
     let c7 = c4 .before .before .before in
     let c11 = c7 .before .before .before .before in
     c .field-check .ensures ∙ container-on _ _ _ _ (c7 .look .ensures) (c11 .pre .1 .0) (c4 .if1 .taken) _ _ (sym (c .before .enum-told .given .1) ∙
-    c3 .lay-out .ensures)
+    c3 .container-told .ensures)
 
 item-check-returns-2 : (t : ℕ) → item-check-lts.Need-returns-2 (item-check-calls t) (item-check-at t) item-check.Post
 item-check-returns-2 t c =
@@ -346,7 +351,7 @@ item-check-returns-2 t c =
     let c4 = c3 .before in
     let c7 = c4 .before .before .before in
     let c11 = c7 .before .before .before .before in
-    container-stop _ _ _ _ (c7 .look .ensures) (c11 .pre .1 .0) (c4 .if1 .taken) _ _ _ (sym (c .before .told .given .1) ∙ c3 .lay-out .ensures)
+    container-stop _ _ _ _ (c7 .look .ensures) (c11 .pre .1 .0) (c4 .if1 .taken) _ _ _ (sym (c .before .told .given .1) ∙ c3 .container-told .ensures)
 
 item-check-returns-3 : (t : ℕ) → item-check-lts.Need-returns-3 (item-check-calls t) (item-check-at t) item-check.Post
 item-check-returns-3 t c =
@@ -409,7 +414,7 @@ pub +field-check+item-check-spec : {M : Type 1} → statement M
     item-check.Post
     (item-check-look-requires t)
     (item-check-add-first t)
-    (item-check-lay-out-requires t)
+    (item-check-container-told-requires t)
     (item-check-enum-told t)
     (item-check-field-check-requires t)
     (item-check-enum-known-told t)
