@@ -17,24 +17,35 @@ enum-known-c c = search needs
 enum-known-c-2 : tie.Need-enum-known-c-2
 enum-known-c-2 c = search needs
 
-slice-aggregate-write-under : tie.Need-slice-aggregate-write-under
-slice-aggregate-write-under c = search needs
-
 write-under-requires : tie.Need-write-under-requires
 write-under-requires c κs =
-    let k = table-known _ _ (c .before .before .before .before .before .before .table-of .ensures) _ (bytes-known _ (λ i. c .before .before .before .before .before .before .before .before .before .before .shared-slice-known .given i .fits)) (c .before .before .before .c2 .given .1) in
+    let c2 = c .before .before in
+    let c5 = c2 .before .before .before in
+    let c7 = c5 .before .before in
+    let c11 = c7 .before .before .before .before in
+    let b = bytes-known _ (λ i. c11 .shared-slice-known .given i .fits) in
+    let k = table-known _ _ (c7 .table-of .ensures) _ b (c5 .c2 .given .1) in
     (under-table _ _ _ (k .0), k .1)
 
 returns : tie.Need-returns
 unfolding writeMessage writtenBytes
-returns c = (rw (← table-checked _ _ (c .before .before .before .before .table-of .ensures), c .before .c .given .1), rw (← table-checked _ _ (c .before .before .before .before .table-of .ensures), c .before .c .given .1))
+returns c =
+    let c1 = c .before in
+    let c3 = c1 .before .before in
+    let e = table-checked _ _ (c3 .table-of .ensures) in
+    (rw (← e, c1 .c .given .1), rw (← e, c1 .c .given .1))
 
 same-length : tie.Need-same-length
 same-length c = search needs
 
 returns-2 : tie.Need-returns-2
 unfolding writeMessage writtenBytes
-returns-2 c = (rw (← table-checked _ _ (c .before .before .before .before .before .before .before .before .before .table-of .ensures), c .before .before .before .before .before .before .c2 .given .1) (c .before .before .write-under .ensures .0), rw (← table-checked _ _ (c .before .before .before .before .before .before .before .before .before .table-of .ensures), c .before .before .before .before .before .before .c2 .given .1) (c .before .before .write-under .ensures .1))
+returns-2 c =
+    let c2 = c .before .before in
+    let c8 = c2 .before .before .before .before .before .before in
+    let c10 = c8 .before .before in
+    let e = table-checked _ _ (c10 .table-of .ensures) in
+    (rw (← e, c8 .c2 .given .1) (c2 .write-under .ensures .0), rw (← e, c8 .c2 .given .1) (c2 .write-under .ensures .1))
 
 pub write-spec : {M : Type 1} → statement M
 write-spec =
@@ -43,7 +54,6 @@ write-spec =
     table-of-requires
     enum-known-c
     enum-known-c-2
-    slice-aggregate-write-under
     write-under-requires
     returns
     same-length

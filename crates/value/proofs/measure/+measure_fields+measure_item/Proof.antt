@@ -6,7 +6,7 @@ use native.Mathlib.Omega.{arith}
 use borrow.Author.Needs.{needs}
 use Prim.Native.Nat.{_+_, _*_}
 use Rattle.layout.proofs.Facts.{as-leaf}
-use Rattle.message.proofs.Rows.{row-below, row-under, row-index, under-below}
+use Rattle.message.proofs.Rows.{row-below, row-under, row-small, row-index, under-below}
 use Rattle.message.proofs.Bodies.{node-ok, container-row}
 use Rattle.value.specs.Steps.{selected}
 use Rattle.value.proofs.Walks.{measured-says, measured-wrong, selected-measured}
@@ -107,6 +107,13 @@ measure-fields-shared-slice-read-with-offset :
     ) (measure-fields-at t) measure-fields.Post measure-fields-Inv-loop measure-fields-μ-loop
 measure-fields-shared-slice-read-with-offset t c = row-index _ _ _ _ _ _ (c .before .before .before .before .before .before .before .loop .inv .row) (c .before .before .before .before .before .before .loop-test .taken) (c .before .before .before .before .before .word-at .ensures .0)
 
+measure-fields-cast-with-offset : (t : ℕ) → measure-fields-lts.Need-cast-with-offset (measure-fields-calls t) (measure-fields-at t) measure-fields.Post measure-fields-Inv-loop measure-fields-μ-loop
+measure-fields-cast-with-offset t c =
+    let c5 = c .before .before .before .before .before in
+    let c6 = c5 .before in
+    let c7 = c6 .before in
+    omega (arith, row-small _ _ _ _ _ _ (c7 .loop .inv .row) (c6 .loop-test .taken) (c5 .word-at .ensures .0))
+
 measure-fields-with-offset-requires : (t : ℕ) → measure-fields-lts.Need-with-offset-requires (measure-fields-calls t) (measure-fields-at t) measure-fields.Post measure-fields-Inv-loop measure-fields-μ-loop
 measure-fields-with-offset-requires t c κs = search needs
 
@@ -202,6 +209,7 @@ pub +measure-fields+measure-item-spec : {M : Type 1} → statement M
     (measure-fields-enum-known-r t)
     (measure-fields-mul-with-offset t)
     (measure-fields-shared-slice-read-with-offset t)
+    (measure-fields-cast-with-offset t)
     (measure-fields-with-offset-requires t)
     (measure-fields-add-requires t)
     (measure-fields-enum-known-r-2 t)

@@ -7,7 +7,7 @@ use lib.ListN.{length}
 use lib.Seq.{sets}
 use Rattle.standard.specs.Parts.{join}
 use Rattle.message.specs.Steps.{rowOf}
-use Rattle.message.proofs.Rows.{row-below, row-under, row-index, under-below}
+use Rattle.message.proofs.Rows.{row-below, row-under, row-small, row-index, under-below}
 use Rattle.message.proofs.Bodies.{node-ok}
 use Rattle.value.specs.Walk.{walkFields}
 use Rattle.value.specs.Write.{partsFrom}
@@ -92,6 +92,13 @@ write-fields-mul-k t c = omega (arith, c .word-at .ensures .1)
 
 write-fields-shared-slice-read-k : (t : ℕ) → write-fields-lts.Need-shared-slice-read-k (write-fields-calls t) (write-fields-at t) write-fields.Post write-fields-Inv-loop write-fields-μ-loop
 write-fields-shared-slice-read-k t c = row-index _ _ _ _ _ _ (c .before .before .before .loop .inv .row) (c .before .before .loop-test .taken) (c .before .word-at .ensures .0)
+
+write-fields-cast-k : (t : ℕ) → write-fields-lts.Need-cast-k (write-fields-calls t) (write-fields-at t) write-fields.Post write-fields-Inv-loop write-fields-μ-loop
+write-fields-cast-k t c =
+    let c1 = c .before in
+    let c2 = c1 .before in
+    let c3 = c2 .before in
+    omega (arith, row-small _ _ _ _ _ _ (c3 .loop .inv .row) (c2 .loop-test .taken) (c1 .word-at .ensures .0))
 
 write-fields-begin-requires : (t : ℕ) → write-fields-lts.Need-begin-requires (write-fields-calls t) (write-fields-at t) write-fields.Post write-fields-Inv-loop write-fields-μ-loop
 write-fields-begin-requires t c κs = writing-order _ _ _ _ _ _ _ _ _ _ _ _ _ _ _ _ _ _ _ (c .before .before .before .before .before .before .before .before .before .before .before .pre .1 .walk) (c .before .before .before .before .loop .inv) (c .before .before .before .loop-test .taken) (c .before .before .word-at .ensures .0)
@@ -224,6 +231,7 @@ pub +write-fields+write-item-spec : {M : Type 1} → statement M
     (write-fields-word-at-requires t)
     (write-fields-mul-k t)
     (write-fields-shared-slice-read-k t)
+    (write-fields-cast-k t)
     (write-fields-begin-requires t)
     (write-fields-write-item-requires t)
     (write-fields-next-head-requires t)

@@ -2,7 +2,7 @@
 use native.Mathlib.Omega.{arith}
 use borrow.Author.Needs.{needs}
 use native.Mathlib.Nat.{zero-add}
-use Rattle.message.proofs.Rows.{row-index}
+use Rattle.message.proofs.Rows.{row-small, row-index}
 use Rattle.value.proofs.Fills.{Adding, adding-same, adding-next, adding-end}
 use Rattle.value.proofs.store.portion_of.Statement.{statement}
 use Rattle.value.proofs.store.portion_of.Tie as tie
@@ -24,6 +24,13 @@ mul-width-of c = omega (arith, c .word-at .ensures .1)
 
 shared-slice-read-width-of : tie.Need-shared-slice-read-width-of Inv-loop μ-loop
 shared-slice-read-width-of c = row-index _ _ _ _ _ _ (c .before .before .before .loop .inv .row) (c .before .before .loop-test .taken) (c .before .word-at .ensures .0)
+
+cast-width-of : tie.Need-cast-width-of Inv-loop μ-loop
+cast-width-of c =
+    let c1 = c .before in
+    let c2 = c1 .before in
+    let c3 = c2 .before in
+    omega (arith, row-small _ _ _ _ _ _ (c3 .loop .inv .row) (c2 .loop-test .taken) (c1 .word-at .ensures .0))
 
 width-of-requires : tie.Need-width-of-requires Inv-loop μ-loop
 width-of-requires c κs = search needs
@@ -56,6 +63,7 @@ portion-of-spec =
     word-at-requires
     mul-width-of
     shared-slice-read-width-of
+    cast-width-of
     width-of-requires
     add-sum
     add-a
