@@ -20,14 +20,7 @@ ghost use Rattle.layout.specs.Tree.{treeOf};
 ghost use Rattle.message.specs.Steps.{Under, Row, rowOf, headsOf};
 
 // Registers the n fields that the words from a0 on name, and builds.
-fn lay_out(
-    lens: &[u32],
-    layout: &[u8],
-    t: usize,
-    a0: usize,
-    n: usize,
-    b: &[u8],
-) -> Told
+fn lay_out(lens: &[u32], layout: &[u8], t: usize, a0: usize, n: usize, b: &[u8]) -> Told
     requires { ⌜ Row (now lens) (now layout) t a0 n × (length (now b) < 2 ^ 32) ⌝ }
     ensures { λ r. ⌜ r ≡ layOut (headsOf (now (layout .entry)) t a0 n) (now (b .entry)) ⌝ }
 {

@@ -223,8 +223,7 @@ item-check-add-first t c = omega (arith, node-ok _ _ _ _ (c .before .look .ensur
 item-check-container-told-requires : (t : ℕ) → item-check-lts.Need-container-told-requires (item-check-calls t) (item-check-at t) item-check.Post
 item-check-container-told-requires t c κs =
     let c3 = c .before .before .before in
-    let c7 = c3 .before .before .before .before in
-    (
+    let c7 = c3 .before .before .before .before in (
       c7 .pre .1 .0,
       container-row _ _ _ _ (c3 .look .ensures) (c7 .pre .1 .0) (c .if1 .taken),
       omega (arith, c7 .pre .1 .1),
