@@ -1,10 +1,13 @@
-//! The message check and the listing beside the crate's decoding, on the same bytes.
+//! The message check, the listing and the unfolding beside the crate's decoding, and the value
+//! writer beside its encoding, on the same messages.
 //!
-//! The crate's types are its own tuples, options and bitfields, decoded by its own code. What it
-//! makes of a message is dropped within the time, as a caller drops it. Our listing is the safe
-//! call, with the vector that it gives; the check gives nothing but its answer.
+//! The crate's types are its own tuples, options and bitfields, decoded and encoded by its own
+//! code. What it makes is dropped within the time, as a caller drops it. Check and listing are the
+//! safe calls over the C ones, the listing with the vector that it gives; unfolding and writing are
+//! done by the program `measure` into rooms that are not cleared.
 
-use crate::{measure, scattered};
+use crate::ours::{self, Adds, Plan};
+use crate::{form, measure, scattered, times};
 use cartwhisker::{check, listing, Layout, Type};
 use ssz::{BitList, BitVector, Decode, Encode};
 use std::hint::black_box;
@@ -17,22 +20,39 @@ pub struct Case {
     pub table: Vec<u8>,
     pub message: Vec<u8>,
     decode: fn(&[u8]) -> bool,
+    /// The crate's `as_ssz_bytes` of the value, and how many bytes it gave.
+    encode: Box<dyn Fn() -> usize>,
 }
 
 #[derive(Clone, Copy, Debug, PartialEq, Eq)]
 pub enum Side {
-    Crate,
+    Decode,
+    Encode,
     Check,
     Listing,
 }
 
-pub const SIDES: [(Side, &str); 3] =
-    [(Side::Crate, "crate"), (Side::Check, "check"), (Side::Listing, "listing")];
+pub const SIDES: [(Side, &str); 4] = [
+    (Side::Decode, "decode"),
+    (Side::Encode, "encode"),
+    (Side::Check, "check"),
+    (Side::Listing, "listing"),
+];
+
+/// What a message costs, in nanoseconds; unfolding and writing where the program is built.
+pub struct Figures {
+    pub decode: f64,
+    pub encode: f64,
+    pub check: f64,
+    pub listing: f64,
+    pub unfold: Option<f64>,
+    pub write: Option<f64>,
+}
 
 impl Case {
-    fn new<T: Decode + Encode>(
+    fn new<T: Decode + Encode + 'static>(
         name: &str,
-        value: &T,
+        value: T,
         make: impl FnOnce(&mut Layout) -> Type,
     ) -> Self {
         let mut layout = Layout::new();
@@ -42,6 +62,7 @@ impl Case {
             table: layout.bytes(),
             message: value.as_ssz_bytes(),
             decode: |bytes| black_box(T::from_ssz_bytes(bytes)).is_ok(),
+            encode: Box::new(move || black_box(black_box(&value).as_ssz_bytes()).len()),
         };
         for (side, name) in SIDES {
             assert!(case.once(side), "{name} refuses {}", case.name);
@@ -54,7 +75,8 @@ impl Case {
     pub fn once(&self, side: Side) -> bool {
         let (table, message) = (black_box(&self.table[..]), black_box(&self.message[..]));
         match side {
-            Side::Crate => (self.decode)(message),
+            Side::Decode => (self.decode)(message),
+            Side::Encode => (self.encode)() == message.len(),
             Side::Check => black_box(check(table, message)).is_ok(),
             Side::Listing => black_box(listing(table, message)).is_ok(),
         }
@@ -68,13 +90,50 @@ impl Case {
         start.elapsed()
     }
 
-    /// Nanoseconds of the crate, the check and the listing.
-    fn figures(&self) -> [f64; 3] {
-        let oracle = |count| self.repeated(Side::Crate, count);
-        let check = |count| self.repeated(Side::Check, count);
-        let listing = |count| self.repeated(Side::Listing, count);
-        let figures = measure::nanoseconds(&[&oracle, &check, &listing]);
-        [figures[0], figures[1], figures[2]]
+    /// What our program does with the message: 71 to 74 of docs/CASES.md.
+    pub fn plan(&self, operation: u32) -> Plan {
+        let form = form::of(&self.table, &self.message);
+        let adds = match operation {
+            71 => {
+                Adds { number: form.records + form.words + form.bodies.len() as u64, bytes: vec![] }
+            }
+            72 => Adds { number: form.records, bytes: self.records() },
+            73 => Adds { number: form.words + form.bodies.len() as u64, bytes: form.bodies },
+            _ => Adds { number: self.message.len() as u64, bytes: self.message.clone() },
+        };
+        Plan { operation, parts: vec![self.table.clone(), self.message.clone()], adds }
+    }
+
+    /// The bytes of the listing.
+    fn records(&self) -> Vec<u8> {
+        let records = listing(&self.table, &self.message).expect("an accepted message");
+        let mut bytes = vec![0; 12 * records.len()];
+        cartwhisker::list_into(&self.table, &self.message, &mut bytes).expect("room for all");
+        bytes
+    }
+
+    /// All of them in one go, in turns.
+    pub fn figures(&self) -> Figures {
+        let repeated = |side| move |count| self.repeated(side, count);
+        let sides = SIDES.map(|(side, _)| repeated(side));
+        let (unfolding, writing) = (self.plan(73), self.plan(74));
+        let unfold = |rounds| unfolding.timed(rounds);
+        let write = |rounds| writing.timed(rounds);
+        let mut calls: Vec<measure::Timed> = Vec::new();
+        sides.iter().for_each(|side| calls.push(side));
+        if ours::is_built() {
+            calls.push(&unfold);
+            calls.push(&write);
+        }
+        let figures = measure::nanoseconds(&calls);
+        Figures {
+            decode: figures[0],
+            encode: figures[1],
+            check: figures[2],
+            listing: figures[3],
+            unfold: figures.get(4).copied(),
+            write: figures.get(5).copied(),
+        }
     }
 }
 
@@ -92,19 +151,19 @@ fn array<const N: usize>(seed: u64) -> [u8; N] {
 
 fn tiny() -> Vec<Case> {
     vec![
-        Case::new("a byte", &7_u8, |layout| layout.number(1)),
-        Case::new("a boolean", &true, |layout| layout.boolean()),
-        Case::new("32 fixed bytes", &array::<32>(1), |layout| layout.fixed_bytes(32)),
-        Case::new("a bit list of 5", &bits::<U8>(5), |layout| layout.bit_list(8)),
-        Case::new("an option", &Some(7_u16), |layout| {
+        Case::new("a byte", 7_u8, |layout| layout.number(1)),
+        Case::new("a boolean", true, |layout| layout.boolean()),
+        Case::new("32 fixed bytes", array::<32>(1), |layout| layout.fixed_bytes(32)),
+        Case::new("a bit list of 5", bits::<U8>(5), |layout| layout.bit_list(8)),
+        Case::new("an option", Some(7_u16), |layout| {
             let number = layout.number(2);
             layout.union([None, Some(number)])
         }),
-        Case::new("two numbers", &(7_u64, 8_u32), |layout| {
+        Case::new("two numbers", (7_u64, 8_u32), |layout| {
             let (long, short) = (layout.number(8), layout.number(4));
             layout.container([long, short])
         }),
-        Case::new("2,000 bits", &bits::<U2048>(2_000), |layout| layout.bit_list(2_048)),
+        Case::new("2,000 bits", bits::<U2048>(2_000), |layout| layout.bit_list(2_048)),
     ]
 }
 
@@ -117,7 +176,7 @@ fn bid_layout(layout: &mut Layout) -> Type {
 fn bid(name: &str, note: usize) -> Case {
     let mut flags = BitList::<U8>::with_capacity(3).expect("three of eight");
     flags.set(0, true).and_then(|()| flags.set(2, true)).expect("bits of the list");
-    Case::new(name, &(42_u64, scattered(note, 5), flags), bid_layout)
+    Case::new(name, (42_u64, scattered(note, 5), flags), bid_layout)
 }
 
 /// The worked bid of document 01 under its own table.
@@ -152,7 +211,7 @@ fn order() -> Case {
         (scattered(30, 8), (scattered(90, 9), 3_u32), false),
         array::<48>(10),
     );
-    Case::new("12 mixed fields, nested", &value, |layout| {
+    Case::new("12 mixed fields, nested", value, |layout| {
         let (short, word, long, wide) =
             (layout.number(2), layout.number(4), layout.number(8), layout.number(16));
         let yes = layout.boolean();
@@ -174,7 +233,7 @@ fn order() -> Case {
 }
 
 fn free_bytes(length: usize) -> Case {
-    Case::new("1 MiB of free bytes", &scattered(length, 2), |layout| layout.free_bytes(1 << 24))
+    Case::new("1 MiB of free bytes", scattered(length, 2), |layout| layout.free_bytes(1 << 24))
 }
 
 pub fn cases() -> Vec<Case> {
@@ -189,34 +248,53 @@ pub fn cases() -> Vec<Case> {
 }
 
 pub fn print() {
-    println!("messages: nanoseconds a call, median of {} runs, and how many times as fast as the crate's decoding", measure::RUNS);
     println!(
-        "{:26}{:>9}{:>7}{:>12}{:>10}{:>10}{:>12}{:>12}",
-        "message", "bytes", "items", "crate", "check", "listing", "check", "listing"
+        "messages: nanoseconds a call, median of {} runs, and how many times as fast as the crate:",
+        measure::RUNS
+    );
+    println!("check, listing and unfolding beside its decoding, the writer beside its encoding");
+    println!(
+        "{:24}{:>9}{:>6}{:>11}{:>11}{:>9}{:>9}{:>9}{:>9}{:>10}{:>10}{:>8}{:>8}",
+        "message",
+        "bytes",
+        "items",
+        "decode",
+        "encode",
+        "check",
+        "listing",
+        "unfold",
+        "write",
+        "check",
+        "listing",
+        "unfold",
+        "write"
     );
     for case in cases() {
-        let [oracle, check, listed] = case.figures();
         let items = listing(&case.table, &case.message).map_or(0, |records| records.len());
-        println!(
-            "{:26}{:>9}{items:>7}{oracle:>12.1}{check:>10.1}{listed:>10.1}{:>12}{:>12}",
-            case.name,
-            case.message.len(),
-            times(oracle / check),
-            times(oracle / listed)
-        );
+        println!("{}", line(&case.name, case.message.len(), items, &case.figures()));
     }
 }
 
-fn times(ratio: f64) -> String {
-    if ratio < 100.0 {
-        format!("{ratio:.2}x")
-    } else {
-        format!("{ratio:.0}x")
-    }
+fn line(name: &str, bytes: usize, items: usize, figures: &Figures) -> String {
+    let figure = |value: Option<f64>| value.map_or("-".to_string(), |value| format!("{value:.0}"));
+    let ratio = |oracle: f64, value: Option<f64>| {
+        value.map_or("-".to_string(), |value| times(oracle / value))
+    };
+    let Figures { decode, encode, check, listing, unfold, write } = *figures;
+    format!(
+        "{name:24}{bytes:>9}{items:>6}{decode:>11.0}{encode:>11.0}{check:>9.0}{listing:>9.0}\
+         {:>9}{:>9}{:>10}{:>10}{:>8}{:>8}",
+        figure(unfold),
+        figure(write),
+        ratio(decode, Some(check)),
+        ratio(decode, Some(listing)),
+        ratio(decode, unfold),
+        ratio(encode, write)
+    )
 }
 
 /// Time against the length of the message: bids whose notes have 1 byte to 1 MiB.
-pub fn growth() -> Vec<(usize, [f64; 3])> {
+pub fn growth() -> Vec<(usize, Figures)> {
     let lengths = (0..=20).step_by(2).map(|power| 1_usize << power);
     lengths
         .map(|length| {
@@ -226,23 +304,16 @@ pub fn growth() -> Vec<(usize, [f64; 3])> {
         .collect()
 }
 
-/// The calls that are counted, under a name that a tool can be told: nothing else is within.
-#[no_mangle]
-#[inline(never)]
-fn bench_counted(case: &Case, side: Side, count: u64) {
-    for _ in 0..count {
-        black_box(case.once(side));
-    }
+pub fn find(name: &str) -> Result<Case, String> {
+    cases().into_iter().find(|case| case.name == name).ok_or(format!("no case {name}"))
 }
 
-/// Runs one case on one side so many times, after a call that is not counted.
+/// Runs one case on one side so many times and measures nothing.
 pub fn count(name: &str, side: &str, count: u64) -> Result<(), String> {
-    let cases = cases();
-    let case = cases.iter().find(|case| case.name == name).ok_or(format!("no case {name}"))?;
+    let case = find(name)?;
     let found = SIDES.iter().find(|(_, other)| *other == side);
     let (side, _) = found.ok_or(format!("no side {side}"))?;
-    case.once(*side);
-    bench_counted(case, *side, count);
+    case.repeated(*side, count);
     Ok(())
 }
 
@@ -260,12 +331,36 @@ mod tests {
     }
 
     #[test]
+    fn our_program_makes_what_is_expected() {
+        for case in cases().iter().filter(|_| ours::is_built()) {
+            (71..=74).for_each(|operation| {
+                case.plan(operation).timed(300);
+            });
+        }
+    }
+
+    #[test]
+    fn no_figure_is_made_up() {
+        let figures = Figures {
+            decode: 10.0,
+            encode: 20.0,
+            check: 5.0,
+            listing: 10.0,
+            unfold: Some(20.0),
+            write: None,
+        };
+        let said = line("a", 1, 1, &figures);
+        let last: Vec<&str> = said.split_whitespace().rev().take(4).collect();
+        assert_eq!(last, ["-", "0.50x", "1.00x", "2.00x"]);
+    }
+
+    #[test]
     fn both_sides_say_the_same_of_a_cut_message() {
         for mut case in cases() {
             let whole = case.message.len();
             for length in [whole - 1, whole / 2, 1, 0] {
                 case.message.truncate(length);
-                let told = SIDES.map(|(side, _)| case.once(side));
+                let told = [Side::Decode, Side::Check, Side::Listing].map(|side| case.once(side));
                 assert!(told.iter().all(|taken| *taken == told[0]), "{} at {length}", case.name);
             }
         }

@@ -1,19 +1,40 @@
 //! A plot of time against length, as an SVG picture.
 
+use crate::messages::Figures;
+
 const WIDTH: f64 = 760.0;
 const HEIGHT: f64 = 480.0;
 const LEFT: f64 = 70.0;
 const RIGHT: f64 = 130.0;
 const TOP: f64 = 30.0;
 const BOTTOM: f64 = 50.0;
-const LINES: [(&str, &str); 3] =
-    [("the crate's decode", "#b3442c"), ("our listing", "#2f6f9f"), ("our check", "#3b7d3b")];
+type Line = (&'static str, &'static str, fn(&Figures) -> Option<f64>);
 
-/// Figures are nanoseconds of the crate, the check and the listing for each length.
-pub fn svg(figures: &[(usize, [f64; 3])]) -> String {
+const LINES: [Line; 6] = [
+    ("the crate's decode", "#b3442c", |figures| Some(figures.decode)),
+    ("the crate's encode", "#d98c2b", |figures| Some(figures.encode)),
+    ("our unfold", "#7a4fa3", |figures| figures.unfold),
+    ("our write", "#3f8f8f", |figures| figures.write),
+    ("our listing", "#2f6f9f", |figures| Some(figures.listing)),
+    ("our check", "#3b7d3b", |figures| Some(figures.check)),
+];
+
+/// The lowest place of each name beside its line's end, so that none lies on another.
+fn apart(mut ends: Vec<f64>) -> Vec<f64> {
+    let mut order: Vec<usize> = (0..ends.len()).collect();
+    order.sort_by(|a, b| ends[*a].total_cmp(&ends[*b]));
+    for pair in order.windows(2) {
+        ends[pair[1]] = ends[pair[1]].max(ends[pair[0]] + 14.0);
+    }
+    ends
+}
+
+/// What each call took at each length of a message.
+pub fn svg(figures: &[(usize, Figures)]) -> String {
     let longest = figures.iter().map(|(length, _)| *length).max().unwrap_or(1) as f64;
     let shortest = figures.iter().map(|(length, _)| *length).min().unwrap_or(1) as f64;
-    let all = || figures.iter().flat_map(|(_, times)| times.iter().copied());
+    let all =
+        || figures.iter().flat_map(|(_, times)| LINES.iter().filter_map(|(_, _, of)| of(times)));
     // Whole powers of ten around what was measured.
     let low = all().fold(f64::MAX, f64::min).log10().floor();
     let high = all().fold(f64::MIN, f64::max).log10().ceil();
@@ -57,24 +78,22 @@ pub fn svg(figures: &[(usize, [f64; 3])]) -> String {
         (LEFT + WIDTH - RIGHT) / 2.0,
         HEIGHT - 10.0
     );
-    for (place, (name, colour)) in [0, 2, 1].into_iter().zip(LINES) {
+    let lines: Vec<&Line> =
+        LINES.iter().filter(|(_, _, of)| figures.iter().all(|(_, f)| of(f).is_some())).collect();
+    let height = |of: fn(&Figures) -> Option<f64>, f: &Figures| y(of(f).unwrap_or(1.0).log10());
+    let last = figures.last().map(|(_, figures)| figures);
+    let ends = lines.iter().filter_map(|(_, _, of)| last.map(|f| height(*of, f) + 4.0)).collect();
+    for ((name, colour, of), end) in lines.into_iter().zip(apart(ends)) {
         let points: Vec<String> = figures
             .iter()
-            .map(|(length, times)| {
-                format!("{:.1},{:.1}", x(*length as f64), y(times[place].log10()))
-            })
+            .map(|(length, f)| format!("{:.1},{:.1}", x(*length as f64), height(*of, f)))
             .collect();
         text += &format!(
-            "<polyline points=\"{}\" fill=\"none\" stroke=\"{colour}\" stroke-width=\"2\"/>\n",
-            points.join(" ")
+            "<polyline points=\"{}\" fill=\"none\" stroke=\"{colour}\" stroke-width=\"2\"/>\n\
+             <text x=\"{:.1}\" y=\"{end:.1}\" fill=\"{colour}\">{name}</text>\n",
+            points.join(" "),
+            x(longest) + 6.0
         );
-        if let Some((length, times)) = figures.last() {
-            text += &format!(
-                "<text x=\"{:.1}\" y=\"{:.1}\" fill=\"{colour}\">{name}</text>\n",
-                x(*length as f64) + 6.0,
-                y(times[place].log10()) + 4.0
-            );
-        }
     }
     text + "</svg>\n"
 }
@@ -96,12 +115,28 @@ fn bytes(length: usize) -> String {
 mod tests {
     use super::*;
 
+    fn figures(decode: f64, write: Option<f64>) -> Figures {
+        Figures { decode, encode: 20.0, check: 10.0, listing: 20.0, unfold: Some(30.0), write }
+    }
+
     #[test]
     fn a_line_for_each_side() {
-        let text = svg(&[(18, [100.0, 10.0, 20.0]), (1_000_000, [1_000_000.0, 10.0, 20.0])]);
-        assert_eq!(text.matches("<polyline").count(), 3);
+        let text = svg(&[(18, figures(100.0, Some(50.0))), (1_000_000, figures(1e6, Some(60.0)))]);
+        assert_eq!(text.matches("<polyline").count(), 6);
         assert!(text.starts_with("<svg") && text.ends_with("</svg>\n"));
         assert!(!text.contains("NaN") && !text.contains("inf"));
         assert!(text.contains(">10 ns<") && text.contains(">1 ms<"));
+    }
+
+    #[test]
+    fn no_line_is_made_up() {
+        let text = svg(&[(18, figures(100.0, None)), (1_000, figures(1e6, None))]);
+        assert_eq!(text.matches("<polyline").count(), 5);
+        assert!(!text.contains("our write"));
+    }
+
+    #[test]
+    fn names_do_not_lie_on_one_another() {
+        assert_eq!(apart(vec![50.0, 10.0, 12.0]), [50.0, 10.0, 24.0]);
     }
 }
