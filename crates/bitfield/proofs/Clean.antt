@@ -1,23 +1,22 @@
--- Nothing set behind the end: only the byte that holds the end, and those behind it, matter. Assumes nothing.
+-- Nothing set behind the end: only the word that holds the end, and those behind it, matter. Assumes nothing.
 use mathlib.Core.Path.{_≡_, refl, sym, ap, _∙_}
 use mathlib.Core.List.{List}
 use mathlib.Core.Bool.{Bool, true, false}
 use Prim.Native.Nat.{ℕ, zero, suc, _+_, _*_, _/_, _%_, _^_, _<_, _≤_}
-use native.Mathlib.Numerals.{add-one}
 use native.Mathlib.Omega.{arith}
 use borrow.Author.Tests.{lt-ltb, le-ltb, le-leb, lt-leb, eq-eqb, ne-eqb, leb-true, ltb-true}
 use lib.Dec.{eqb, leb, ltb}
 use lib.Pow.{pow-mono}
-use lib.ListN.{length, getD, drop}
-use lib.Seq.{drop-cons}
+use lib.ListN.{length, drop}
 use Rattle.standard.specs.Bytes.{Bytes, num}
 use Rattle.standard.specs.Choice.{andAlso}
 use Rattle.standard.proofs.Bytes.{num-bound}
 use Rattle.standard.proofs.Bits.{pow-bytes}
 use Rattle.bitfield.specs.Raw.{Raw, clean}
-use Rattle.bitfield.proofs.Bodies.{cut-below, below-cut, small-shifted, shifted-small, bits-of}
+use Rattle.bitfield.specs.Facts.{Word}
+use Rattle.bitfield.proofs.Bodies.{cut-below, below-cut, small-shifted, shifted-small}
 
-pub clean-full : (l : List ℕ) (len : ℕ) → Raw l → len ≤ 2048 → len / 8 ≡ 256 → true ≡ clean l len
+pub clean-full : (l : List ℕ) (len : ℕ) → Raw l → len ≤ 2048 → len / 64 ≡ 32 → true ≡ clean l len
 unfolding clean
 clean-full l len r h e =
     let b = rw (r .long) at (num-bound l (r .bytes)) in
@@ -25,49 +24,48 @@ clean-full l len r h e =
     let m : len ≡ 8 * 256 = omega arith in
     rw (le-leb len 2048 h, lt-ltb (num l) (2 ^ len) (rw (m, ← p) b))
 
-module _ (l : List ℕ) (len : ℕ) (r : Raw l) (h : len ≤ 2048) (n : len / 8 ≡ 256 → ⊥) where
-  abbrev x : ℕ
-  x = getD l (len / 8) 0
+module _ (l : List ℕ) (len x : ℕ) (r : Raw l) (h : len ≤ 2048) (n : len / 64 ≡ 32 → ⊥) (w : Word l (8 * (len / 64)) x) where
+  abbrev place : ℕ
+  place = 8 * (len / 64)
 
-  abbrev rest : ℕ
-  rest = num (drop (len / 8 + 1) l)
+  rest : num (drop (8 * (len / 64 + 1)) l) ≡ num (drop (place + 8) l)
+  rest = let e : 8 * (len / 64 + 1) ≡ 8 * (len / 64) + 8 = omega arith in rw e
 
-  from-end : num (drop (len / 8) l) ≡ x + 256 * rest
-  unfolding num
-  from-end = rw (drop-cons l (len / 8) 0 (rw (r .long) (omega arith)), add-one (len / 8))
-
-  inside : len / 8 ≤ length l
+  inside : place ≤ length l
   inside = rw (r .long) (omega arith)
 
-  pub clean-not : (x / 2 ^ (len % 8) ≡ 0 → ⊥) → false ≡ clean l len
+  bits : 8 * place + len % 64 ≡ len
+  bits = omega arith
+
+  pub clean-not : (x / 2 ^ (len % 64) ≡ 0 → ⊥) → false ≡ clean l len
   unfolding clean
   clean-not k =
-      let s = shifted-small x (len % 8) k in
-      let e = from-end in
+      let s = shifted-small x (len % 64) k in
+      let e = w .says in
       let no : num l < 2 ^ len → ⊥ = λ (m : num l < 2 ^ len).
-      let c = cut-below l (len / 8) (len % 8) (r .bytes) inside (rw bits-of m) in
+      let c = cut-below l place (len % 64) (r .bytes) inside (rw bits m) in
       omega arith in
       rw (le-leb len 2048 h, le-ltb (num l) (2 ^ len) (omega arith))
 
-  pub clean-rest : x / 2 ^ (len % 8) ≡ 0 → eqb rest 0 ≡ clean l len
+  pub clean-rest : x / 2 ^ (len % 64) ≡ 0 → eqb (num (drop (8 * (len / 64 + 1)) l)) 0 ≡ clean l len
   unfolding clean
-  clean-rest k = rw (le-leb len 2048 h) (cases rest from-end)
+  clean-rest k = rw (rest, le-leb len 2048 h) (cases (num (drop (place + 8) l)) (w .says))
     where
-      small : x < 2 ^ (len % 8)
-      small = small-shifted x (len % 8) k
+      small : x < 2 ^ (len % 64)
+      small = small-shifted x (len % 64) k
 
-      byte : 2 ^ (len % 8) ≤ 128
-      byte = pow-mono {j = 7} (omega arith)
+      word : 2 ^ (len % 64) ≤ 2 ^ 63
+      word = pow-mono {j = 63} (omega arith)
 
-      cases : (y : ℕ) → num (drop (len / 8) l) ≡ x + 256 * y → eqb y 0 ≡ ltb (num l) (2 ^ len)
+      cases : (y : ℕ) → num (drop place l) ≡ x + 18446744073709551616 * y → eqb y 0 ≡ ltb (num l) (2 ^ len)
       cases zero e =
           let s = small in
-          let b = below-cut l (len / 8) (len % 8) (r .bytes) inside (omega arith) in
-          sym (lt-ltb (num l) (2 ^ len) (rw bits-of at b))
+          let b = below-cut l place (len % 64) (r .bytes) inside (omega arith) in
+          sym (lt-ltb (num l) (2 ^ len) (rw bits at b))
       cases (suc y) e =
-          let b = byte in
+          let b = word in
           let no : num l < 2 ^ len → ⊥ = λ (m : num l < 2 ^ len).
-          let c = cut-below l (len / 8) (len % 8) (r .bytes) inside (rw bits-of m) in
+          let c = cut-below l place (len % 64) (r .bytes) inside (rw bits m) in
           omega arith in
           ne-eqb (suc y) 0 (λ (z : suc y ≡ 0). omega arith) ∙ sym (le-ltb (num l) (2 ^ len) (omega arith))
 

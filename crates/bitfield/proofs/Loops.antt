@@ -11,12 +11,13 @@ use lib.Bits.{bitOr, and-le-l, and-le-r, or-add-and}
 use lib.Count.{ones, onesIn, ones-cat}
 use lib.Dec.{eqb}
 use lib.Pow.{pow-pos, pow-add}
-use lib.ListN.{length, getD, set, take, drop, replicate, take-append-drop}
-use lib.Seq.{take-suc, drop-cons, append-snoc, set-at, length-take-le, drop-length}
-use Rattle.standard.specs.Bytes.{Bytes, le, num}
+use lib.ListN.{length, getD, set, take, drop, replicate, take-append-drop, length-drop}
+use lib.Seq.{take-suc, drop-cons, append-snoc, set-at, length-take-le, drop-length, drop-drop}
+use Rattle.standard.specs.Bytes.{Bytes, le, num, numAt, four, wordAt}
 use Rattle.standard.proofs.Bytes.{num-bound, bytes-take}
 use Rattle.standard.proofs.Bits.{pow-bytes, num-append}
 use Rattle.bitfield.specs.Raw.{zipped, firsts, Raw}
+use Rattle.bitfield.specs.Facts.{Word}
 use Rattle.bitfield.proofs.Tops.{byte-at}
 use Rattle.bitfield.proofs.Numbers.{raw-le}
 use Rattle.bitfield.proofs.Places.{num-at, num-set, raw-set, first-bound}
@@ -71,22 +72,21 @@ pub record Gathered (l : List ℕ) (from acc i : ℕ) : Type 0 where
 pub gathered-start : (l : List ℕ) (from : ℕ) → Gathered l from 0 from
 gathered-start l from = record { all = λ a z. z; none = λ z. (refl, z) }
 
-pub gathered-next : (l : List ℕ) (from acc i : ℕ) → i < length l → Gathered l from acc i → Gathered l from (bitOr acc (getD l i 0)) (i + 1)
-unfolding num
-gathered-next l from acc i h g =
-    let e : num (drop i l) ≡ getD l i 0 + 256 * num (drop (i + 1) l) = rw (add-one i, drop-cons l i 0 h) in
+pub gathered-next : (l : List ℕ) (from acc i x : ℕ) → Word l i x → Gathered l from acc i → Gathered l from (bitOr acc x) (i + 8)
+gathered-next l from acc i x w g =
+    let e = w .says in
     record {
-      all = λ (a : bitOr acc (getD l i 0) ≡ 0) (z : num (drop (i + 1) l) ≡ 0).
-          let o = or-none acc (getD l i 0) a in
+      all = λ (a : bitOr acc x ≡ 0) (z : num (drop (i + 8) l) ≡ 0).
+          let o = or-none acc x a in
           g .all (o .0) (omega arith);
       none = λ (z : num (drop from l) ≡ 0).
           let k = g .none z in
-          let x : getD l i 0 ≡ 0 = omega arith in
-          (ors (k .0) x, omega arith);
+          let y : x ≡ 0 = omega arith in
+          (ors (k .0) y, omega arith);
     }
   where
-    ors : acc ≡ 0 → getD l i 0 ≡ 0 → bitOr acc (getD l i 0) ≡ 0
-    ors a x = let s = or-add-and acc (getD l i 0) in omega arith
+    ors : acc ≡ 0 → x ≡ 0 → bitOr acc x ≡ 0
+    ors a y = let s = or-add-and acc x in omega arith
 
 pub gathered-end : (l : List ℕ) (from acc : ℕ) → Gathered l from acc (length l) → eqb acc 0 ≡ eqb (num (drop from l)) 0
 unfolding num
@@ -107,12 +107,12 @@ unfolding num
 num-more l i h =
     rw (add-one i, take-suc l i 0 h, num-append (take i l) (getD l i 0 ∷ []), length-take-le i l (omega arith)) (omega arith)
 
-pub ones-more : (l : List ℕ) (i : ℕ) → Bytes l → i < length l → ones (num (take (i + 1) l)) ≡ ones (num (take i l)) + ones (getD l i 0)
-ones-more l i b h =
-    let f = first-bound l i b (omega arith) in
-    let p = pow-bytes i in
-    let e : num (take (i + 1) l) ≡ getD l i 0 * 2 ^ (8 * i) + num (take i l) = rw (← p) (num-more l i h ∙ omega arith) in
-    let c = ones-cat (8 * i) (getD l i 0) (num (take i l)) (omega arith) in
+-- The ones of a word, and those behind it
+pub ones-more : (l : List ℕ) (i x : ℕ) → Word l i x → ones (num (drop i l)) ≡ ones x + ones (num (drop (i + 8) l))
+ones-more l i x w =
+    let s = w .says in
+    let e : num (drop i l) ≡ num (drop (i + 8) l) * 2 ^ 64 + x = omega arith in
+    let c = ones-cat 64 (num (drop (i + 8) l)) x (w .small) in
     rw (e, c) (omega arith)
 
 -- Bytes moved up by s bytes and some bits, with what the last one lost at its top
@@ -229,6 +229,25 @@ shifting-end a n out carry used r h g =
     rw (two, w, all) (digits-mod (num (drop (used - s) a) * 2 ^ (n % 8) + carry) (rw w at (g .small))) in
     rw e (raw-le out (g .raw))
 
-pub ones-start : (l : List ℕ) → 0 ≡ ones (num (take 0 l))
-unfolding num ones onesIn
-ones-start l = refl
+pub ones-none : (n : ℕ) → n ≡ 0 → ones n ≡ 0
+unfolding ones onesIn
+ones-none n e = rw e
+
+-- Two halves of four bytes each are a word.
+four-drop : (l : List ℕ) (i : ℕ) → i + 4 ≤ length l → num (drop i l) ≡ four l i + 4294967296 * num (drop (i + 4) l)
+unfolding numAt
+four-drop l i h =
+    let e = num-append (take 4 (drop i l)) (drop 4 (drop i l)) in
+    let m : length (take 4 (drop i l)) ≡ 4 = length-take-le 4 (drop i l) (simp length-drop (omega arith)) in
+    rw (take-append-drop 4 (drop i l), m, drop-drop 4 i l) at e
+
+pub word-halves : (l : List ℕ) (w x y : ℕ) → length l ≡ 256 → w < 32 → (x ≡ wordAt l (2 * w)) × (x < 2 ^ 32) → (y ≡ wordAt l (2 * w + 1)) × (y < 2 ^ 32)
+    → Word l (8 * w) (x + 4294967296 * y)
+unfolding wordAt
+word-halves l w x y n h p q =
+    let a : 4 * (2 * w) ≡ 8 * w = omega arith in
+    let b : 4 * (2 * w + 1) ≡ 8 * w + 4 = omega arith in
+    let c : 8 * w + 4 + 4 ≡ 8 * w + 8 = omega arith in
+    let low = four-drop l (8 * w) (omega arith) in
+    let high = rw c at (four-drop l (8 * w + 4) (omega arith)) in
+    record { small = omega arith; says = rw (p .0, q .0, a, b) (omega arith) }

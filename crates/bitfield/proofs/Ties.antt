@@ -297,8 +297,19 @@ behind a len k =
 pub used-number : (a : List ℕ) (len : ℕ) → Kept a len → num (take (bytesFor len) a) ≡ num a
 used-number a len k = sym (num-used a (bytesFor len) (rw (k .raw .long) (use-bound len (k .few))) (behind a len k))
 
-pub count-held : (a : List ℕ) (len : ℕ) → Kept a len → ones (num (take (bytesFor len) a)) ≡ count (bitsIn a len)
-count-held a len k = rw (used-number a len k, ← bits-number a len k) (sym (Bools.count-ones (bitsIn a len)))
+pub count-held : (a : List ℕ) (len : ℕ) → Kept a len → ones (num a) ≡ count (bitsIn a len)
+count-held a len k = rw (← bits-number a len k) (sym (Bools.count-ones (bitsIn a len)))
+
+-- What lies behind the words in use
+pub behind-words : (a : List ℕ) (len : ℕ) → Kept a len → num (drop (8 * ((len + 63) / 64)) a) ≡ 0
+behind-words a len k =
+    let s = k .small in
+    let f = k .few in
+    let w = 8 * ((len + 63) / 64) in
+    let h : w ≤ length a = rw (k .raw .long) (omega arith) in
+    let m : 2 ^ len ≤ 2 ^ (8 * w + 0) = pow-mono (omega arith) in
+    let c = cut-below a w 0 (k .raw .bytes) h (omega arith) in
+    omega arith
 
 pub none-held : (a : List ℕ) (len : ℕ) → Kept a len → eqb (num (drop 0 a)) 0 ≡ noneSet (bitsIn a len)
 none-held a len k = ap (λ (n : ℕ). eqb n 0) (sym (bits-number a len k)) ∙ sym (Bools.none-number (bitsIn a len))

@@ -20,6 +20,11 @@ pub record TopOf (x h : ℕ) : Type 0 where
   pub from : 2 ^ h ≤ x
   pub to : x < 2 ^ suc h
 
+-- x is what the eight bytes from a place on say.
+pub record Word (l : List ℕ) (i x : ℕ) : Type 0 where
+  pub small : x < 18446744073709551616
+  pub says : num (drop i l) ≡ x + 18446744073709551616 * num (drop (i + 8) l)
+
 -- l with bit i made v is l′: as numbers
 pub record Put (l : List ℕ) (i : ℕ) (v : Bool) (l′ : List ℕ) : Type 0 where
   pub raw : Raw l′

@@ -115,7 +115,7 @@ pub(crate) fn count_of(a: &[u8; 256], len: usize) -> usize
     requires { ⌜ Kept (now a) len ⌝ }
     ensures { λ r. ⌜ r ≡ count (bitsIn (now (a .entry)) len) ⌝ }
 {
-    ones_in(a, bytes_for(len))
+    ones_in(a, (len + 63) / 64)
 }
 
 // The byte that holds the end, with the mark in it.

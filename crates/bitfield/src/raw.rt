@@ -1,5 +1,7 @@
-// Raw bytes of a held bitfield: 256 of them, of which the first ones are in use. Loops go byte by byte over those in use.
+// Raw bytes of a held bitfield: 256 of them, of which the first ones are in use. Loops that make bytes go byte by byte over those in
+// use; those that only look at bits go by words of eight bytes, 32 in all.
 use super::body::bytes_for;
+use standard::words::word_at;
 ghost use mathlib.Core.Path.{_≡_};
 ghost use mathlib.Core.List.{_++_};
 ghost use Prim.Native.Nat.{_+_, _*_, _/_, _%_, _^_, _<_, _≤_};
@@ -10,7 +12,7 @@ ghost use Rattle.standard.specs.Bytes.{Bytes, num, le};
 ghost use Rattle.standard.specs.Bits.{bit};
 ghost use Rattle.bitfield.specs.Body.{bytesFor};
 ghost use Rattle.bitfield.specs.Raw.{Raw, opOf, keep, firsts, clean, maskOf};
-ghost use Rattle.bitfield.specs.Facts.{Put};
+ghost use Rattle.bitfield.specs.Facts.{Put, Word};
 
 // What is done with two bytes; the last one looks at the first byte alone.
 pub(crate) enum Op {
@@ -59,16 +61,24 @@ pub(crate) fn copy_of(bytes: &[u8], used: usize) -> [u8; 256]
     out
 }
 
-// Whether the bytes from a place on are all zero.
-pub(crate) fn none_from(bytes: &[u8; 256], from: usize) -> bool
-    requires { ⌜ (from ≤ 256) × Raw (now bytes) ⌝ }
-    ensures { λ r. ⌜ r ≡ eqb (num (drop from (now (bytes .entry)))) 0 ⌝ }
+// The w-th word.
+fn word_of(bytes: &[u8; 256], w: usize) -> u64
+    requires { ⌜ (w < 32) × Raw (now bytes) ⌝ }
+    ensures { λ r. ⌜ Word (now (bytes .entry)) (8 * w) r ⌝ }
 {
-    let mut acc = 0u8;
-    let mut i = from;
-    while i < 256 {
-        acc |= bytes[i];
-        i += 1;
+    (word_at(bytes, 2 * w) + 4294967296 * word_at(bytes, 2 * w + 1)) as u64
+}
+
+// Whether the words from one on are all zero.
+pub(crate) fn none_from(bytes: &[u8; 256], from: usize) -> bool
+    requires { ⌜ (from ≤ 32) × Raw (now bytes) ⌝ }
+    ensures { λ r. ⌜ r ≡ eqb (num (drop (8 * from) (now (bytes .entry)))) 0 ⌝ }
+{
+    let mut acc = 0u64;
+    let mut w = from;
+    while w < 32 {
+        acc |= word_of(bytes, w);
+        w += 1;
     }
     acc == 0
 }
@@ -81,11 +91,12 @@ pub(crate) fn is_clean(bytes: &[u8; 256], len: usize) -> bool
     if len > 2048 {
         return false;
     }
-    let q = len / 8;
-    if q == 256 {
+    let q = len / 64;
+    if q == 32 {
         return true;
     }
-    if bytes[q] >> (len % 8) != 0 {
+    let x = word_of(bytes, q);
+    if x >> (len % 64) != 0 {
         return false;
     }
     none_from(bytes, q + 1)
@@ -148,22 +159,22 @@ pub(crate) fn shifted(a: &[u8; 256], n: usize, used: usize) -> [u8; 256]
     out
 }
 
-fn ones_of(x: u8) -> usize
-    ensures { λ r. ⌜ (r ≡ ones x) × (r ≤ 8) ⌝ }
+fn ones_of(x: u64) -> usize
+    ensures { λ r. ⌜ (r ≡ ones x) × (r ≤ 64) ⌝ }
 {
-    u8::count_ones(x) as usize
+    u64::count_ones(x) as usize
 }
 
-// How many bits of the first bytes are set.
-pub(crate) fn ones_in(bytes: &[u8; 256], used: usize) -> usize
-    requires { ⌜ (used ≤ 256) × Raw (now bytes) ⌝ }
-    ensures { λ r. ⌜ r ≡ ones (num (take used (now (bytes .entry)))) ⌝ }
+// How many bits are set, where none is set behind so many words.
+pub(crate) fn ones_in(bytes: &[u8; 256], words: usize) -> usize
+    requires { ⌜ (words ≤ 32) × Raw (now bytes) × (num (drop (8 * words) (now bytes)) ≡ 0) ⌝ }
+    ensures { λ r. ⌜ r ≡ ones (num (now (bytes .entry))) ⌝ }
 {
     let mut sum = 0usize;
-    let mut i = 0;
-    while i < used {
-        sum += ones_of(bytes[i]);
-        i += 1;
+    let mut w = 0;
+    while w < words {
+        sum += ones_of(word_of(bytes, w));
+        w += 1;
     }
     sum
 }

@@ -1,5 +1,6 @@
--- `bitfield::raw::is_clean` meets its contract: the byte that holds the end, and then those behind it. Assumes nothing.
+-- `bitfield::raw::is_clean` meets its contract: the word that holds the end, and then those behind it. Assumes nothing.
 use mathlib.Core.Path.{_∙_}
+use native.Mathlib.Omega.{arith}
 use borrow.Author.Tests.{lt-leb}
 use borrow.Author.Needs.{needs}
 use Rattle.bitfield.specs.Raw.{clean}
@@ -16,11 +17,8 @@ returns-2 c =
     let s = c .before .before in
     clean-full _ (s .args .len) (s .pre) (c .before .if1 .left) (c .if2 .taken)
 
-element-copy-out-if3 : tie.Need-element-copy-out-if3
-element-copy-out-if3 c = search needs
-
-cast-if3 : tie.Need-cast-if3
-cast-if3 c = search needs
+word-of-requires : tie.Need-word-of-requires
+word-of-requires c κs = search needs
 
 shr-if3 : tie.Need-shr-if3
 shr-if3 c = search needs
@@ -28,7 +26,7 @@ shr-if3 c = search needs
 returns-3 : tie.Need-returns-3
 returns-3 c =
     let s = c .before .before .before .before in
-    clean-not _ (s .args .len) (s .pre) (c .before .before .before .if1 .left) (c .before .before .if2 .left) (c .if3 .taken)
+    clean-not _ (s .args .len) _ (s .pre) (c .before .before .before .if1 .left) (c .before .before .if2 .left) (c .before .word-of .ensures) (c .if3 .taken)
 
 add-none-from : tie.Need-add-none-from
 add-none-from c = search needs
@@ -39,7 +37,8 @@ none-from-requires c κs = search needs
 returns-4 : tie.Need-returns-4
 returns-4 c =
     let s = c .before .before .before .before .before in
-    let tests = clean-rest _ (s .args .len) (s .pre) (c .before .before .before .before .if1 .left) (c .before .before .before .if2 .left) in
+    let b = c .before .before in
+    let tests = clean-rest _ (s .args .len) _ (s .pre) (b .before .before .if1 .left) (b .before .if2 .left) (b .word-of .ensures) in
     c .none-from .ensures ∙ tests (c .before .if3 .left)
 
 pub is-clean-spec : {M : Type 1} → statement M
@@ -48,8 +47,7 @@ is-clean-spec =
     (tie.spec
     returns
     returns-2
-    element-copy-out-if3
-    cast-if3
+    word-of-requires
     shr-if3
     returns-3
     add-none-from

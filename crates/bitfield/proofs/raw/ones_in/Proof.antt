@@ -1,25 +1,25 @@
--- `bitfield::raw::ones_in` meets its contract. The invariant: the ones of the first `i` bytes are counted. Assumes nothing.
-use mathlib.Core.Path.{_≡_}
-use Prim.Native.Nat.{_≤_, _<_, _*_, _-_}
+-- `bitfield::raw::ones_in` meets its contract. The invariant: what is counted and what is left are all. Assumes nothing.
+use mathlib.Core.Path.{_≡_, refl}
+use Prim.Native.Nat.{_≤_, _<_, _+_, _*_, _-_}
 use native.Mathlib.Omega.{arith}
 use lib.Count.{ones}
-use lib.ListN.{take}
+use lib.ListN.{drop}
 use Rattle.standard.specs.Bytes.{num}
-use Rattle.bitfield.proofs.Loops.{ones-more, ones-start}
+use Rattle.bitfield.proofs.Loops.{ones-more, ones-none}
 use Rattle.bitfield.proofs.raw.ones_in.Statement.{statement}
 use Rattle.bitfield.proofs.raw.ones_in.Tie as tie
 
 abbrev Inv-loop : tie.InvT-loop
-Inv-loop bytes used sum₀ i₀ sum i = (i ≤ used) × (sum ≤ 8 * i) × (sum ≡ ones (num (take i bytes)))
+Inv-loop bytes words sum₀ w₀ sum w = (w ≤ words) × (sum ≤ 64 * w) × (sum + ones (num (drop (8 * w) bytes)) ≡ ones (num bytes))
 
 abbrev μ-loop : tie.MeasureT-loop
-μ-loop bytes used sum₀ i₀ sum i = used - i
+μ-loop bytes words sum₀ w₀ sum w = words - w
 
 loop-holds : tie.Need-loop-holds Inv-loop μ-loop
-loop-holds c = (omega arith, omega arith, ones-start (c .args .bytes .now))
+loop-holds c = (omega arith, omega arith, omega arith)
 
-element-copy-out-ones-of : tie.Need-element-copy-out-ones-of Inv-loop μ-loop
-element-copy-out-ones-of c = omega arith
+word-of-requires : tie.Need-word-of-requires Inv-loop μ-loop
+word-of-requires c κs = (omega arith, c .before .before .pre .1)
 
 ones-of-requires : tie.Need-ones-of-requires Inv-loop μ-loop
 ones-of-requires c κs = tt
@@ -27,24 +27,27 @@ ones-of-requires c κs = tt
 add-sum : tie.Need-add-sum Inv-loop μ-loop
 add-sum c = omega arith
 
-add-i : tie.Need-add-i Inv-loop μ-loop
-add-i c = omega arith
+add-w : tie.Need-add-w Inv-loop μ-loop
+add-w c = omega arith
 
 loop-less : tie.Need-loop-less Inv-loop μ-loop
 loop-less c = omega arith
 
 loop-again : tie.Need-loop-again Inv-loop μ-loop
 loop-again c =
-    let s = c .before .before .before .before in
     let l = c .before .before .before .loop in
-    let more = ones-more _ (l .i) (s .pre .1 .bytes) (rw (s .pre .1 .long) (omega arith)) in
-    (omega arith, omega arith, rw (more, ← l .inv .2, ← c .ones-of .ensures .0))
+    let more = ones-more _ (8 * l .w) _ (c .before .word-of .ensures) in
+    let e : 8 * (l .w + 1) ≡ 8 * l .w + 8 = omega arith in
+    (omega arith, omega arith, rw e (omega (arith, more, c .ones-of .ensures .0, l .inv .2)))
 
 returns : tie.Need-returns Inv-loop μ-loop
 returns c =
+    let s = c .before .before in
     let l = c .before .loop in
-    let e : l .i ≡ c .before .before .args .used = omega arith in
-    rw e at (l .inv .2)
+    let e : l .w ≡ s .args .words = omega arith in
+    let all = rw e at (l .inv .2) in
+    let none = ones-none _ (s .pre .2) in
+    omega (arith, all, none)
 
 pub ones-in-spec : {M : Type 1} → statement M
 ones-in-spec =
@@ -53,10 +56,10 @@ ones-in-spec =
     Inv-loop
     μ-loop
     loop-holds
-    element-copy-out-ones-of
+    word-of-requires
     ones-of-requires
     add-sum
-    add-i
+    add-w
     loop-less
     loop-again
     returns)
