@@ -20,7 +20,7 @@ use Rattle.bitfield.specs.Raw.{zipped, firsts, Raw}
 use Rattle.bitfield.specs.Facts.{Word}
 use Rattle.bitfield.proofs.Tops.{byte-at}
 use Rattle.bitfield.proofs.Numbers.{raw-le}
-use Rattle.bitfield.proofs.Places.{num-at, num-set, raw-set, first-bound}
+use Rattle.bitfield.proofs.Places.{num-at, num-set, raw-set}
 
 -- Two lists put together, byte by byte
 length-zipped : (f : ℕ → ℕ → ℕ) (xs ys : List ℕ) → length xs ≡ length ys → length (zipped f xs ys) ≡ length xs

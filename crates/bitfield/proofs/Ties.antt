@@ -26,7 +26,7 @@ use Rattle.bitfield.specs.Facts.{Kept, Put, Used, TopOf}
 use Rattle.bitfield.specs.Held.{bitsIn, held, opBits, opLength}
 use Rattle.bitfield.proofs.Bools as Bools
 use Rattle.bitfield.proofs.Bodies.{cut-below}
-use Rattle.bitfield.proofs.Tops.{num-used, highest-none, highest-at, top-number}
+use Rattle.bitfield.proofs.Tops.{highest-none, highest-at, top-number}
 use Rattle.bitfield.proofs.Numbers.{Bytewise, and-bytewise, or-bytewise, and-not-bytewise, firsts-le, firsts-not, raw-le, le-zero, le-short}
 
 -- What a well formed field's bits say
@@ -293,9 +293,6 @@ behind a len k =
     let b : num a < 2 ^ (8 * bytesFor len + 0) = rw (add-zero (8 * bytesFor len)) (omega arith) in
     let c = cut-below a (bytesFor len) 0 (k .raw .bytes) h b in
     omega arith
-
-pub used-number : (a : List ℕ) (len : ℕ) → Kept a len → num (take (bytesFor len) a) ≡ num a
-used-number a len k = sym (num-used a (bytesFor len) (rw (k .raw .long) (use-bound len (k .few))) (behind a len k))
 
 pub count-held : (a : List ℕ) (len : ℕ) → Kept a len → ones (num a) ≡ count (bitsIn a len)
 count-held a len k = rw (← bits-number a len k) (sym (Bools.count-ones (bitsIn a len)))
