@@ -9,6 +9,14 @@ use cases::number;
 use cases::part;
 use standard::Maybe;
 
+// What the operations work on: two fields of at most n bits, the first one's serialization, and how far to shift.
+struct Operands {
+    first: BitList,
+    second: BitList,
+    n: usize,
+    places: usize,
+}
+
 fn of_list(answer: ListResult, round: usize) -> usize {
     let field = answer.field;
     let told = answer.told;
@@ -20,39 +28,26 @@ fn written(field: BitList, out: &mut [u8], round: usize) -> usize {
     plus(of_count(answer), byte_in(out, round))
 }
 
-fn write(f: BitList, out: &mut [u8], rounds: usize) -> usize {
-    let mut sum = 0;
-    let mut left = rounds;
-    while left > 0 {
-        sum = plus(sum, written(f, out, left));
-        left -= 1;
+fn once(op: usize, x: Operands, bytes: &[u8], out: &mut [u8], round: usize) -> usize {
+    let f = x.first;
+    let g = x.second;
+    match op {
+        11 => of_list(BitList::from_bytes(bytes, x.n), round),
+        12 => written(f, out, round),
+        13 => of_list(f.intersection(g), round),
+        14 => of_list(f.union(g), round),
+        22 => of_count(f.num_set_bits()),
+        23 => of_list(f.difference(g), round),
+        25 => of_list(f.shift_up(x.places), round),
+        _ => 0,
     }
-    sum
 }
 
-// All but the writing. The bytes are the first field's serialization.
-fn repeat(
-    op: usize,
-    f: BitList,
-    g: BitList,
-    bytes: &[u8],
-    places: usize,
-    rounds: usize,
-) -> usize {
-    let n = f.n;
+fn repeat(op: usize, x: Operands, bytes: &[u8], out: &mut [u8], rounds: usize) -> usize {
     let mut sum = 0;
     let mut left = rounds;
     while left > 0 {
-        let added = match op {
-            11 => of_list(BitList::from_bytes(bytes, n), left),
-            13 => of_list(f.intersection(g), left),
-            14 => of_list(f.union(g), left),
-            22 => of_count(f.num_set_bits()),
-            23 => of_list(f.difference(g), left),
-            25 => of_list(f.shift_up(places), left),
-            _ => 0,
-        };
-        sum = plus(sum, added);
+        sum = plus(sum, once(op, x, bytes, out, left));
         left -= 1;
     }
     sum
@@ -67,11 +62,14 @@ pub(crate) fn run(op: usize, plan: &[u8], out: &mut [u8], rounds: usize) -> Mayb
     };
     let bytes = part(plan, 2);
     let one = BitList::from_bytes(bytes, n);
+    let first = one.field;
     let other = BitList::from_bytes(part(plan, 3), n);
-    let f = one.field;
-    let g = other.field;
-    if op == 12 {
-        return Maybe::Just(write(f, out, rounds));
-    }
-    Maybe::Just(repeat(op, f, g, bytes, places, rounds))
+    let second = other.field;
+    let x = Operands {
+        first,
+        second,
+        n,
+        places,
+    };
+    Maybe::Just(repeat(op, x, bytes, out, rounds))
 }
