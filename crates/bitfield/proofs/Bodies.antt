@@ -17,8 +17,8 @@ use Rattle.standard.proofs.Bytes.{bytes-take, num-bound}
 use Rattle.standard.proofs.Bits.{num-append, pow-bytes}
 use Rattle.bitfield.specs.Body.{highest, allBits, listBits, bitListBody, within}
 use Rattle.bitfield.specs.Facts.{Used, TopOf}
-use Rattle.bitfield.specs.declared.Told.{Told}
-use Rattle.bitfield.specs.declared.Told.the-variants.{Fine, Refused as Refusing}
+use Rattle.standard.specs.declared.Told.{Told}
+use Rattle.standard.specs.declared.Told.the-variants.{Fine, Refused as Refusing}
 use Rattle.bitfield.specs.declared.BodyBits.the-variants.{Bits, Refused}
 use Rattle.bitfield.proofs.Tops.{top-used, top-unused, used-all, top-counted, byte-at}
 

@@ -11,8 +11,8 @@ use Rattle.standard.specs.Bits.{marked, packs}
 use Rattle.standard.specs.Bytes.{num}
 use Rattle.standard.proofs.Bits.{length-marked, length-packs, packs-le}
 use Rattle.standard.specs.declared.Refusal.{Refusal}
-use Rattle.bitfield.specs.declared.Told.{Told}
-use Rattle.bitfield.specs.declared.Told.the-variants.{Fine, Refused}
+use Rattle.standard.specs.declared.Told.{Told}
+use Rattle.standard.specs.declared.Told.the-variants.{Fine, Refused}
 use Rattle.bitfield.specs.declared.CountResult.the-variants.{Count, Refused as NoCount}
 use Rattle.bitfield.specs.declared.Field.{Field}
 use Rattle.bitfield.specs.declared.Outcome.{Outcome}

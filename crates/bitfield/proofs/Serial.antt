@@ -12,8 +12,8 @@ use Rattle.standard.specs.Types.{bitList, bitVector}
 use Rattle.standard.specs.Serialize.{serialize}
 use Rattle.standard.specs.declared.Refusal.{Refusal}
 use Rattle.standard.proofs.Bits.{bitsOf, bitsOf-bitNum, num-pack, marked-injective, length-bitsOf}
-use Rattle.bitfield.specs.declared.Told.{Told}
-use Rattle.bitfield.specs.declared.Told.the-variants.{Fine, Refused}
+use Rattle.standard.specs.declared.Told.{Told}
+use Rattle.standard.specs.declared.Told.the-variants.{Fine, Refused}
 use Rattle.bitfield.specs.declared.BodyBits.{BodyBits}
 use Rattle.bitfield.specs.declared.BodyBits.the-variants.{Bits, Refused as NoBody}
 use Rattle.bitfield.specs.Body.{bitListBody, bytesFor}

@@ -19,7 +19,7 @@ use Rattle.standard.proofs.Bits.{bitsOf, length-bitsOf, bitNum-bound, marked-bi
 use Rattle.bitfield.specs.Body.{highest, allBits, markedAt, bitListBody, bitVectorBody, bytesFor}
 use Rattle.bitfield.specs.declared.Top.{Top}
 use Rattle.bitfield.specs.declared.Top.the-variants.{At, Nothing}
-use Rattle.bitfield.specs.declared.Told.the-variants.{Fine, Refused as Refusing}
+use Rattle.standard.specs.declared.Told.the-variants.{Fine, Refused as Refusing}
 use Rattle.bitfield.specs.declared.BodyBits.{BodyBits}
 use Rattle.bitfield.specs.declared.BodyBits.the-variants.{Bits, Refused}
 use Rattle.bitfield.proofs.Tops.{highest-at, highest-says}

@@ -8,8 +8,8 @@ use borrow.Author.Tests.{leb-true, ltb-true, eqb-true}
 use lib.Dec.{eqb, leb, ltb}
 use Rattle.standard.specs.Choice.{pick, andAlso}
 use Rattle.standard.specs.declared.Refusal.{Refusal}
-use Rattle.bitfield.specs.declared.Told.{Told}
-use Rattle.bitfield.specs.declared.Told.the-variants.{Fine, Refused}
+use Rattle.standard.specs.declared.Told.{Told}
+use Rattle.standard.specs.declared.Told.the-variants.{Fine, Refused}
 use Rattle.bitfield.specs.Raw.{Raw, clean}
 use Rattle.bitfield.specs.Facts.{Kept}
 use Rattle.bitfield.specs.Held.{limited, oneTold, twoTold, listGood, vectorGood, inside, upTo, notBelow, roomFor, andThen}

@@ -10,8 +10,8 @@ use Rattle.standard.specs.Bits.{bitsOf}
 use Rattle.standard.specs.declared.Refusal.the-variants.{OutOfBounds, MissingLengthInformation, ExcessBits, InvalidByteCount}
 use Rattle.bitfield.specs.declared.Top.{Top}
 use Rattle.bitfield.specs.declared.Top.the-variants.{At, Nothing}
-use Rattle.bitfield.specs.declared.Told.{Told}
-use Rattle.bitfield.specs.declared.Told.the-variants.{Fine, Refused as Refusing}
+use Rattle.standard.specs.declared.Told.{Told}
+use Rattle.standard.specs.declared.Told.the-variants.{Fine, Refused as Refusing}
 use Rattle.bitfield.specs.declared.BodyBits.{BodyBits}
 use Rattle.bitfield.specs.declared.BodyBits.the-variants.{Bits, Refused}
 

@@ -15,8 +15,8 @@ use Rattle.bitfield.specs.declared.raw.Op.{Op}
 use Rattle.bitfield.specs.declared.raw.Op.the-variants.{And, Or, AndNot, Not}
 use Rattle.bitfield.specs.declared.Top.{Top}
 use Rattle.bitfield.specs.declared.Top.the-variants.{At, Nothing}
-use Rattle.bitfield.specs.declared.Told.{Told}
-use Rattle.bitfield.specs.declared.Told.the-variants.{Fine, Refused}
+use Rattle.standard.specs.declared.Told.{Told}
+use Rattle.standard.specs.declared.Told.the-variants.{Fine, Refused}
 use Rattle.bitfield.specs.declared.BitResult.{BitResult}
 use Rattle.bitfield.specs.declared.BitResult.the-variants.{Is, Refused as NoBit}
 use Rattle.bitfield.specs.declared.CountResult.{CountResult}

@@ -11,8 +11,8 @@ use Rattle.bitfield.specs.Bools.{both, either, without, flipped, noBits,
 use Rattle.bitfield.specs.Held.{bitsIn, held, opBits, limited, oneTold, twoTold, listGood, inside, upTo, notBelow, roomFor, andThen, bitAnswer, countAnswer, topAnswer, written}
 use Rattle.bitfield.specs.declared.BodyBits.{BodyBits}
 use Rattle.bitfield.specs.declared.BodyBits.the-variants.{Bits, Refused as NoBody}
-use Rattle.bitfield.specs.declared.Told.{Told}
-use Rattle.bitfield.specs.declared.Told.the-variants.{Fine, Refused}
+use Rattle.standard.specs.declared.Told.{Told}
+use Rattle.standard.specs.declared.Told.the-variants.{Fine, Refused}
 use Rattle.bitfield.specs.declared.BitResult.{BitResult}
 use Rattle.bitfield.specs.declared.CountResult.{CountResult}
 use Rattle.bitfield.specs.declared.HighestBit.{HighestBit}

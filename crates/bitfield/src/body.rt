@@ -1,6 +1,6 @@
 // Bodies of a message: whether bytes are those of a bit list or of a bit vector. Nothing is copied.
 use super::BodyBits;
-use super::Told;
+use standard::Told;
 use standard::Refusal;
 ghost use mathlib.Core.Path.{_≡_};
 ghost use Prim.Native.Nat.{ℕ, _+_, _-_, _*_, _/_, _<_, _≤_};

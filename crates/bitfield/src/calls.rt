@@ -4,7 +4,7 @@ use super::CountResult;
 use super::Field;
 use super::HighestBit;
 use super::Outcome;
-use super::Told;
+use standard::Told;
 use super::Top;
 use super::fields::changed;
 use super::fields::count_of;

@@ -8,6 +8,7 @@ mod tests;
 mod vector;
 
 use standard::Refusal;
+use standard::Told;
 
 // A bit list of at most n bits: the first len of its bytes' bits. Any state can be handed in: every call tests it first.
 pub struct BitList {
@@ -21,12 +22,6 @@ pub struct BitVector {
     pub bytes: [u8; 256],
     pub len: usize,
     pub n: usize,
-}
-
-// Whether a call went well, or why not.
-pub enum Told {
-    Fine,
-    Refused(Refusal),
 }
 
 // A field beside what is said of it: the new one, or on a refusal the old one, or an empty one where there is no old one.

@@ -7,7 +7,7 @@ use super::Field;
 use super::HighestBit;
 use super::ListResult;
 use super::Outcome;
-use super::Told;
+use standard::Told;
 use super::body::bitlist_body;
 use super::calls::count_told;
 use super::calls::fresh;

@@ -1,5 +1,5 @@
 // The tests that come before a call's work, each with its refusal.
-use super::Told;
+use standard::Told;
 use super::raw::is_clean;
 use standard::Refusal;
 ghost use mathlib.Core.Path.{_≡_};

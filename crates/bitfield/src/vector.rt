@@ -5,7 +5,7 @@ use super::CountResult;
 use super::Field;
 use super::HighestBit;
 use super::Outcome;
-use super::Told;
+use standard::Told;
 use super::VectorResult;
 use super::body::bitvector_body;
 use super::body::bytes_for;

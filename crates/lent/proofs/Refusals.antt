@@ -6,8 +6,8 @@ use Prim.Native.Nat.{ℕ}
 use lib.ListN.{set}
 use native.Mathlib.Omega.{arith}
 use Rattle.standard.specs.declared.Refusal.{Refusal}
-use Rattle.bitfield.specs.declared.Told.{Told}
-use Rattle.bitfield.specs.declared.Told.the-variants.{Fine, Refused}
+use Rattle.standard.specs.declared.Told.{Told}
+use Rattle.standard.specs.declared.Told.the-variants.{Fine, Refused}
 use Rattle.bitfield.specs.declared.BitList.{BitList}
 use Rattle.bitfield.specs.declared.BitVector.{BitVector}
 use Rattle.bitfield.specs.declared.ListResult.{ListResult}

@@ -1,7 +1,7 @@
 // A bit list of the caller's, changed where it lies.
 use bitfield::BitList;
 use bitfield::ListResult;
-use bitfield::Told;
+use standard::Told;
 ghost use mathlib.Core.Path.{_≡_};
 ghost use Rattle.bitfield.specs.Lists.{listSet, listNot, listDifference};
 ghost use Rattle.lent.specs.Left.{listLeft};

@@ -1,6 +1,6 @@
 // A bit vector of the caller's, changed where it lies.
 use bitfield::BitVector;
-use bitfield::Told;
+use standard::Told;
 use bitfield::VectorResult;
 ghost use mathlib.Core.Path.{_≡_};
 ghost use Rattle.bitfield.specs.Vectors.{vectorSet, vectorNot, vectorDifference};

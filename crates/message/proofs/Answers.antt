@@ -8,7 +8,6 @@ use Rattle.standard.specs.Choice.{pick}
 use Rattle.standard.specs.declared.Told.{Told}
 use Rattle.standard.specs.declared.Refusal.{Refusal}
 use Rattle.bitfield.specs.declared.BodyBits.{BodyBits}
-use Rattle.bitfield.specs.declared.Told.{Told as BodyTold}
 use Rattle.message.specs.Read.{rawBytes, one, plus, andThen, built, ofVector, ofList}
 use Rattle.message.specs.declared.Counts.{Counts}
 use Rattle.message.specs.declared.Answer.{Answer}
@@ -81,9 +80,9 @@ pub built-accepted : (d : Told) (t s : ℕ) (x : Answer) (c : Counts) → built 
 built-accepted (Told.Refused r) t s x c e = not-accepted r t s c e
 built-accepted Told.Fine t s x c e = (refl, e)
 
-pub vector-accepted : (d : BodyTold) (t s n : ℕ) (c : Counts) → ofVector d t s n ≡ Accepted c → (d ≡ BodyTold.Fine) × (c ≡ single 0 n)
-vector-accepted (BodyTold.Refused r) t s n c e = not-accepted r t s c e
-vector-accepted BodyTold.Fine t s n c e = (refl, sym (accepted-same (single 0 n) c e))
+pub vector-accepted : (d : Told) (t s n : ℕ) (c : Counts) → ofVector d t s n ≡ Accepted c → (d ≡ Told.Fine) × (c ≡ single 0 n)
+vector-accepted (Told.Refused r) t s n c e = not-accepted r t s c e
+vector-accepted Told.Fine t s n c e = (refl, sym (accepted-same (single 0 n) c e))
 
 pub list-accepted : (d : BodyBits) (t s : ℕ) (c : Counts) → ofList d t s ≡ Accepted c → (k : ℕ) × (d ≡ BodyBits.Bits k) × (c ≡ single 1 (rawBytes k))
 list-accepted (BodyBits.Refused r) t s c e = not-accepted r t s c e

@@ -21,7 +21,7 @@ use Rattle.decode.specs.Builder.{layOut}
 use Rattle.decode.proofs.Register.{layout-ranges, layout-next}
 use Rattle.bitfield.specs.Body.{bitListBody, bitVectorBody, bytesFor, markedAt, highest, allBits, listBits, within}
 use Rattle.bitfield.specs.declared.BodyBits.{BodyBits}
-use Rattle.bitfield.specs.declared.Told.{Told as BodyTold}
+use Rattle.standard.specs.declared.Told.{Told}
 use Rattle.bitfield.specs.declared.Top.{Top}
 use Rattle.bitfield.specs.declared.Top.the-variants.{At, Nothing}
 use Rattle.layout.specs.Tree.{nodeOf, leafOf, fields, options, trees, treeOf}
@@ -113,11 +113,11 @@ tree-depth l zero t g h = absurd (omega arith)
 tree-depth l (suc n) t g h = node-depth l t (λ u k. tree-depth l n u (λ v q. g v (omega arith)) (omega arith)) (g t h)
 
 -- Accepted bodies of bits have their length.
-pub vector-length : (b : List ℕ) (n : ℕ) → 1 ≤ n → bitVectorBody b n ≡ BodyTold.Fine → length b ≡ bytesFor n
+pub vector-length : (b : List ℕ) (n : ℕ) → 1 ≤ n → bitVectorBody b n ≡ Told.Fine → length b ≡ bytesFor n
 unfolding bitVectorBody
 vector-length b n h e =
     let f = rw (ne-eqb n 0 (omega arith)) at e in
-    eqb-true _ _ (pick-left (eqb (length b) (bytesFor n)) (within b n) _ BodyTold.Fine (λ q. let z : _≡_ {A = ℕ} 0 1 = cc in omega arith) f .0)
+    eqb-true _ _ (pick-left (eqb (length b) (bytesFor n)) (within b n) _ Told.Fine (λ q. let z : _≡_ {A = ℕ} 0 1 = cc in omega arith) f .0)
 
 marked-length : (x : Top) (given n k : ℕ) → markedAt x given n ≡ BodyBits.Bits k → given ≡ k / 8 + 1
 marked-length Nothing given n k e = let z : _≡_ {A = ℕ} 0 1 = cc in absurd (omega arith)

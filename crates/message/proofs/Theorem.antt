@@ -29,7 +29,6 @@ use Rattle.decode.specs.Builder.{layOut}
 use Rattle.decode.proofs.Register.{layout-ranges, layout-next, layout-passes}
 use Rattle.bitfield.specs.Body.{bitListBody, bitVectorBody}
 use Rattle.bitfield.specs.declared.BodyBits.{BodyBits}
-use Rattle.bitfield.specs.declared.Told.{Told as BodyTold}
 use Rattle.bitfield.proofs.Standard.{list-sound, list-complete, vector-sound, vector-complete}
 use Rattle.layout.specs.Table.{tableOf}
 use Rattle.layout.specs.declared.Checked.the-variants.{Upto}
@@ -239,9 +238,9 @@ same-built : (d : Told) (t s u : ℕ) (x y : Answer) → Same x y → Same (buil
 same-built (Told.Refused r) t s u x y f = same-refused r t s (Refused r t u)
 same-built Told.Fine t s u x y f = f
 
-same-vector : (d : BodyTold) (t s u n : ℕ) → Same (ofVector d t s n) (ofVector d t u n)
-same-vector (BodyTold.Refused r) t s u n = same-refused r t s (Refused r t u)
-same-vector BodyTold.Fine t s u n = same-self (one 0 n)
+same-vector : (d : Told) (t s u n : ℕ) → Same (ofVector d t s n) (ofVector d t u n)
+same-vector (Told.Refused r) t s u n = same-refused r t s (Refused r t u)
+same-vector Told.Fine t s u n = same-self (one 0 n)
 
 same-list : (d : BodyBits) (t s u : ℕ) → Same (ofList d t s) (ofList d t u)
 same-list (BodyBits.Refused r) t s u = same-refused r t s (Refused r t u)

@@ -12,7 +12,6 @@ use Rattle.standard.specs.declared.Refusal.the-variants.{InvalidByteLength, Out
 use Rattle.decode.specs.Builder.{layOut}
 use Rattle.bitfield.specs.Body.{bitListBody, bitVectorBody}
 use Rattle.bitfield.specs.declared.BodyBits.{BodyBits}
-use Rattle.bitfield.specs.declared.Told.{Told as BodyTold}
 use Rattle.message.specs.declared.Counts.{Counts}
 use Rattle.message.specs.declared.Answer.{Answer}
 use Rattle.message.specs.declared.Answer.the-variants.{Accepted, Refused}
@@ -40,9 +39,9 @@ built (Told.Refused r) t s x = Refused r t s
 built Told.Fine t s x = x
 
 -- The body of bits
-abbrev pub ofVector : BodyTold → ℕ → ℕ → ℕ → Answer
-ofVector (BodyTold.Refused r) t s n = Refused r t s
-ofVector BodyTold.Fine t s n = one 0 n
+abbrev pub ofVector : Told → ℕ → ℕ → ℕ → Answer
+ofVector (Told.Refused r) t s n = Refused r t s
+ofVector Told.Fine t s n = one 0 n
 
 abbrev pub ofList : BodyBits → ℕ → ℕ → Answer
 ofList (BodyBits.Refused r) t s = Refused r t s

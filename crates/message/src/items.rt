@@ -103,8 +103,8 @@ fn vector_check(n: usize, t: usize, b: &[u8], start: usize) -> Answer
 {
     let told = bitvector_body(b, n);
     match told {
-        bitfield::Told::Fine => leaf(0, b.len()),
-        bitfield::Told::Refused(r) => Answer::Refused(r, t, start),
+        Told::Fine => leaf(0, b.len()),
+        Told::Refused(r) => Answer::Refused(r, t, start),
     }
 }
 

@@ -16,7 +16,7 @@ use crate::bits::n_of;
 use bitfield::BitList;
 use bitfield::CountResult;
 use bitfield::ListResult;
-use bitfield::Told;
+use standard::Told;
 use cases::Verdict;
 use cases::is_formed;
 use cases::is_number;

@@ -15,7 +15,7 @@ use crate::bits::len_of;
 use crate::bits::n_of;
 use bitfield::BitVector;
 use bitfield::CountResult;
-use bitfield::Told;
+use standard::Told;
 use bitfield::VectorResult;
 use cases::Verdict;
 use cases::is_formed;
