@@ -1,6 +1,6 @@
 // What a round adds to the sum: lengths and counts, and a byte of what was made, another one in each round. A refusal adds nothing.
 use bitfield::CountResult;
-use bitfield::Told;
+use standard::Told;
 use std::num::wrapping_add_usize;
 ghost use Prim.Native.Nat.{_≤_};
 
