@@ -1,7 +1,7 @@
 // Bodies of a message: whether bytes are those of a bit list or of a bit vector. Nothing is copied.
 use super::BodyBits;
-use standard::Told;
 use standard::Refusal;
+use standard::Told;
 ghost use mathlib.Core.Path.{_≡_};
 ghost use Prim.Native.Nat.{ℕ, _+_, _-_, _*_, _/_, _<_, _≤_};
 ghost use lib.ListN.{length, getD, drop};

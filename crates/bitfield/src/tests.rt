@@ -1,7 +1,7 @@
 // The tests that come before a call's work, each with its refusal.
-use standard::Told;
 use super::raw::is_clean;
 use standard::Refusal;
+use standard::Told;
 ghost use mathlib.Core.Path.{_≡_};
 ghost use Prim.Native.Nat.{_≤_};
 ghost use Rattle.standard.specs.Choice.{andAlso};

@@ -1,7 +1,7 @@
 // A bit vector of the caller's, changed where it lies.
 use bitfield::BitVector;
-use standard::Told;
 use bitfield::VectorResult;
+use standard::Told;
 ghost use mathlib.Core.Path.{_≡_};
 ghost use Rattle.bitfield.specs.Vectors.{vectorSet, vectorNot, vectorDifference};
 ghost use Rattle.lent.specs.Left.{vectorLeft};

@@ -16,7 +16,6 @@ use crate::bits::n_of;
 use bitfield::BitList;
 use bitfield::CountResult;
 use bitfield::ListResult;
-use standard::Told;
 use cases::Verdict;
 use cases::is_formed;
 use cases::is_number;
@@ -24,6 +23,7 @@ use cases::number;
 use cases::part;
 use cases::told;
 use standard::Maybe;
+use standard::Told;
 
 fn field_of(held: &[u8]) -> BitList {
     BitList {

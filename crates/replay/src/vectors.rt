@@ -15,7 +15,6 @@ use crate::bits::len_of;
 use crate::bits::n_of;
 use bitfield::BitVector;
 use bitfield::CountResult;
-use standard::Told;
 use bitfield::VectorResult;
 use cases::Verdict;
 use cases::is_formed;
@@ -24,6 +23,7 @@ use cases::number;
 use cases::part;
 use cases::told;
 use standard::Maybe;
+use standard::Told;
 
 fn field_of(held: &[u8]) -> BitVector {
     BitVector {

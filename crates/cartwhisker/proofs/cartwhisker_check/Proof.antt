@@ -23,10 +23,17 @@ which-of-requires : tie.Need-which-of-requires
 which-of-requires c κs = search needs
 
 returns-2 : tie.Need-returns-2
-returns-2 c = rw (le-ltb _ _ (c .before .before .before .if1 .left), ← c .before .before .check .ensures, c .enum-told .given .1)
+returns-2 c =
+    let c2 = c .before .before in
+    let c3 = c2 .before in
+    rw (le-ltb _ _ (c3 .if1 .left), ← c2 .check .ensures, c .enum-told .given .1)
 
 returns-3 : tie.Need-returns-3
-returns-3 c = rw (le-ltb _ _ (c .before .before .before .before .before .before .if1 .left), ← c .before .before .before .before .before .check .ensures, c .before .before .before .r .given .1, ← c .before .numbers .ensures) (c .which-of .ensures)
+returns-3 c =
+    let c3 = c .before .before .before in
+    let c5 = c3 .before .before in
+    let c6 = c5 .before in
+    rw (le-ltb _ _ (c6 .if1 .left), ← c5 .check .ensures, c3 .r .given .1, ← c .before .numbers .ensures) (c .which-of .ensures)
 
 pub cartwhisker-check-spec : {M : Type 1} → statement M
 cartwhisker-check-spec =

@@ -16,7 +16,10 @@ returns-4 : tie.Need-returns-4
 returns-4 c = rw (c .if4 .taken)
 
 returns-5 : tie.Need-returns-5
-returns-5 c = rw (ne-eqb _ _ (c .before .before .before .if1 .left), ne-eqb _ _ (c .before .before .if2 .left), ne-eqb _ _ (c .before .if3 .left), ne-eqb _ _ (c .if4 .left))
+returns-5 c =
+    let c2 = c .before .before in
+    let c3 = c2 .before in
+    rw (ne-eqb _ _ (c3 .if1 .left), ne-eqb _ _ (c2 .if2 .left), ne-eqb _ _ (c .before .if3 .left), ne-eqb _ _ (c .if4 .left))
 
 pub which-of-spec : {M : Type 1} → statement M
 which-of-spec = tie.close (tie.spec returns returns-2 returns-3 returns-4 returns-5)

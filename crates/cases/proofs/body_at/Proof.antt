@@ -14,16 +14,24 @@ enum-known-end : tie.Need-enum-known-end
 enum-known-end c = search needs
 
 add-from : tie.Need-add-from
-add-from c = let w = end-within _ _ _ (sym (c .before .end .given .1) ∙ c .before .before .before .part-end .ensures) in omega arith
+add-from c =
+    let c3 = c .before .before .before in
+    let w = end-within _ _ _ (sym (c .before .end .given .1) ∙ c3 .part-end .ensures) in omega arith
 
 sub-result : tie.Need-sub-result
-sub-result c = let w = end-within _ _ _ (sym (c .before .end .given .1) ∙ c .before .before .before .part-end .ensures) in omega arith
+sub-result c =
+    let c3 = c .before .before .before in
+    let w = end-within _ _ _ (sym (c .before .end .given .1) ∙ c3 .part-end .ensures) in omega arith
 
 part-result-start : tie.Need-part-result-start
-part-result-start c = let w = end-within _ _ _ (sym (c .before .end .given .1) ∙ c .before .before .before .part-end .ensures) in omega arith
+part-result-start c =
+    let c3 = c .before .before .before in
+    let w = end-within _ _ _ (sym (c .before .end .given .1) ∙ c3 .part-end .ensures) in omega arith
 
 part-result-end : tie.Need-part-result-end
-part-result-end c = let w = end-within _ _ _ (sym (c .before .end .given .1) ∙ c .before .before .before .part-end .ensures) in omega arith
+part-result-end c =
+    let c3 = c .before .before .before in
+    let w = end-within _ _ _ (sym (c .before .end .given .1) ∙ c3 .part-end .ensures) in omega arith
 
 enum-told : tie.Need-enum-told
 enum-told c = search needs
@@ -33,11 +41,16 @@ slice-aggregate-result c = search needs
 
 returns : tie.Need-returns
 unfolding bodyOf
-returns c = rw (← c .before .before .before .before .part-end .ensures, c .before .before .end .given .1)
+returns c =
+    let c2 = c .before .before in
+    let c4 = c2 .before .before in
+    rw (← c4 .part-end .ensures, c2 .end .given .1)
 
 returns-2 : tie.Need-returns-2
 unfolding bodyOf
-returns-2 c = rw (← c .before .before .before .part-end .ensures, c .before .enum-told .given .1)
+returns-2 c =
+    let c3 = c .before .before .before in
+    rw (← c3 .part-end .ensures, c .before .enum-told .given .1)
 
 pub body-at-spec : {M : Type 1} → statement M
 body-at-spec =

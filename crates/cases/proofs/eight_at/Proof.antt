@@ -21,7 +21,9 @@ add-result : tie.Need-add-result
 add-result c = search needs
 
 returns : tie.Need-returns
-returns c = rw (eight-words (c .before .before .before .args .b .now) (c .before .before .before .args .p)) (omega arith)
+returns c =
+    let c3 = c .before .before .before in
+    rw (eight-words (c3 .args .b .now) (c3 .args .p)) (omega arith)
 
 pub eight-at-spec : {M : Type 1} → statement M
 eight-at-spec =

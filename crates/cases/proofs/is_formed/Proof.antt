@@ -14,7 +14,9 @@ part-requires : tie.Need-part-requires
 part-requires c κs = search needs
 
 returns-2 : tie.Need-returns-2
-returns-2 c = rw (← c .before .before .word-at .ensures .0, eq-eqb _ _ (c .before .if1 .left), ← c .part .ensures)
+returns-2 c =
+    let c2 = c .before .before in
+    rw (← c2 .word-at .ensures .0, eq-eqb _ _ (c .before .if1 .left), ← c .part .ensures)
 
 pub is-formed-spec : {M : Type 1} → statement M
 is-formed-spec = tie.close (tie.spec word-at-requires returns part-requires returns-2)

@@ -15,11 +15,15 @@ enum-told c = search needs
 
 returns : tie.Need-returns
 unfolding nextOf
-returns c = rw (← c .before .before .before .part-end .ensures, c .before .end .given .1)
+returns c =
+    let c3 = c .before .before .before in
+    rw (← c3 .part-end .ensures, c .before .end .given .1)
 
 returns-2 : tie.Need-returns-2
 unfolding nextOf
-returns-2 c = rw (← c .before .before .part-end .ensures, c .enum-told .given .1)
+returns-2 c =
+    let c2 = c .before .before in
+    rw (← c2 .part-end .ensures, c .enum-told .given .1)
 
 pub next-start-spec : {M : Type 1} → statement M
 next-start-spec = tie.close (tie.spec part-end-requires enum-known-end enum-told returns returns-2)

@@ -29,14 +29,19 @@ loop-less c = omega arith
 
 loop-again : tie.Need-loop-again Inv-loop μ-loop
 unfolding startOf
-loop-again c = (omega arith, rw (add-one, ← c .before .before .loop .inv .1) (c .next-start .ensures))
+loop-again c =
+    let c2 = c .before .before in
+    (omega arith, rw (add-one, ← c2 .loop .inv .1) (c .next-start .ensures))
 
 body-at-requires : tie.Need-body-at-requires Inv-loop μ-loop
 body-at-requires c κs = search needs
 
 returns : tie.Need-returns Inv-loop μ-loop
-returns c = let e : c .before .before .loop .k ≡ c .before .before .before .before .args .i = omega arith in
-    rw (← e, ← c .before .before .loop .inv .1) (c .body-at .ensures)
+returns c =
+    let c2 = c .before .before in
+    let c4 = c2 .before .before in
+    let e : c2 .loop .k ≡ c4 .args .i = omega arith in
+    rw (← e, ← c2 .loop .inv .1) (c .body-at .ensures)
 
 pub part-spec : {M : Type 1} → statement M
 part-spec =

@@ -36,8 +36,14 @@ enum-told c = search needs
 
 returns-2 : tie.Need-returns-2 Inv-loop μ-loop
 unfolding recordEnd
-returns-2 c = rw (le-ltb _ _ (c .before .before .before .before .before .before .if1 .left), ← c .before .before .before .before .before .word-at .ensures .0)
-    (row-cut _ _ _ (c .before .before .before .loop-test .taken) (sym (c .enum-told .given .1) ∙ c .before .before .part-end .ensures) ∙ c .before .before .before .before .loop .inv)
+returns-2 c =
+    let c2 = c .before .before in
+    let c3 = c2 .before in
+    let c4 = c3 .before in
+    let c5 = c4 .before in
+    let c6 = c5 .before in
+    rw (le-ltb _ _ (c6 .if1 .left), ← c5 .word-at .ensures .0)
+    (row-cut _ _ _ (c3 .loop-test .taken) (sym (c .enum-told .given .1) ∙ c2 .part-end .ensures) ∙ c4 .loop .inv)
 
 sub-left : tie.Need-sub-left Inv-loop μ-loop
 sub-left c = omega arith
@@ -46,12 +52,19 @@ loop-less : tie.Need-loop-less Inv-loop μ-loop
 loop-less c = omega arith
 
 loop-again : tie.Need-loop-again Inv-loop μ-loop
-loop-again c = row-more _ _ _ _ (c .before .before .before .before .loop-test .taken) (sym (c .before .end .given .1) ∙ c .before .before .before .part-end .ensures) ∙ c .before .before .before .before .before .loop .inv
+loop-again c =
+    let c3 = c .before .before .before in
+    let c4 = c3 .before in
+    let c5 = c4 .before in
+    row-more _ _ _ _ (c4 .loop-test .taken) (sym (c .before .end .given .1) ∙ c3 .part-end .ensures) ∙ c5 .loop .inv
 
 returns-3 : tie.Need-returns-3 Inv-loop μ-loop
 unfolding recordEnd
-returns-3 c = let e : c .before .loop .left ≡ 0 = omega arith in
-    rw (le-ltb _ _ (c .before .before .before .if1 .left), ← c .before .before .word-at .ensures .0) (row-none _ _ ∙ (rw e at (c .before .loop .inv)))
+returns-3 c =
+    let c2 = c .before .before in
+    let c3 = c2 .before in
+    let e : c .before .loop .left ≡ 0 = omega arith in
+    rw (le-ltb _ _ (c3 .if1 .left), ← c2 .word-at .ensures .0) (row-none _ _ ∙ (rw e at (c .before .loop .inv)))
 
 pub record-end-spec : {M : Type 1} → statement M
 record-end-spec =

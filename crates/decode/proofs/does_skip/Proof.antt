@@ -19,7 +19,9 @@ returns : tie.Need-returns
 returns c = search needs
 
 returns-2 : tie.Need-returns-2
-returns-2 c = rw (c .before .fixed .given .1, c .before .before .before .enum-told2 .given .1)
+returns-2 c =
+    let c3 = c .before .before .before in
+    rw (c .before .fixed .given .1, c3 .enum-told2 .given .1)
 
 returns-3 : tie.Need-returns-3
 returns-3 c = search needs

@@ -14,7 +14,9 @@ returns : tie.Need-returns
 returns c = rw (eq-eqb _ _ (c .if1 .taken))
 
 returns-2 : tie.Need-returns-2
-returns-2 c = rw (ne-eqb _ _ (c .before .before .if1 .left)) (c .new .ensures)
+returns-2 c =
+    let c2 = c .before .before in
+    rw (ne-eqb _ _ (c2 .if1 .left)) (c .new .ensures)
 
 pub split-union-bytes-spec : {M : Type 1} → statement M
 split-union-bytes-spec = tie.close (tie.spec shared-slice-read-new new-requires returns returns-2)

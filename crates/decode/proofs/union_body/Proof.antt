@@ -27,7 +27,8 @@ returns c = drop-none _ (c .if1 .taken)
 
 returns-2 : tie.Need-returns-2
 returns-2 c =
-    let b = c .before .before .args .bytes .now in
+    let c2 = c .before .before in
+    let b = c2 .args .bytes .now in
     take-all (length b - 1) (drop 1 b) (simp length-drop (omega arith))
 
 pub union-body-spec : {M : Type 1} → statement M

@@ -16,10 +16,14 @@ enum-told : tie.Need-enum-told
 enum-told c = search needs
 
 returns : tie.Need-returns
-returns c = ap toldOf (sym (c .before .c .given .1) ∙ table-checked _ _ (c .before .before .before .table-of .ensures))
+returns c =
+    let c3 = c .before .before .before in
+    ap toldOf (sym (c .before .c .given .1) ∙ table-checked _ _ (c3 .table-of .ensures))
 
 returns-2 : tie.Need-returns-2
-returns-2 c = ap toldOf (sym (c .enum-told .given .1) ∙ table-checked _ _ (c .before .before .table-of .ensures))
+returns-2 c =
+    let c2 = c .before .before in
+    ap toldOf (sym (c .enum-told .given .1) ∙ table-checked _ _ (c2 .table-of .ensures))
 
 pub layout-check-spec : {M : Type 1} → statement M
 layout-check-spec = tie.close (tie.spec table-of-requires enum-known-c enum-told returns returns-2)

@@ -26,11 +26,19 @@ add-t11 c = search needs
 
 returns-2 : tie.Need-returns-2
 unfolding leafEnd count
-returns-2 c = rw (lt-ltb _ _ (c .before .before .before .before .if1 .left), ← c .before .before .before .word-at .ensures .0, ← c .before .before .word-at2 .ensures .0, ← c .before .leaf-ok .ensures, c .if2 .taken)
+returns-2 c =
+    let c2 = c .before .before in
+    let c3 = c2 .before in
+    let c4 = c3 .before in
+    rw (lt-ltb _ _ (c4 .if1 .left), ← c3 .word-at .ensures .0, ← c2 .word-at2 .ensures .0, ← c .before .leaf-ok .ensures, c .if2 .taken)
 
 returns-3 : tie.Need-returns-3
 unfolding leafEnd count
-returns-3 c = rw (lt-ltb _ _ (c .before .before .before .before .if1 .left), ← c .before .before .before .word-at .ensures .0, ← c .before .before .word-at2 .ensures .0, ← c .before .leaf-ok .ensures, c .if2 .left)
+returns-3 c =
+    let c2 = c .before .before in
+    let c3 = c2 .before in
+    let c4 = c3 .before in
+    rw (lt-ltb _ _ (c4 .if1 .left), ← c3 .word-at .ensures .0, ← c2 .word-at2 .ensures .0, ← c .before .leaf-ok .ensures, c .if2 .left)
 
 pub leaf-end-spec : {M : Type 1} → statement M
 leaf-end-spec =

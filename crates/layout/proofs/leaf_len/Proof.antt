@@ -38,7 +38,13 @@ returns-4 c = rw (c .before .if4 .taken)
 
 returns-5 : tie.Need-returns-5
 unfolding leafOf head
-returns-5 c = rw (ne-eqb _ _ (c .before .before .before .before .before .before .if1 .left), ne-eqb _ _ (c .before .before .before .before .if2 .left), ne-eqb _ _ (c .before .before .if3 .left), ne-eqb _ _ (c .if4 .left)) (variable (eqb (c .before .before .before .before .before .before .before .before .args .n .kind) 3) _)
+returns-5 c =
+    let c2 = c .before .before in
+    let c4 = c2 .before .before in
+    let c6 = c4 .before .before in
+    let c8 = c6 .before .before in
+    rw (ne-eqb _ _ (c6 .if1 .left), ne-eqb _ _ (c4 .if2 .left), ne-eqb _ _ (c2 .if3 .left), ne-eqb _ _ (c .if4 .left))
+    (variable (eqb (c8 .args .n .kind) 3) _)
 
 pub leaf-len-spec : {M : Type 1} → statement M
 leaf-len-spec = tie.close (tie.spec returns returns-2 returns-3 add-result returns-4 returns-5)

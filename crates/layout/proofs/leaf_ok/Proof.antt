@@ -17,7 +17,9 @@ returns-3 : tie.Need-returns-3
 returns-3 c = rw (c .if3 .taken)
 
 returns-4 : tie.Need-returns-4
-returns-4 c = rw (ne-eqb _ _ (c .before .before .if1 .left), ne-eqb _ _ (c .before .if2 .left), ne-eqb _ _ (c .if3 .left))
+returns-4 c =
+    let c2 = c .before .before in
+    rw (ne-eqb _ _ (c2 .if1 .left), ne-eqb _ _ (c .before .if2 .left), ne-eqb _ _ (c .if3 .left))
 
 pub leaf-ok-spec : {M : Type 1} → statement M
 leaf-ok-spec = tie.close (tie.spec width-ok-requires returns returns-2 returns-3 returns-4)

@@ -18,7 +18,9 @@ word-at-requires-2 c κs = search needs
 
 returns : tie.Need-returns
 unfolding nodeOf
-returns c = rw (← c .before .before .start-of .ensures .0, c .before .word-at .ensures .0, c .word-at2 .ensures .0)
+returns c =
+    let c2 = c .before .before in
+    rw (← c2 .start-of .ensures .0, c .before .word-at .ensures .0, c .word-at2 .ensures .0)
 
 pub look-spec : {M : Type 1} → statement M
 look-spec =

@@ -18,11 +18,16 @@ word-at-requires c κs = search needs
 
 returns-2 : tie.Need-returns-2
 unfolding many count
-returns-2 c = rw (lt-ltb _ _ (c .before .before .if1 .left), ← c .before .word-at .ensures .0, c .if2 .taken)
+returns-2 c =
+    let c2 = c .before .before in
+    rw (lt-ltb _ _ (c2 .if1 .left), ← c .before .word-at .ensures .0, c .if2 .taken)
 
 returns-3 : tie.Need-returns-3
 unfolding many count
-returns-3 c = rw (lt-ltb _ _ (c .before .before .before .if1 .left), ← c .before .before .word-at .ensures .0, lt-ltb 0 (c .before .before .word-at .result) (omega (arith, c .before .if2 .left)), lt-leb _ _ (c .if3 .taken))
+returns-3 c =
+    let c2 = c .before .before in
+    let c3 = c2 .before in
+    rw (lt-ltb _ _ (c3 .if1 .left), ← c2 .word-at .ensures .0, lt-ltb 0 (c2 .word-at .result) (omega (arith, c .before .if2 .left)), lt-leb _ _ (c .if3 .taken))
 
 add-refs-end : tie.Need-add-refs-end
 add-refs-end c = search needs
@@ -32,7 +37,13 @@ refs-end-requires c κs = search needs
 
 returns-4 : tie.Need-returns-4
 unfolding many count
-returns-4 c = rw (lt-ltb _ _ (c .before .before .before .before .if1 .left), ← c .before .before .before .word-at .ensures .0, lt-ltb 0 (c .before .before .before .word-at .result) (omega (arith, c .before .before .if2 .left)), le-leb _ _ (c .before .if3 .left)) (c .refs-end .ensures)
+returns-4 c =
+    let c2 = c .before .before in
+    let c3 = c2 .before in
+    let c4 = c3 .before in
+    rw
+    (lt-ltb _ _ (c4 .if1 .left), ← c3 .word-at .ensures .0, lt-ltb 0 (c3 .word-at .result) (omega (arith, c2 .if2 .left)), le-leb _ _ (c .before .if3 .left))
+    (c .refs-end .ensures)
 
 pub many-end-spec : {M : Type 1} → statement M
 many-end-spec =

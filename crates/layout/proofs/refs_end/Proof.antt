@@ -20,7 +20,9 @@ loop-holds c = (refl, refl)
 
 returns : tie.Need-returns Inv-loop μ-loop
 unfolding count
-returns c = refs-missing _ _ _ _ _ _ (c .before .loop-test .taken) (c .before .before .loop .inv .1) (c .if1 .taken)
+returns c =
+    let c2 = c .before .before in
+    refs-missing _ _ _ _ _ _ (c .before .loop-test .taken) (c2 .loop .inv .1) (c .if1 .taken)
 
 word-at-requires : tie.Need-word-at-requires Inv-loop μ-loop
 word-at-requires c κs = search needs
@@ -30,7 +32,13 @@ may-name-requires c κs = search needs
 
 returns-2 : tie.Need-returns-2 Inv-loop μ-loop
 unfolding count
-returns-2 c = refs-wrong _ _ _ _ _ _ (c .before .before .before .before .loop-test .taken) (c .before .before .before .before .before .loop .inv .1) _ _ (c .before .before .before .if1 .left) (c .before .before .word-at .ensures .0) (c .before .may-name .ensures) (not-true _ (c .if2 .taken))
+returns-2 c =
+    let c2 = c .before .before in
+    let c3 = c2 .before in
+    let c4 = c3 .before in
+    let c5 = c4 .before in
+    refs-wrong _ _ _ _ _ _ (c4 .loop-test .taken) (c5 .loop .inv .1) _ _ (c3 .if1 .left) (c2 .word-at .ensures .0) (c .before .may-name .ensures)
+    (not-true _ (c .if2 .taken))
 
 add-a : tie.Need-add-a Inv-loop μ-loop
 add-a c = omega arith
@@ -43,7 +51,12 @@ loop-less c = omega arith
 
 loop-again : tie.Need-loop-again Inv-loop μ-loop
 unfolding count
-loop-again c = (refl, refs-next _ _ _ _ _ _ (c .before .before .before .before .loop-test .taken) (c .before .before .before .before .before .loop .inv .1) _ _ (c .before .before .before .if1 .left) (c .before .before .word-at .ensures .0) (c .before .may-name .ensures) (not-false _ (c .if2 .left)))
+loop-again c =
+    let c2 = c .before .before in
+    let c3 = c2 .before in
+    let c4 = c3 .before in
+    let c5 = c4 .before in
+    (refl, refs-next _ _ _ _ _ _ (c4 .loop-test .taken) (c5 .loop .inv .1) _ _ (c3 .if1 .left) (c2 .word-at .ensures .0) (c .before .may-name .ensures) (not-false _ (c .if2 .left)))
 
 returns-3 : tie.Need-returns-3 Inv-loop μ-loop
 returns-3 c = sym (refs-none _ _ _ _ _ (c .loop-test .left)) ∙ c .before .loop .inv .1

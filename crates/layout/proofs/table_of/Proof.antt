@@ -23,7 +23,10 @@ refused-requires-2 c κs = search needs
 
 returns-2 : tie.Need-returns-2
 unfolding tableOf count
-returns-2 c = rw (eq-eqb _ _ (c .before .before .if1 .left), le-ltb 0 (length (c .before .before .before .before .args .layout .now) / 4) (omega (arith, c .before .if2 .taken))) (c .refused2 .ensures)
+returns-2 c =
+    let c2 = c .before .before in
+    let c4 = c2 .before .before in
+    rw (eq-eqb _ _ (c2 .if1 .left), le-ltb 0 (length (c4 .args .layout .now) / 4) (omega (arith, c .before .if2 .taken))) (c .refused2 .ensures)
 
 word-at-requires : tie.Need-word-at-requires
 word-at-requires c κs = search needs
@@ -33,21 +36,45 @@ refused-requires-3 c κs = search needs
 
 returns-3 : tie.Need-returns-3
 unfolding tableOf count
-returns-3 c = rw (eq-eqb _ _ (c .before .before .before .before .if1 .left), lt-ltb 0 (length (c .before .before .before .before .before .before .args .layout .now) / 4) (omega (arith, c .before .before .before .if2 .left)), ← c .before .before .word-at .ensures .0, c .before .if3 .taken) (c .refused3 .ensures)
+returns-3 c =
+    let c2 = c .before .before in
+    let c3 = c2 .before in
+    let c4 = c3 .before in
+    let c6 = c4 .before .before in
+    rw
+    (eq-eqb _ _ (c4 .if1 .left), lt-ltb 0 (length (c6 .args .layout .now) / 4) (omega (arith, c3 .if2 .left)), ← c2 .word-at .ensures .0, c .before .if3 .taken)
+    (c .refused3 .ensures)
 
 refused-requires-4 : tie.Need-refused-requires-4
 refused-requires-4 c κs = search needs
 
 returns-4 : tie.Need-returns-4
 unfolding tableOf count
-returns-4 c = rw (eq-eqb _ _ (c .before .before .before .before .before .if1 .left), lt-ltb 0 (length (c .before .before .before .before .before .before .before .args .layout .now) / 4) (omega (arith, c .before .before .before .before .if2 .left)), ← c .before .before .before .word-at .ensures .0, lt-ltb 0 (c .before .before .before .word-at .result) (omega (arith, c .before .before .if3 .left)), lt-leb _ _ (c .before .if4 .taken)) (c .refused4 .ensures)
+returns-4 c =
+    let c2 = c .before .before in
+    let c3 = c2 .before in
+    let c4 = c3 .before in
+    let c5 = c4 .before in
+    let c7 = c5 .before .before in
+    rw
+    (eq-eqb _ _ (c5 .if1 .left), lt-ltb 0 (length (c7 .args .layout .now) / 4) (omega (arith, c4 .if2 .left)), ← c3 .word-at .ensures .0, lt-ltb 0 (c3 .word-at .result) (omega (arith, c2 .if3 .left)), lt-leb _ _ (c .before .if4 .taken))
+    (c .refused4 .ensures)
 
 refused-requires-5 : tie.Need-refused-requires-5
 refused-requires-5 c κs = search needs
 
 returns-5 : tie.Need-returns-5
 unfolding tableOf count
-returns-5 c = rw (eq-eqb _ _ (c .before .before .before .before .before .before .if1 .left), lt-ltb 0 (length (c .before .before .before .before .before .before .before .before .args .layout .now) / 4) (omega (arith, c .before .before .before .before .before .if2 .left)), ← c .before .before .before .before .word-at .ensures .0, lt-ltb 0 (c .before .before .before .before .word-at .result) (omega (arith, c .before .before .before .if3 .left)), le-leb _ _ (c .before .before .if4 .left), le-ltb _ _ (c .before .if5 .taken)) (c .refused5 .ensures)
+returns-5 c =
+    let c2 = c .before .before in
+    let c3 = c2 .before in
+    let c4 = c3 .before in
+    let c5 = c4 .before in
+    let c6 = c5 .before in
+    let c8 = c6 .before .before in
+    rw
+    (eq-eqb _ _ (c6 .if1 .left), lt-ltb 0 (length (c8 .args .layout .now) / 4) (omega (arith, c5 .if2 .left)), ← c4 .word-at .ensures .0, lt-ltb 0 (c4 .word-at .result) (omega (arith, c3 .if3 .left)), le-leb _ _ (c2 .if4 .left), le-ltb _ _ (c .before .if5 .taken))
+    (c .refused5 .ensures)
 
 types-end-requires : tie.Need-types-end-requires
 unfolding filled lengths Legal count

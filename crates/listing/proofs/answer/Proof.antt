@@ -16,13 +16,20 @@ enum-known-listed : tie.Need-enum-known-listed
 enum-known-listed c = search needs
 
 mul-end : tie.Need-mul-end
-mul-end c = omega (arith, records-within _ _ _ _ _ (c .before .before .before .before .list .ensures .0) (c .before .listed .given .1))
+mul-end c =
+    let c4 = c .before .before .before .before in
+    omega (arith, records-within _ _ _ _ _ (c4 .list .ensures .0) (c .before .listed .given .1))
 
 array-share-prefix-records : tie.Need-array-share-prefix-records
-array-share-prefix-records c = omega (arith, records-within _ _ _ _ _ (c .before .before .before .before .list .ensures .0) (c .before .listed .given .1), c .before .before .before .before .list .kept .1 .1 .0)
+array-share-prefix-records c =
+    let c4 = c .before .before .before .before in
+    omega (arith, records-within _ _ _ _ _ (c4 .list .ensures .0) (c .before .listed .given .1), c4 .list .kept .1 .1 .0)
 
 slice-aggregate-listing : tie.Need-slice-aggregate-listing
-slice-aggregate-listing c = simp length-take (omega (arith, records-within _ _ _ _ _ (c .before .before .before .before .before .list .ensures .0) (c .before .before .listed .given .1), c .before .before .before .before .before .list .kept .1 .1 .0))
+slice-aggregate-listing c =
+    let c2 = c .before .before in
+    let c5 = c2 .before .before .before in
+    simp length-take (omega (arith, records-within _ _ _ _ _ (c5 .list .ensures .0) (c2 .listed .given .1), c5 .list .kept .1 .1 .0))
 
 listing-requires : tie.Need-listing-requires
 listing-requires c κs = search needs

@@ -48,7 +48,9 @@ returns-2 c =
     (rw (← c3 .check-under .ensures, c .before .r .given .1), rw (← c3 .check-under .ensures, c .before .r .given .1))
 
 same-length : tie.Need-same-length
-same-length c = stored-length _ _ _ _ _ (c .before .before .list-item .ensures)
+same-length c =
+    let c2 = c .before .before in
+    stored-length _ _ _ _ _ (c2 .list-item .ensures)
 
 returns-3 : tie.Need-returns-3
 returns-3 c =

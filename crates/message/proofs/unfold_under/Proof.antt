@@ -20,31 +20,56 @@ enum-known-r-2 : tie.Need-enum-known-r-2
 enum-known-r-2 c = search needs
 
 returns : tie.Need-returns
-returns c = (rw (← c .before .before .before .before .check-under .ensures, c .before .before .r2 .given .1, lt-ltb _ _ (c .if1 .taken)), (rw (← c .before .before .before .before .check-under .ensures, c .before .before .r2 .given .1, lt-ltb _ _ (c .if1 .taken)), rw (← c .before .before .before .before .check-under .ensures, c .before .before .r2 .given .1, lt-ltb _ _ (c .if1 .taken))))
+returns c =
+    let c2 = c .before .before in
+    let c4 = c2 .before .before in
+    (rw (← c4 .check-under .ensures, c2 .r2 .given .1, lt-ltb _ _ (c .if1 .taken)), (rw (← c4 .check-under .ensures, c2 .r2 .given .1, lt-ltb _ _ (c .if1 .taken)), rw (← c4 .check-under .ensures, c2 .r2 .given .1, lt-ltb _ _ (c .if1 .taken))))
 
 returns-2 : tie.Need-returns-2
-returns-2 c = (rw (← c .before .before .before .before .before .check-under .ensures, c .before .before .before .r2 .given .1, le-ltb _ _ (c .before .if1 .left), lt-ltb _ _ (c .if2 .taken)), (rw (← c .before .before .before .before .before .check-under .ensures, c .before .before .before .r2 .given .1, le-ltb _ _ (c .before .if1 .left), lt-ltb _ _ (c .if2 .taken)), rw (← c .before .before .before .before .before .check-under .ensures, c .before .before .before .r2 .given .1, le-ltb _ _ (c .before .if1 .left), lt-ltb _ _ (c .if2 .taken))))
+returns-2 c =
+    let c3 = c .before .before .before in
+    let c5 = c3 .before .before in
+    (rw (← c5 .check-under .ensures, c3 .r2 .given .1, le-ltb _ _ (c .before .if1 .left), lt-ltb _ _ (c .if2 .taken)), (rw (← c5 .check-under .ensures, c3 .r2 .given .1, le-ltb _ _ (c .before .if1 .left), lt-ltb _ _ (c .if2 .taken)), rw (← c5 .check-under .ensures, c3 .r2 .given .1, le-ltb _ _ (c .before .if1 .left), lt-ltb _ _ (c .if2 .taken))))
 
 sub-last : tie.Need-sub-last
-sub-last c = omega (arith, c .before .before .before .before .before .before .before .before .before .before .before .pre .1)
+sub-last c =
+    let c11 = c .before .before .before .before .before .before .before .before .before .before .before in
+    omega (arith, c11 .pre .1)
 
 unfold-item-requires : tie.Need-unfold-item-requires
 unfold-item-requires c κs =
-    let e : c .before .before .before .before .before .before .before .before .before .before .before .before .before .args .n - 1 + 1 ≡ c .before .before .before .before .before .before .before .before .before .before .before .before .before .args .n = omega (arith, c .before .before .before .before .before .before .before .before .before .before .before .before .before .pre .1) in
-    let q = under-accepted (c .before .before .before .before .before .before .before .before .before .before .before .before .before .args .layout .now) (c .before .before .before .before .before .before .before .before .before .before .before .before .before .args .message .now) (c .before .before .before .before .before .before .before .before .before .before .before .before .before .args .n) _ (sym (c .before .before .before .before .before .before .before .check-under .ensures) ∙ c .before .before .before .before .before .r2 .given .1) in
-    (rw e (c .before .before .before .before .before .before .before .before .before .before .before .before .before .pre .0), q .1, record { accepted = rw (q .0) tt }, form-rooms _ _ _ _ _ (q .0) (c .before .before .before .if1 .left) (c .before .before .if2 .left))
+    let c2 = c .before .before in
+    let c3 = c2 .before in
+    let c5 = c3 .before .before in
+    let c7 = c5 .before .before in
+    let c13 = c7 .before .before .before .before .before .before in
+    let e : c13 .args .n - 1 + 1 ≡ c13 .args .n = omega (arith, c13 .pre .1) in
+    let q = under-accepted (c13 .args .layout .now) (c13 .args .message .now) (c13 .args .n) _ (sym (c7 .check-under .ensures) ∙ c5 .r2 .given .1) in
+    (rw e (c13 .pre .0), q .1, record { accepted = rw (q .0) tt }, form-rooms _ _ _ _ _ (q .0) (c3 .if1 .left) (c2 .if2 .left))
 
 returns-3 : tie.Need-returns-3
-returns-3 c = (rw (← c .before .before .before .check-under .ensures, c .before .r .given .1), (rw (← c .before .before .before .check-under .ensures, c .before .r .given .1), rw (← c .before .before .before .check-under .ensures, c .before .r .given .1)))
+returns-3 c =
+    let c3 = c .before .before .before in
+    (rw (← c3 .check-under .ensures, c .before .r .given .1), (rw (← c3 .check-under .ensures, c .before .r .given .1), rw (← c3 .check-under .ensures, c .before .r .given .1)))
 
 same-length : tie.Need-same-length
-same-length c = stored-length _ _ _ _ _ (c .before .before .before .before .unfold-item .ensures .words)
+same-length c =
+    let c4 = c .before .before .before .before in
+    stored-length _ _ _ _ _ (c4 .unfold-item .ensures .words)
 
 same-length-2 : tie.Need-same-length-2
-same-length-2 c = stored-length _ _ _ _ _ (c .before .before .before .before .unfold-item .ensures .bytes)
+same-length-2 c =
+    let c4 = c .before .before .before .before in
+    stored-length _ _ _ _ _ (c4 .unfold-item .ensures .bytes)
 
 returns-4 : tie.Need-returns-4
-returns-4 c = (rw (← c .before .before .before .before .before .before .before .before .before .before .before .before .check-under .ensures, c .before .before .before .before .before .before .before .before .before .before .r2 .given .1, le-ltb _ _ (c .before .before .before .before .before .before .before .before .if1 .left), le-ltb _ _ (c .before .before .before .before .before .before .before .if2 .left)), (rw (← c .before .before .before .before .before .before .before .before .before .before .before .before .check-under .ensures, c .before .before .before .before .before .before .before .before .before .before .r2 .given .1, le-ltb _ _ (c .before .before .before .before .before .before .before .before .if1 .left), le-ltb _ _ (c .before .before .before .before .before .before .before .if2 .left)) (c .before .before .before .before .unfold-item .ensures .words .list), rw (← c .before .before .before .before .before .before .before .before .before .before .before .before .check-under .ensures, c .before .before .before .before .before .before .before .before .before .before .r2 .given .1, le-ltb _ _ (c .before .before .before .before .before .before .before .before .if1 .left), le-ltb _ _ (c .before .before .before .before .before .before .before .if2 .left)) (c .before .before .before .before .unfold-item .ensures .bytes .list)))
+returns-4 c =
+    let c4 = c .before .before .before .before in
+    let c7 = c4 .before .before .before in
+    let c8 = c7 .before in
+    let c10 = c8 .before .before in
+    let c12 = c10 .before .before in
+    (rw (← c12 .check-under .ensures, c10 .r2 .given .1, le-ltb _ _ (c8 .if1 .left), le-ltb _ _ (c7 .if2 .left)), (rw (← c12 .check-under .ensures, c10 .r2 .given .1, le-ltb _ _ (c8 .if1 .left), le-ltb _ _ (c7 .if2 .left)) (c4 .unfold-item .ensures .words .list), rw (← c12 .check-under .ensures, c10 .r2 .given .1, le-ltb _ _ (c8 .if1 .left), le-ltb _ _ (c7 .if2 .left)) (c4 .unfold-item .ensures .bytes .list)))
 
 pub unfold-under-spec : {M : Type 1} → statement M
 unfold-under-spec =

@@ -16,11 +16,14 @@ raw : (c : tie.Start) → Raw (c .args .t1 .bytes)
 raw c = raw-known _ (search needs) (λ (i : ℕ). search needs)
 
 first-told-requires : tie.Need-first-told-requires
-first-told-requires c κs = raw (c .before .before)
+first-told-requires c κs =
+    let c2 = c .before .before in
+    raw (c2)
 
 fresh-requires : tie.Need-fresh-requires
 fresh-requires c κs =
-    λ told. list-kept _ ((c .before .before .before) .args .t1 .len) ((c .before .before .before) .args .t1 .n) (raw (c .before .before .before)) (sym (c .first-told .ensures) ∙ told) .0 .few
+    let c3 = c .before .before .before in
+    λ told. list-kept _ ((c3) .args .t1 .len) ((c3) .args .t1 .n) (raw (c3)) (sym (c .first-told .ensures) ∙ told) .0 .few
 
 result-of-requires : tie.Need-result-of-requires
 result-of-requires c κs = search needs
@@ -28,8 +31,10 @@ result-of-requires c κs = search needs
 returns : tie.Need-returns
 unfolding listCloneZeroed listTold
 returns c =
-    let a = c .before .before .before .before .before .args .t1 in
-    let made = rw (c .before .before .first-told .ensures) at (c .before .fresh .ensures) in
+    let c2 = c .before .before in
+    let c5 = c2 .before .before .before in
+    let a = c5 .args .t1 in
+    let made = rw (c2 .first-told .ensures) at (c .before .fresh .ensures) in
     list-done a _ (a .n) _ (listTold a) (held (noBits (a .len))) (c .result-of .ensures) made
 
 pub clone-zeroed-spec : {M : Type 1} → statement M

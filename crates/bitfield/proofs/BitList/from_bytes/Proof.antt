@@ -38,9 +38,14 @@ nothing-requires-2 c κs = search needs
 
 read-requires : tie.Need-read-requires
 read-requires c κs =
-    let body = list-says _ _ _ (sym (c .before .before .before .before .bitlist-body .ensures) ∙ c .before .before .body .given .1) in
-    let most = limited-fine _ (sym (c .before .before .before .before .before .before .before .limit-told .ensures) ∙ c .before .before .before .before .before .enum-told2 .given .1) in
-    (omega (arith, body .1, most), omega (arith, body .0), bytes-known _ (c .before .before .before .before .before .before .before .before .shared-slice-known .given))
+    let c2 = c .before .before in
+    let c4 = c2 .before .before in
+    let c5 = c4 .before in
+    let c7 = c5 .before .before in
+    let c8 = c7 .before in
+    let body = list-says _ _ _ (sym (c4 .bitlist-body .ensures) ∙ c2 .body .given .1) in
+    let most = limited-fine _ (sym (c7 .limit-told .ensures) ∙ c5 .enum-told2 .given .1) in
+    (omega (arith, body .1, most), omega (arith, body .0), bytes-known _ (c8 .shared-slice-known .given))
 
 made-requires : tie.Need-made-requires
 made-requires c κs = search needs
@@ -63,22 +68,35 @@ result-of-requires-3 c κs = search needs
 returns : tie.Need-returns
 unfolding listFromBytes
 returns c =
-    let told = sym (c .before .before .before .before .before .limit-told .ensures) ∙ c .before .before .before .enum-told .given .1 in
-    c .result-of .ensures ∙ rw (c .before .refused .ensures, c .before .before .nothing .ensures, told, c .before .before .before .enum-told .given .1)
+    let c2 = c .before .before in
+    let c3 = c2 .before in
+    let c5 = c3 .before .before in
+    let told = sym (c5 .limit-told .ensures) ∙ c3 .enum-told .given .1 in
+    c .result-of .ensures ∙ rw (c .before .refused .ensures, c2 .nothing .ensures, told, c3 .enum-told .given .1)
 
 returns-2 : tie.Need-returns-2
 unfolding listFromBytes
 returns-2 c =
-    let told = sym (c .before .before .before .before .before .before .before .before .before .before .limit-told .ensures) ∙ c .before .before .before .before .before .before .before .before .enum-told2 .given .1 in
-    let body = sym (c .before .before .before .before .before .before .before .bitlist-body .ensures) ∙ c .before .before .before .before .before .body .given .1 in
-    c .result-of2 .ensures ∙ rw (c .before .made .ensures, c .before .before .read .ensures, told, body)
+    let c2 = c .before .before in
+    let c5 = c2 .before .before .before in
+    let c7 = c5 .before .before in
+    let c8 = c7 .before in
+    let c10 = c8 .before .before in
+    let told = sym (c10 .limit-told .ensures) ∙ c8 .enum-told2 .given .1 in
+    let body = sym (c7 .bitlist-body .ensures) ∙ c5 .body .given .1 in
+    c .result-of2 .ensures ∙ rw (c .before .made .ensures, c2 .read .ensures, told, body)
 
 returns-3 : tie.Need-returns-3
 unfolding listFromBytes
 returns-3 c =
-    let told = sym (c .before .before .before .before .before .before .before .before .before .limit-told .ensures) ∙ c .before .before .before .before .before .before .before .enum-told2 .given .1 in
-    let body = sym (c .before .before .before .before .before .before .bitlist-body .ensures) ∙ c .before .before .before .before .body2 .given .1 in
-    c .result-of3 .ensures ∙ rw (c .before .refused2 .ensures, c .before .before .nothing3 .ensures, told, body)
+    let c2 = c .before .before in
+    let c4 = c2 .before .before in
+    let c6 = c4 .before .before in
+    let c7 = c6 .before in
+    let c9 = c7 .before .before in
+    let told = sym (c9 .limit-told .ensures) ∙ c7 .enum-told2 .given .1 in
+    let body = sym (c6 .bitlist-body .ensures) ∙ c4 .body2 .given .1 in
+    c .result-of3 .ensures ∙ rw (c .before .refused2 .ensures, c2 .nothing3 .ensures, told, body)
 
 pub from-bytes-spec : {M : Type 1} → statement M
 from-bytes-spec =

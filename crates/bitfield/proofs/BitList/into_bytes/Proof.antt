@@ -18,7 +18,9 @@ add-need : tie.Need-add-need
 add-need c = search needs
 
 first-told-requires : tie.Need-first-told-requires
-first-told-requires c κs = raw (c .before .before .before)
+first-told-requires c κs =
+    let c3 = c .before .before .before in
+    raw (c3)
 
 room-told-requires : tie.Need-room-told-requires
 room-told-requires c κs = search needs
@@ -32,17 +34,24 @@ enum-told c = search needs
 put-marked-requires : tie.Need-put-marked-requires
 unfolding listTold
 put-marked-requires c κs =
-    let s = c .before .before .before .before .before .before .before .before .before .before in
+    let c3 = c .before .before .before in
+    let c5 = c3 .before .before in
+    let c6 = c5 .before in
+    let c10 = c6 .before .before .before .before in
+    let s = c10 in
     let a = s .args .t1 in
-    let tests = rw (c .before .before .before .before .before .before .first-told .ensures) at (c .before .before .before .before .before .room-told .ensures) in
-    let fine = then-fine (listTold a) (roomFor (a .len / 8 + 1) (length (s .args .out .now))) (sym tests ∙ c .before .before .before .enum-told .given .1) in
+    let tests = rw (c6 .first-told .ensures) at (c5 .room-told .ensures) in
+    let fine = then-fine (listTold a) (roomFor (a .len / 8 + 1) (length (s .args .out .now))) (sym tests ∙ c3 .enum-told .given .1) in
     (list-kept _ (a .len) (a .n) (raw s) (fine .0) .0, room-fine _ _ (fine .1))
 
 returns : tie.Need-returns
 unfolding listTold
 returns c =
-    let s = c .before .before .before .before .before .before .before .before in
-    let tests = rw (c .before .before .before .before .first-told .ensures) at (c .before .before .before .room-told .ensures) in
+    let c3 = c .before .before .before in
+    let c4 = c3 .before in
+    let c8 = c4 .before .before .before .before in
+    let s = c8 in
+    let tests = rw (c4 .first-told .ensures) at (c3 .room-told .ensures) in
     list-into-refused (s .args .t1) (s .args .out .now) _ (sym tests ∙ c .before .told .given .1)
 
 same-length : tie.Need-same-length
@@ -51,9 +60,14 @@ same-length c = search needs
 returns-2 : tie.Need-returns-2
 unfolding listTold
 returns-2 c =
-    let s = c .before .before .before .before .before .before .before .before .before .before .before .before .before in
-    let tests = rw (c .before .before .before .before .before .before .before .before .before .first-told .ensures) at (c .before .before .before .before .before .before .before .before .room-told .ensures) in
-    list-into-fine (s .args .t1) (s .args .out .now) _ (sym tests ∙ c .before .before .before .before .before .before .enum-told .given .1) (c .before .before .put-marked .ensures)
+    let c2 = c .before .before in
+    let c6 = c2 .before .before .before .before in
+    let c8 = c6 .before .before in
+    let c9 = c8 .before in
+    let c13 = c9 .before .before .before .before in
+    let s = c13 in
+    let tests = rw (c9 .first-told .ensures) at (c8 .room-told .ensures) in
+    list-into-fine (s .args .t1) (s .args .out .now) _ (sym tests ∙ c6 .enum-told .given .1) (c2 .put-marked .ensures)
 
 pub into-bytes-spec : {M : Type 1} → statement M
 into-bytes-spec =

@@ -21,9 +21,11 @@ nothing-requires c κs = search needs
 
 fresh-requires : tie.Need-fresh-requires
 fresh-requires c κs =
+    let c2 = c .before .before in
+    let c3 = c2 .before in
     λ told.
-    let a = c .before .before .before .args in
-    let tests = rw (c .before .before .limit-told .ensures) at (c .before .up-to-told .ensures) in
+    let a = c3 .args in
+    let tests = rw (c2 .limit-told .ensures) at (c .before .up-to-told .ensures) in
     let fine = then-fine (limited (a .n)) (upTo (a .len) (a .n)) (sym tests ∙ told) in
     let h = limited-fine (a .n) (fine .0) in
     let k = up-to-fine (a .len) (a .n) (fine .1) in
@@ -35,10 +37,14 @@ result-of-requires c κs = search needs
 returns : tie.Need-returns
 unfolding listWithCapacity
 returns c =
-    let a = c .before .before .before .before .before .args in
-    let tests = rw (c .before .before .before .before .limit-told .ensures) at (c .before .before .before .up-to-told .ensures) in
+    let c2 = c .before .before in
+    let c3 = c2 .before in
+    let c4 = c3 .before in
+    let c5 = c4 .before in
+    let a = c5 .args in
+    let tests = rw (c4 .limit-told .ensures) at (c3 .up-to-told .ensures) in
     let made = rw tests at (c .before .fresh .ensures) in
-    let r = rw (c .before .before .nothing .ensures) at (c .result-of .ensures) in
+    let r = rw (c2 .nothing .ensures) at (c .result-of .ensures) in
     list-done noList _ (a .n) _ (andThen (limited (a .n)) (upTo (a .len) (a .n))) (held (noBits (a .len))) r made
 
 pub with-capacity-spec : {M : Type 1} → statement M

@@ -37,9 +37,13 @@ nothing-requires-2 c κs = search needs
 
 read-requires : tie.Need-read-requires
 read-requires c κs =
-    let body = vector-says _ _ (sym (c .before .before .before .bitvector-body .ensures) ∙ c .before .enum-told3 .given .1) in
-    let most = limited-fine _ (sym (c .before .before .before .before .before .before .limit-told .ensures) ∙ c .before .before .before .before .enum-told2 .given .1) in
-    (most, body, bytes-known _ (c .before .before .before .before .before .before .before .shared-slice-known .given))
+    let c3 = c .before .before .before in
+    let c4 = c3 .before in
+    let c6 = c4 .before .before in
+    let c7 = c6 .before in
+    let body = vector-says _ _ (sym (c3 .bitvector-body .ensures) ∙ c .before .enum-told3 .given .1) in
+    let most = limited-fine _ (sym (c6 .limit-told .ensures) ∙ c4 .enum-told2 .given .1) in
+    (most, body, bytes-known _ (c7 .shared-slice-known .given))
 
 made-requires : tie.Need-made-requires
 made-requires c κs = search needs
@@ -62,22 +66,35 @@ result-of-requires-3 c κs = search needs
 returns : tie.Need-returns
 unfolding vectorFromBytes
 returns c =
-    let told = sym (c .before .before .before .before .before .limit-told .ensures) ∙ c .before .before .before .enum-told .given .1 in
-    c .result-of .ensures ∙ rw (c .before .refused .ensures, c .before .before .nothing .ensures, told, c .before .before .before .enum-told .given .1)
+    let c2 = c .before .before in
+    let c3 = c2 .before in
+    let c5 = c3 .before .before in
+    let told = sym (c5 .limit-told .ensures) ∙ c3 .enum-told .given .1 in
+    c .result-of .ensures ∙ rw (c .before .refused .ensures, c2 .nothing .ensures, told, c3 .enum-told .given .1)
 
 returns-2 : tie.Need-returns-2
 unfolding vectorFromBytes
 returns-2 c =
-    let told = sym (c .before .before .before .before .before .before .before .before .before .limit-told .ensures) ∙ c .before .before .before .before .before .before .before .enum-told2 .given .1 in
-    let body = sym (c .before .before .before .before .before .before .bitvector-body .ensures) ∙ c .before .before .before .before .enum-told3 .given .1 in
-    c .result-of2 .ensures ∙ rw (c .before .made .ensures, c .before .before .read .ensures, told, body)
+    let c2 = c .before .before in
+    let c4 = c2 .before .before in
+    let c6 = c4 .before .before in
+    let c7 = c6 .before in
+    let c9 = c7 .before .before in
+    let told = sym (c9 .limit-told .ensures) ∙ c7 .enum-told2 .given .1 in
+    let body = sym (c6 .bitvector-body .ensures) ∙ c4 .enum-told3 .given .1 in
+    c .result-of2 .ensures ∙ rw (c .before .made .ensures, c2 .read .ensures, told, body)
 
 returns-3 : tie.Need-returns-3
 unfolding vectorFromBytes
 returns-3 c =
-    let told = sym (c .before .before .before .before .before .before .before .before .limit-told .ensures) ∙ c .before .before .before .before .before .before .enum-told2 .given .1 in
-    let body = sym (c .before .before .before .before .before .bitvector-body .ensures) ∙ c .before .before .before .enum-told4 .given .1 in
-    c .result-of3 .ensures ∙ rw (c .before .refused2 .ensures, c .before .before .nothing3 .ensures, told, body, c .before .before .before .enum-told4 .given .1)
+    let c2 = c .before .before in
+    let c3 = c2 .before in
+    let c5 = c3 .before .before in
+    let c6 = c5 .before in
+    let c8 = c6 .before .before in
+    let told = sym (c8 .limit-told .ensures) ∙ c6 .enum-told2 .given .1 in
+    let body = sym (c5 .bitvector-body .ensures) ∙ c3 .enum-told4 .given .1 in
+    c .result-of3 .ensures ∙ rw (c .before .refused2 .ensures, c2 .nothing3 .ensures, told, body, c3 .enum-told4 .given .1)
 
 pub from-bytes-spec : {M : Type 1} → statement M
 from-bytes-spec =

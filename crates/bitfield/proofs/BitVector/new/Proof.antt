@@ -24,9 +24,12 @@ result-of-requires c κs = search needs
 returns : tie.Need-returns
 unfolding vectorNew
 returns c =
-    let a = c .before .before .before .before .args in
-    let made = rw (c .before .before .limit-told .ensures) at (c .before .fresh .ensures) in
-    let r = rw (c .before .before .before .nothing .ensures) at (c .result-of .ensures) in
+    let c2 = c .before .before in
+    let c3 = c2 .before in
+    let c4 = c3 .before in
+    let a = c4 .args in
+    let made = rw (c2 .limit-told .ensures) at (c .before .fresh .ensures) in
+    let r = rw (c3 .nothing .ensures) at (c .result-of .ensures) in
     vector-done noVector _ (a .n) _ (limited (a .n)) (held (noBits (a .n))) r made
 
 pub new-spec : {M : Type 1} → statement M

@@ -36,8 +36,9 @@ list-bits-requires c κs = search needs
 
 returns-3 : tie.Need-returns-3
 returns-3 c =
+    let c3 = c .before .before .before in
     let top = c .before .top-bit .ensures in
-    let known = c .before .before .before .shared-slice-known2 .given in
+    let known = c3 .shared-slice-known2 .given in
     c .list-bits .ensures ∙ marked-here _ _ (bytes-known _ known) (omega arith) top _
 
 pub bitlist-body-spec : {M : Type 1} → statement M

@@ -9,12 +9,15 @@ use Rattle.bitfield.proofs.body.bitvector_body.Tie as tie
 
 none-above-requires : tie.Need-none-above-requires
 none-above-requires c κs =
-    let known = c .before .before .shared-slice-known .given in
+    let c2 = c .before .before in
+    let known = c2 .shared-slice-known .given in
     (omega arith, bytes-known _ known)
 
 returns : tie.Need-returns
 unfolding bitVectorBody
-returns c = rw (eq-eqb _ 0 (c .before .before .if1 .taken), eq-eqb _ 1 (c .before .if2 .taken)) (c .none-above .ensures)
+returns c =
+    let c2 = c .before .before in
+    rw (eq-eqb _ 0 (c2 .if1 .taken), eq-eqb _ 1 (c .before .if2 .taken)) (c .none-above .ensures)
 
 returns-2 : tie.Need-returns-2
 unfolding bitVectorBody
@@ -25,20 +28,24 @@ bytes-for-requires c κs = search needs
 
 none-above-requires-2 : tie.Need-none-above-requires-2
 none-above-requires-2 c κs =
-    let known = c .before .before .before .shared-slice-known .given in
+    let c3 = c .before .before .before in
+    let known = c3 .shared-slice-known .given in
     (omega arith, bytes-known _ known)
 
 returns-3 : tie.Need-returns-3
 unfolding bitVectorBody
 returns-3 c =
-    let b = c .before .before .bytes-for .ensures in
-    rw (ne-eqb _ 0 (c .before .before .before .if1 .left), ← b, eq-eqb _ _ (c .before .if3 .taken)) (c .none-above2 .ensures)
+    let c2 = c .before .before in
+    let c3 = c2 .before in
+    let b = c2 .bytes-for .ensures in
+    rw (ne-eqb _ 0 (c3 .if1 .left), ← b, eq-eqb _ _ (c .before .if3 .taken)) (c .none-above2 .ensures)
 
 returns-4 : tie.Need-returns-4
 unfolding bitVectorBody
 returns-4 c =
+    let c2 = c .before .before in
     let b = c .before .bytes-for .ensures in
-    rw (ne-eqb _ 0 (c .before .before .if1 .left), ← b, ne-eqb _ _ (c .if3 .left))
+    rw (ne-eqb _ 0 (c2 .if1 .left), ← b, ne-eqb _ _ (c .if3 .left))
 
 pub bitvector-body-spec : {M : Type 1} → statement M
 bitvector-body-spec =

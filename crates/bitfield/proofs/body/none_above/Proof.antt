@@ -19,12 +19,14 @@ shr-if2 c = search needs
 
 returns-2 : tie.Need-returns-2
 returns-2 c =
-    let s = c .before .before .before in
+    let c3 = c .before .before .before in
+    let s = c3 in
     within-here _ (s .args .n) (s .pre .1) (omega arith) (c .if2 .taken)
 
 returns-3 : tie.Need-returns-3
 returns-3 c =
-    let s = c .before .before .before in
+    let c3 = c .before .before .before in
+    let s = c3 in
     within-not _ (s .args .n) (s .pre .1) (omega arith) (c .if2 .left)
 
 pub none-above-spec : {M : Type 1} → statement M

@@ -11,13 +11,16 @@ used-bytes-requires c κs = (omega arith, used-all (c .before .args .bytes .now)
 
 returns : tie.Need-returns
 returns c =
-    let s = c .before .before .before in
+    let c3 = c .before .before .before in
+    let s = c3 in
     none-marked _ (s .pre .0) (rw (c .if1 .taken) at (c .before .used-bytes .ensures))
 
 returns-2 : tie.Need-returns-2
 returns-2 c =
-    let s = c .before .before .before in
-    let known = c .before .before .shared-slice-known .given in
+    let c2 = c .before .before in
+    let c3 = c2 .before in
+    let s = c3 in
+    let known = c2 .shared-slice-known .given in
     marked-short _ _ (bytes-known _ known) (s .pre .1) (c .before .used-bytes .ensures) (c .if1 .left)
 
 pub unmarked-spec : {M : Type 1} → statement M

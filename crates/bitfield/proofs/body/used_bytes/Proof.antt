@@ -25,7 +25,8 @@ shared-slice-read-if1 c = omega arith
 
 returns : tie.Need-returns Inv-loop μ-loop
 returns c =
-    let i = c .before .before .before .loop in
+    let c3 = c .before .before .before in
+    let i = c3 .loop in
     used-upto _ _ (i .inv .0) (i .inv .1) (c .if1 .taken)
 
 sub-i : tie.Need-sub-i Inv-loop μ-loop
@@ -36,8 +37,10 @@ loop-less c = omega arith
 
 loop-again : tie.Need-loop-again Inv-loop μ-loop
 loop-again c =
-    let i = c .before .before .before .loop in
-    (omega arith, zero-before _ _ (c .before .before .loop-test .taken) (i .inv .0) (i .inv .1) (c .if1 .left))
+    let c2 = c .before .before in
+    let c3 = c2 .before in
+    let i = c3 .loop in
+    (omega arith, zero-before _ _ (c2 .loop-test .taken) (i .inv .0) (i .inv .1) (c .if1 .left))
 
 returns-2 : tie.Need-returns-2 Inv-loop μ-loop
 returns-2 c =

@@ -9,7 +9,9 @@ enum-told : tie.Need-enum-told
 enum-told c = search needs
 
 count-of-requires : tie.Need-count-of-requires
-count-of-requires c κs = c .before .before .pre (c .enum-told .given .1)
+count-of-requires c κs =
+    let c2 = c .before .before in
+    c2 .pre (c .enum-told .given .1)
 
 enum-known-told : tie.Need-enum-known-told
 enum-known-told c = search needs

@@ -17,8 +17,10 @@ enum-told c = search needs
 
 bit-at-requires : tie.Need-bit-at-requires
 bit-at-requires c κs =
-    let s = c .before .before .before in
-    let fine = then-fine (s .args .told) (inside (s .args .i) (s .args .len)) (sym (c .before .before .inside-told .ensures) ∙ c .enum-told .given .1) in
+    let c2 = c .before .before in
+    let c3 = c2 .before in
+    let s = c3 in
+    let fine = then-fine (s .args .told) (inside (s .args .i) (s .args .len)) (sym (c2 .inside-told .ensures) ∙ c .enum-told .given .1) in
     let k = s .pre (fine .0) in
     let h = inside-fine (s .args .i) (s .args .len) (fine .1) in
     (omega (arith, k .few), k .raw)
@@ -29,14 +31,18 @@ enum-known-all c = search needs
 returns : tie.Need-returns
 unfolding bitsIn
 returns c =
-    let s = c .before .before .before .before in
-    let told = c .before .before .before .inside-told .ensures in
+    let c3 = c .before .before .before in
+    let c4 = c3 .before in
+    let s = c4 in
+    let told = c3 .inside-told .ensures in
     let fine = then-fine (s .args .told) (inside (s .args .i) (s .args .len)) (sym told ∙ c .before .enum-told .given .1) in
     let g = bits-get (s .args .len) _ (s .args .i) (inside-fine _ _ (fine .1)) in
     rw (← told, c .before .enum-told .given .1) (ap Is (c .bit-at .ensures ∙ sym g))
 
 returns-2 : tie.Need-returns-2
-returns-2 c = rw (← c .before .before .before .inside-told .ensures, c .before .all .given .1)
+returns-2 c =
+    let c3 = c .before .before .before in
+    rw (← c3 .inside-told .ensures, c .before .all .given .1)
 
 pub get-bit-spec : {M : Type 1} → statement M
 get-bit-spec =

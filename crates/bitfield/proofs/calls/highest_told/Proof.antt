@@ -11,7 +11,9 @@ enum-told : tie.Need-enum-told
 enum-told c = search needs
 
 highest-of-requires : tie.Need-highest-of-requires
-highest-of-requires c κs = c .before .before .pre (c .enum-told .given .1)
+highest-of-requires c κs =
+    let c2 = c .before .before in
+    c2 .pre (c .enum-told .given .1)
 
 enum-known-top : tie.Need-enum-known-top
 enum-known-top c = search needs
@@ -24,13 +26,17 @@ returns c = rw (c .before .told .given .1)
 
 returns-2 : tie.Need-returns-2
 returns-2 c =
-    let top = sym (c .before .before .before .highest-of .ensures) ∙ c .before .top .given .1 in
-    rw (c .before .before .before .before .enum-told .given .1, top)
+    let c3 = c .before .before .before in
+    let c4 = c3 .before in
+    let top = sym (c3 .highest-of .ensures) ∙ c .before .top .given .1 in
+    rw (c4 .enum-told .given .1, top)
 
 returns-3 : tie.Need-returns-3
 returns-3 c =
-    let top = sym (c .before .before .highest-of .ensures) ∙ c .enum-told2 .given .1 in
-    rw (c .before .before .before .enum-told .given .1, top)
+    let c2 = c .before .before in
+    let c3 = c2 .before in
+    let top = sym (c2 .highest-of .ensures) ∙ c .enum-told2 .given .1 in
+    rw (c3 .enum-told .given .1, top)
 
 pub highest-told-spec : {M : Type 1} → statement M
 highest-told-spec =

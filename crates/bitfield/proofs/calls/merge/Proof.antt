@@ -8,7 +8,9 @@ enum-told : tie.Need-enum-told
 enum-told c = search needs
 
 merged-requires : tie.Need-merged-requires
-merged-requires c κs = c .before .before .pre (c .enum-told .given .1)
+merged-requires c κs =
+    let c2 = c .before .before in
+    c2 .pre (c .enum-told .given .1)
 
 made-requires : tie.Need-made-requires
 made-requires c κs = search needs
@@ -20,7 +22,9 @@ refused-requires : tie.Need-refused-requires
 refused-requires c κs = search needs
 
 returns : tie.Need-returns
-returns c = c .made .ensures ∙ rw (c .before .merged .ensures, c .before .before .enum-told .given .1)
+returns c =
+    let c2 = c .before .before in
+    c .made .ensures ∙ rw (c .before .merged .ensures, c2 .enum-told .given .1)
 
 returns-2 : tie.Need-returns-2
 returns-2 c = c .refused .ensures ∙ rw (c .before .enum-told2 .given .1)

@@ -14,8 +14,10 @@ enum-told c = search needs
 
 changed-requires : tie.Need-changed-requires
 changed-requires c κs =
-    let s = c .before .before .before in
-    let fine = then-fine (s .args .told) (inside (s .args .i) (s .args .len)) (sym (c .before .before .inside-told .ensures) ∙ c .enum-told .given .1) in
+    let c2 = c .before .before in
+    let c3 = c2 .before in
+    let s = c3 in
+    let fine = then-fine (s .args .told) (inside (s .args .i) (s .args .len)) (sym (c2 .inside-told .ensures) ∙ c .enum-told .given .1) in
     (s .pre (fine .0), inside-fine _ _ (fine .1))
 
 made-requires : tie.Need-made-requires
@@ -29,11 +31,15 @@ refused-requires c κs = search needs
 
 returns : tie.Need-returns
 returns c =
+    let c2 = c .before .before in
+    let c4 = c2 .before .before in
     c .made .ensures
-    ∙ rw (c .before .changed .ensures, ← c .before .before .before .before .inside-told .ensures, c .before .before .enum-told .given .1)
+    ∙ rw (c .before .changed .ensures, ← c4 .inside-told .ensures, c2 .enum-told .given .1)
 
 returns-2 : tie.Need-returns-2
-returns-2 c = c .refused .ensures ∙ rw (← c .before .before .before .inside-told .ensures, c .before .enum-told2 .given .1)
+returns-2 c =
+    let c3 = c .before .before .before in
+    c .refused .ensures ∙ rw (← c3 .inside-told .ensures, c .before .enum-told2 .given .1)
 
 pub set-bit-spec : {M : Type 1} → statement M
 set-bit-spec =

@@ -11,14 +11,17 @@ enum-told : tie.Need-enum-told
 enum-told c = search needs
 
 none-from-requires : tie.Need-none-from-requires
-none-from-requires c κs = (omega arith, c .before .before .pre (c .enum-told .given .1) .raw)
+none-from-requires c κs =
+    let c2 = c .before .before in
+    (omega arith, c2 .pre (c .enum-told .given .1) .raw)
 
 enum-known-told : tie.Need-enum-known-told
 enum-known-told c = search needs
 
 returns : tie.Need-returns
 returns c =
-    let s = c .before .before .before in
+    let c3 = c .before .before .before in
+    let s = c3 in
     let fine = c .before .enum-told .given .1 in
     rw fine (ap Is (c .none-from .ensures ∙ none-held _ (s .args .len) (s .pre fine)))
 

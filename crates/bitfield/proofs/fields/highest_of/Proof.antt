@@ -13,7 +13,8 @@ bytes-for-requires c κs = search needs
 
 used-bytes-requires : tie.Need-used-bytes-requires
 used-bytes-requires c κs =
-    let s = c .before .before in
+    let c2 = c .before .before in
+    let s = c2 in
     let b = c .bytes-for .ensures in
     let k = s .pre in
     (rw (k .raw .long) (omega (arith, k .few)), rw b (behind _ (s .args .len) k))
@@ -26,29 +27,37 @@ sub-last c = search needs
 
 mul-t7 : tie.Need-mul-t7
 mul-t7 c =
-    let s = c .before .before .before .before in
+    let c4 = c .before .before .before .before in
+    let s = c4 in
     let u : c .before .used-bytes .result ≤ length (s .args .a .now) = c .before .used-bytes .ensures .upto in
     omega (arith, rw (s .pre .raw .long) at u)
 
 element-copy-out-top-bit : tie.Need-element-copy-out-top-bit
 element-copy-out-top-bit c =
-    let s = c .before .before .before .before in
+    let c4 = c .before .before .before .before in
+    let s = c4 in
     let u : c .before .used-bytes .result ≤ length (s .args .a .now) = c .before .used-bytes .ensures .upto in
     omega (arith, rw (s .pre .raw .long) at u)
 
 top-bit-requires : tie.Need-top-bit-requires
-top-bit-requires c κs = c .before .before .used-bytes .ensures .last (omega arith)
+top-bit-requires c κs =
+    let c2 = c .before .before in
+    c2 .used-bytes .ensures .last (omega arith)
 
 add-t13 : tie.Need-add-t13
 add-t13 c =
-    let s = c .before .before .before .before .before .before in
-    let u : c .before .before .before .used-bytes .result ≤ length (s .args .a .now) = c .before .before .before .used-bytes .ensures .upto in
+    let c3 = c .before .before .before in
+    let c6 = c3 .before .before .before in
+    let s = c6 in
+    let u : c3 .used-bytes .result ≤ length (s .args .a .now) = c3 .used-bytes .ensures .upto in
     omega (arith, rw (s .pre .raw .long) at u, c .top-bit .ensures .small)
 
 returns-2 : tie.Need-returns-2
 returns-2 c =
-    let s = c .before .before .before .before .before .before in
-    let u = c .before .before .before .used-bytes in
+    let c3 = c .before .before .before in
+    let c6 = c3 .before .before .before in
+    let s = c6 in
+    let u = c3 .used-bytes in
     let i = u .result - 1 in
     let e : suc i ≡ u .result = omega arith in
     highest-held (s .args .a .now) _ i _ (s .pre) (omega (arith, u .ensures .upto)) (rw e (u .ensures .zeros)) (c .top-bit .ensures)

@@ -15,7 +15,8 @@ element-copy-out-result c = search needs
 
 returns : tie.Need-returns
 returns c =
-    let s = c .before .before in
+    let c2 = c .before .before in
+    let s = c2 in
     mark-here _ (s .args .len) (s .pre) (c .before .if1 .taken)
 
 returns-2 : tie.Need-returns-2

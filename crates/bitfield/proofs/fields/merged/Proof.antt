@@ -13,22 +13,30 @@ bytes-for-requires c κs = search needs
 
 combine-requires : tie.Need-combine-requires
 combine-requires c κs =
-    let s = c .before .before in
+    let c2 = c .before .before in
+    let s = c2 in
     let few = few-merged (s .args .op) _ _ (s .pre .0 .few) (s .pre .1 .few) in
     (omega (arith, few, c .bytes-for .ensures, c .before .op-len .ensures), s .pre .0 .raw, s .pre .1 .raw)
 
 cut-requires : tie.Need-cut-requires
 cut-requires c κs =
-    let s = c .before .before .before .before in
+    let c2 = c .before .before in
+    let c3 = c2 .before in
+    let c4 = c3 .before in
+    let s = c4 in
     let m = merged-cuttable (s .args .op) _ (s .args .la) _ (s .args .lb) (s .pre .0) (s .pre .1) in
-    rw (c .before .combine .ensures, c .before .before .bytes-for .ensures, c .before .before .before .op-len .ensures) (m .few, m .raw, m .small)
+    rw (c .before .combine .ensures, c2 .bytes-for .ensures, c3 .op-len .ensures) (m .few, m .raw, m .small)
 
 returns : tie.Need-returns
 returns c =
-    let s = c .before .before .before .before .before in
+    let c2 = c .before .before in
+    let c3 = c2 .before in
+    let c4 = c3 .before in
+    let c5 = c4 .before in
+    let s = c5 in
     let h = merged-held (s .args .op) _ (s .args .la) _ (s .args .lb) (s .pre .0) (s .pre .1) in
-    let e = rw (c .before .before .combine .ensures, c .before .before .before .bytes-for .ensures, c .before .before .before .before .op-len .ensures) at (c .cut .ensures) in
-    rw (c .before .before .before .before .op-len .ensures) (h _ e)
+    let e = rw (c2 .combine .ensures, c3 .bytes-for .ensures, c4 .op-len .ensures) at (c .cut .ensures) in
+    rw (c4 .op-len .ensures) (h _ e)
 
 pub merged-spec : {M : Type 1} → statement M
 merged-spec =

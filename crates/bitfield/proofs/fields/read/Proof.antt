@@ -16,16 +16,21 @@ copy-of-requires c κs =
 
 cut-requires : tie.Need-cut-requires
 cut-requires c κs =
-    let s = c .before .before .before .before in
-    let e = rw (c .before .before .bytes-for .ensures) at (c .before .copy-of .ensures) in
+    let c2 = c .before .before in
+    let c4 = c2 .before .before in
+    let s = c4 in
+    let e = rw (c2 .bytes-for .ensures) at (c .before .copy-of .ensures) in
     let n = e ∙ copy-number _ _ (s .pre .2) (omega arith) (s .pre .1) in
     let m = part-cuttable _ (s .args .k) _ (s .pre .0) n in
     (m .few, m .raw, m .small)
 
 returns : tie.Need-returns
 returns c =
-    let s = c .before .before .before .before .before in
-    let e = rw (c .before .before .before .bytes-for .ensures) at (c .before .before .copy-of .ensures) in
+    let c2 = c .before .before in
+    let c3 = c2 .before in
+    let c5 = c3 .before .before in
+    let s = c5 in
+    let e = rw (c3 .bytes-for .ensures) at (c2 .copy-of .ensures) in
     read-held _ _ _ (s .args .k) (s .pre .2) (s .pre .0) (s .pre .1) e (c .cut .ensures)
 
 pub read-spec : {M : Type 1} → statement M

@@ -15,15 +15,20 @@ shifted-requires c κs =
 
 cut-requires : tie.Need-cut-requires
 cut-requires c κs =
-    let s = c .before .before .before in
-    let e = rw (c .before .before .bytes-for .ensures) at (c .before .shifted .ensures) in
+    let c2 = c .before .before in
+    let c3 = c2 .before in
+    let s = c3 in
+    let e = rw (c2 .bytes-for .ensures) at (c .before .shifted .ensures) in
     let m = part-cuttable _ (s .args .len) _ (s .pre .0 .few) e in
     (m .few, m .raw, m .small)
 
 returns : tie.Need-returns
 returns c =
-    let s = c .before .before .before .before in
-    let e = rw (c .before .before .before .bytes-for .ensures) at (c .before .before .shifted .ensures) in
+    let c2 = c .before .before in
+    let c3 = c2 .before in
+    let c4 = c3 .before in
+    let s = c4 in
+    let e = rw (c3 .bytes-for .ensures) at (c2 .shifted .ensures) in
     moved-held _ _ _ (s .args .len) (s .args .n) (s .pre .0) e (c .cut .ensures)
 
 pub upward-spec : {M : Type 1} → statement M

@@ -13,7 +13,9 @@ two-told-requires : tie.Need-two-told-requires
 two-told-requires c κs = search needs
 
 returns : tie.Need-returns
-returns c = rw (← c .before .before .is-list .ensures, ← c .before .is-list2 .ensures) (c .two-told .ensures)
+returns c =
+    let c2 = c .before .before in
+    rw (← c2 .is-list .ensures, ← c .before .is-list2 .ensures) (c .two-told .ensures)
 
 pub pair-told-spec : {M : Type 1} → statement M
 pair-told-spec = tie.close (tie.spec is-list-requires is-list-requires-2 two-told-requires returns)

@@ -10,7 +10,9 @@ enum-known-told : tie.Need-enum-known-told
 enum-known-told c = search needs
 
 returns : tie.Need-returns
-returns c = rw (c .before .before .enum-told .given .1)
+returns c =
+    let c2 = c .before .before in
+    rw (c2 .enum-told .given .1)
 
 returns-2 : tie.Need-returns-2
 returns-2 c = rw (c .before .told .given .1)

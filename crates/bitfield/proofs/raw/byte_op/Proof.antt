@@ -28,7 +28,8 @@ returns-2 c = rw (c .enum-told2 .given .1)
 returns-3 : tie.Need-returns-3
 unfolding opOf
 returns-3 c =
-    let s = c .before .before in
+    let c2 = c .before .before in
+    let s = c2 in
     rw (c .enum-told3 .given .1) (and-not _ _ (s .fits .x .fits) (s .fits .y .fits))
 
 returns-4 : tie.Need-returns-4

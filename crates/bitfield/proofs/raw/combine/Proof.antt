@@ -38,16 +38,19 @@ loop-less c = omega arith
 
 loop-again : tie.Need-loop-again Inv-loop μ-loop
 loop-again c =
-    let s = c .before .before .before .before .before in
-    let l = c .before .before .before .before .loop in
+    let c4 = c .before .before .before .before in
+    let c5 = c4 .before in
+    let s = c5 in
+    let l = c4 .loop in
     let h : l .i < 256 = omega arith in
     let step = firsts-next (opOf (s .args .op)) (l .i) (s .args .a .now) (s .args .b .now) h (rw (s .pre .1 .long) h) (rw (s .pre .2 .long) h) in
     (omega arith, ap (λ (x : ℕ). set (l .out) (l .i) x) (c .byte-op .ensures) ∙ rw (l .inv .1) step)
 
 returns : tie.Need-returns Inv-loop μ-loop
 returns c =
+    let c2 = c .before .before in
     let l = c .before .loop in
-    let e : l .i ≡ c .before .before .args .used = omega arith in
+    let e : l .i ≡ c2 .args .used = omega arith in
     rw e at (l .inv .1)
 
 pub combine-spec : {M : Type 1} → statement M

@@ -31,15 +31,18 @@ loop-less c = omega arith
 
 loop-again : tie.Need-loop-again Inv-loop μ-loop
 loop-again c =
-    let l = c .before .before .loop in
-    let b = c .before .before .before .args .bytes .now in
+    let c2 = c .before .before in
+    let c3 = c2 .before in
+    let l = c2 .loop in
+    let b = c3 .args .bytes .now in
     let step = firsts-next keep (l .i) b b (omega arith) (omega arith) (omega arith) in
     (omega arith, rw (l .inv .1) step)
 
 returns : tie.Need-returns Inv-loop μ-loop
 returns c =
+    let c2 = c .before .before in
     let l = c .before .loop in
-    let e : l .i ≡ c .before .before .args .used = omega arith in
+    let e : l .i ≡ c2 .args .used = omega arith in
     rw e at (l .inv .1)
 
 pub copy-of-spec : {M : Type 1} → statement M

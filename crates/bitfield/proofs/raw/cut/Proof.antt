@@ -10,7 +10,8 @@ bytes-for-requires c κs = search needs
 
 returns : tie.Need-returns
 returns c =
-    let s = c .before .before in
+    let c2 = c .before .before in
+    let s = c2 in
     let b = c .before .bytes-for .ensures in
     cut-none _ _ (s .pre .1) (omega arith) (s .pre .2)
 
@@ -28,8 +29,10 @@ element-write-bytes c = search needs
 
 returns-2 : tie.Need-returns-2
 returns-2 c =
-    let s = c .before .before .before .before in
-    let b = c .before .before .before .bytes-for .ensures in
+    let c3 = c .before .before .before in
+    let c4 = c3 .before in
+    let s = c4 in
+    let b = c3 .bytes-for .ensures in
     rw (c .last-byte-mask .ensures, b) (cut-law _ (s .args .len) (s .pre .1) (s .pre .0) (omega arith) (s .pre .2))
 
 pub cut-spec : {M : Type 1} → statement M

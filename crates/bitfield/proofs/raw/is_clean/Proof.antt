@@ -14,7 +14,8 @@ returns c = rw (lt-leb _ 2048 (c .if1 .taken))
 
 returns-2 : tie.Need-returns-2
 returns-2 c =
-    let s = c .before .before in
+    let c2 = c .before .before in
+    let s = c2 in
     clean-full _ (s .args .len) (s .pre) (c .before .if1 .left) (c .if2 .taken)
 
 word-of-requires : tie.Need-word-of-requires
@@ -25,8 +26,11 @@ shr-if3 c = search needs
 
 returns-3 : tie.Need-returns-3
 returns-3 c =
-    let s = c .before .before .before .before in
-    clean-not _ (s .args .len) _ (s .pre) (c .before .before .before .if1 .left) (c .before .before .if2 .left) (c .before .word-of .ensures) (c .if3 .taken)
+    let c2 = c .before .before in
+    let c3 = c2 .before in
+    let c4 = c3 .before in
+    let s = c4 in
+    clean-not _ (s .args .len) _ (s .pre) (c3 .if1 .left) (c2 .if2 .left) (c .before .word-of .ensures) (c .if3 .taken)
 
 add-none-from : tie.Need-add-none-from
 add-none-from c = search needs
@@ -36,8 +40,10 @@ none-from-requires c κs = search needs
 
 returns-4 : tie.Need-returns-4
 returns-4 c =
-    let s = c .before .before .before .before .before in
-    let b = c .before .before in
+    let c2 = c .before .before in
+    let c5 = c2 .before .before .before in
+    let s = c5 in
+    let b = c2 in
     let tests = clean-rest _ (s .args .len) _ (s .pre) (b .before .before .if1 .left) (b .before .if2 .left) (b .word-of .ensures) in
     c .none-from .ensures ∙ tests (c .before .if3 .left)
 

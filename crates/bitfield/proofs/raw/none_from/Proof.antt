@@ -16,7 +16,9 @@ loop-holds : tie.Need-loop-holds Inv-loop μ-loop
 loop-holds c = (omega arith, gathered-start _ _)
 
 word-of-requires : tie.Need-word-of-requires Inv-loop μ-loop
-word-of-requires c κs = (omega arith, c .before .before .pre .1)
+word-of-requires c κs =
+    let c2 = c .before .before in
+    (omega arith, c2 .pre .1)
 
 add-w : tie.Need-add-w Inv-loop μ-loop
 add-w c = omega arith
@@ -26,13 +28,15 @@ loop-less c = omega arith
 
 loop-again : tie.Need-loop-again Inv-loop μ-loop
 loop-again c =
-    let l = c .before .before .loop in
+    let c2 = c .before .before in
+    let l = c2 .loop in
     let e : 8 * (l .w + 1) ≡ 8 * l .w + 8 = omega arith in
     (omega arith, rw e (gathered-next _ _ _ _ _ (c .word-of .ensures) (l .inv .1)))
 
 returns : tie.Need-returns Inv-loop μ-loop
 returns c =
-    let s = c .before .before in
+    let c2 = c .before .before in
+    let s = c2 in
     let l = c .before .loop in
     let e : l .w ≡ 32 = omega arith in
     gathered-end (s .args .bytes .now) (8 * s .args .from) (l .acc) (rw (s .pre .1 .long) (rw e at (l .inv .1)))

@@ -19,7 +19,9 @@ loop-holds : tie.Need-loop-holds Inv-loop μ-loop
 loop-holds c = (omega arith, omega arith, omega arith)
 
 word-of-requires : tie.Need-word-of-requires Inv-loop μ-loop
-word-of-requires c κs = (omega arith, c .before .before .pre .1)
+word-of-requires c κs =
+    let c2 = c .before .before in
+    (omega arith, c2 .pre .1)
 
 ones-of-requires : tie.Need-ones-of-requires Inv-loop μ-loop
 ones-of-requires c κs = tt
@@ -35,14 +37,16 @@ loop-less c = omega arith
 
 loop-again : tie.Need-loop-again Inv-loop μ-loop
 loop-again c =
-    let l = c .before .before .before .loop in
+    let c3 = c .before .before .before in
+    let l = c3 .loop in
     let more = ones-more _ (8 * l .w) _ (c .before .word-of .ensures) in
     let e : 8 * (l .w + 1) ≡ 8 * l .w + 8 = omega arith in
     (omega arith, omega arith, rw e (omega (arith, more, c .ones-of .ensures .0, l .inv .2)))
 
 returns : tie.Need-returns Inv-loop μ-loop
 returns c =
-    let s = c .before .before in
+    let c2 = c .before .before in
+    let s = c2 in
     let l = c .before .loop in
     let e : l .w ≡ s .args .words = omega arith in
     let all = rw e at (l .inv .2) in

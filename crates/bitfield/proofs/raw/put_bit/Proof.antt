@@ -16,7 +16,8 @@ element-write-bytes c = search needs
 
 returns : tie.Need-returns
 returns c =
-    let s = c .before .before in
+    let c2 = c .before .before in
+    let s = c2 in
     put-bit _ (s .args .i) _ _ (s .pre .1) (s .pre .0) (omega arith) (c .with-bit .ensures)
 
 pub put-bit-spec : {M : Type 1} → statement M

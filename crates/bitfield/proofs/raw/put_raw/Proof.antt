@@ -31,8 +31,10 @@ loop-less c = omega arith
 
 loop-again : tie.Need-loop-again Inv-loop μ-loop
 loop-again c =
-    let s = c .before .before .before in
-    let l = c .before .before .loop in
+    let c2 = c .before .before in
+    let c3 = c2 .before in
+    let s = c3 in
+    let l = c2 .loop in
     let h : l .i < 256 = omega arith in
     (omega arith, length-set (l .out) (l .i) _ ∙ l .inv .1, put-next _ _ _ (l .i) (l .inv .2) (rw (s .pre .2 .long) h) (omega arith))
 
@@ -41,8 +43,9 @@ same-length c = c .before .loop .inv .1
 
 returns : tie.Need-returns Inv-loop μ-loop
 returns c =
+    let c2 = c .before .before in
     let l = c .before .loop in
-    let e : l .i ≡ c .before .before .args .used = omega arith in
+    let e : l .i ≡ c2 .args .used = omega arith in
     rw e at (l .inv .2)
 
 pub put-raw-spec : {M : Type 1} → statement M

@@ -25,7 +25,9 @@ spread-requires : tie.Need-spread-requires Inv-loop μ-loop
 spread-requires c κs = omega arith
 
 add-t : tie.Need-add-t Inv-loop μ-loop
-add-t c = omega (arith, c .before .before .before .loop .inv .1 .room, c .spread .ensures .1, c .spread .ensures .2)
+add-t c =
+    let c3 = c .before .before .before in
+    omega (arith, c3 .loop .inv .1 .room, c .spread .ensures .1, c .spread .ensures .2)
 
 low-byte-requires : tie.Need-low-byte-requires Inv-loop μ-loop
 low-byte-requires c κs = tt
@@ -41,14 +43,17 @@ loop-less c = omega arith
 
 loop-again : tie.Need-loop-again Inv-loop μ-loop
 loop-again c =
-    let s = c .before .before .before .before .before in
-    let l = c .before .before .before .before .loop in
+    let c4 = c .before .before .before .before in
+    let c5 = c4 .before in
+    let s = c5 in
+    let l = c4 .loop in
     let e = c .before .spread .ensures .0 in
     (omega arith, rw (c .low-byte .ensures) (shifting-next _ _ _ _ _ (l .i) _ (s .pre .2) (omega arith) (l .inv .1) (rw e)))
 
 returns : tie.Need-returns Inv-loop μ-loop
 returns c =
-    let s = c .before .before in
+    let c2 = c .before .before in
+    let s = c2 in
     let l = c .before .loop in
     let e : l .i ≡ s .args .used = omega arith in
     shifting-end _ (s .args .n) _ _ _ (s .pre .2) (s .pre .0) (rw e at (l .inv .1))

@@ -27,8 +27,10 @@ add-result c = search needs
 
 returns : tie.Need-returns
 returns c =
-    let s = c .before .before .before .before in
-    word-halves _ (s .args .w) _ _ (s .pre .1 .long) (s .pre .0) (c .before .before .word-at .ensures) (c .word-at2 .ensures)
+    let c2 = c .before .before in
+    let c4 = c2 .before .before in
+    let s = c4 in
+    word-halves _ (s .args .w) _ _ (s .pre .1 .long) (s .pre .0) (c2 .word-at .ensures) (c .word-at2 .ensures)
 
 pub word-of-spec : {M : Type 1} → statement M
 word-of-spec =

@@ -12,7 +12,8 @@ returns c = rw (not-true (c .before .args .first) (c .if1 .taken))
 returns-2 : tie.Need-returns-2
 unfolding twoTold
 returns-2 c =
-    let a = c .before .before .args in
+    let c2 = c .before .before in
+    let a = c2 .args in
     rw (not-false (a .first) (c .before .if1 .left), not-true (a .second) (c .if2 .taken))
 
 limit-told-requires : tie.Need-limit-told-requires
@@ -21,14 +22,19 @@ limit-told-requires c κs = search needs
 returns-3 : tie.Need-returns-3
 unfolding twoTold
 returns-3 c =
-    let a = c .before .before .before .before .args in
-    rw (not-false (a .first) (c .before .before .before .if1 .left), not-false (a .second) (c .before .before .if2 .left), eq-eqb _ _ (c .before .if3 .taken)) (c .limit-told .ensures)
+    let c2 = c .before .before in
+    let c3 = c2 .before in
+    let c4 = c3 .before in
+    let a = c4 .args in
+    rw (not-false (a .first) (c3 .if1 .left), not-false (a .second) (c2 .if2 .left), eq-eqb _ _ (c .before .if3 .taken)) (c .limit-told .ensures)
 
 returns-4 : tie.Need-returns-4
 unfolding twoTold
 returns-4 c =
-    let a = c .before .before .before .args in
-    rw (not-false (a .first) (c .before .before .if1 .left), not-false (a .second) (c .before .if2 .left), ne-eqb _ _ (c .if3 .left))
+    let c2 = c .before .before in
+    let c3 = c2 .before in
+    let a = c3 .args in
+    rw (not-false (a .first) (c2 .if1 .left), not-false (a .second) (c .before .if2 .left), ne-eqb _ _ (c .if3 .left))
 
 pub two-told-spec : {M : Type 1} → statement M
 two-told-spec = tie.close (tie.spec returns returns-2 limit-told-requires returns-3 returns-4)

@@ -13,7 +13,9 @@ two-told-requires : tie.Need-two-told-requires
 two-told-requires c κs = search needs
 
 returns : tie.Need-returns
-returns c = rw (← c .before .before .is-vector .ensures, ← c .before .is-vector2 .ensures) (c .two-told .ensures)
+returns c =
+    let c2 = c .before .before in
+    rw (← c2 .is-vector .ensures, ← c .before .is-vector2 .ensures) (c .two-told .ensures)
 
 pub pair-told-spec : {M : Type 1} → statement M
 pair-told-spec =

@@ -13,23 +13,35 @@ enum-told c = search needs
 
 returns : tie.Need-returns
 unfolding build
-returns c = rw (c .before .before .before .first .given .1, lt-ltb _ _ (c .if1 .taken))
+returns c =
+    let c3 = c .before .before .before in
+    rw (c3 .first .given .1, lt-ltb _ _ (c .if1 .taken))
 
 returns-2 : tie.Need-returns-2
 unfolding build
-returns-2 c = rw (c .before .before .before .before .before .first .given .1, le-ltb _ _ (c .before .before .if1 .left), lt-ltb _ _ (c .if2 .taken))
+returns-2 c =
+    let c2 = c .before .before in
+    let c5 = c2 .before .before .before in
+    rw (c5 .first .given .1, le-ltb _ _ (c2 .if1 .left), lt-ltb _ _ (c .if2 .taken))
 
 returns-3 : tie.Need-returns-3
 unfolding build
-returns-3 c = rw (c .before .before .before .before .before .first .given .1, le-ltb _ _ (c .before .before .if1 .left), le-ltb _ _ (c .if2 .left))
+returns-3 c =
+    let c2 = c .before .before in
+    let c5 = c2 .before .before .before in
+    rw (c5 .first .given .1, le-ltb _ _ (c2 .if1 .left), le-ltb _ _ (c .if2 .left))
 
 returns-4 : tie.Need-returns-4
 unfolding build
-returns-4 c = rw (c .before .before .enum-told .given .1, eq-eqb _ _ (c .if3 .taken))
+returns-4 c =
+    let c2 = c .before .before in
+    rw (c2 .enum-told .given .1, eq-eqb _ _ (c .if3 .taken))
 
 returns-5 : tie.Need-returns-5
 unfolding build
-returns-5 c = rw (c .before .before .enum-told .given .1, ne-eqb _ _ (c .if3 .left))
+returns-5 c =
+    let c2 = c .before .before in
+    rw (c2 .enum-told .given .1, ne-eqb _ _ (c .if3 .left))
 
 pub finalize-spec : {M : Type 1} → statement M
 finalize-spec =

@@ -24,10 +24,17 @@ register-variable-requires : tie.Need-register-variable-requires
 register-variable-requires c κs = search needs
 
 returns-3 : tie.Need-returns-3
-returns-3 c = rw (le-ltb _ _ (c .before .before .before .before .before .if1 .left), le-ltb _ _ (c .before .before .before .before .if2 .left), c .before .before .head .given .1) (c .register-fixed .ensures)
+returns-3 c =
+    let c2 = c .before .before in
+    let c4 = c2 .before .before in
+    let c5 = c4 .before in
+    rw (le-ltb _ _ (c5 .if1 .left), le-ltb _ _ (c4 .if2 .left), c2 .head .given .1) (c .register-fixed .ensures)
 
 returns-4 : tie.Need-returns-4
-returns-4 c = rw (le-ltb _ _ (c .before .before .before .before .if1 .left), le-ltb _ _ (c .before .before .before .if2 .left), c .before .enum-told .given .1) (c .register-variable .ensures)
+returns-4 c =
+    let c3 = c .before .before .before in
+    let c4 = c3 .before in
+    rw (le-ltb _ _ (c4 .if1 .left), le-ltb _ _ (c3 .if2 .left), c .before .enum-told .given .1) (c .register-variable .ensures)
 
 pub register-head-spec : {M : Type 1} → statement M
 register-head-spec =

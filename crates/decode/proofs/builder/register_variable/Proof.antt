@@ -33,11 +33,20 @@ enum-known-s-2 c = search needs
 
 returns-2 : tie.Need-returns-2
 unfolding step
-returns-2 c = rw (le-ltb _ _ (c .before .before .before .before .before .before .if1 .left), ← c .before .before .before .before .before .four-at .ensures .0, ← c .before .before .before .before .sanitize-offset .ensures, c .before .before .s .given .1, c .or-just .ensures)
+returns-2 c =
+    let c2 = c .before .before in
+    let c4 = c2 .before .before in
+    let c5 = c4 .before in
+    let c6 = c5 .before in
+    rw (le-ltb _ _ (c6 .if1 .left), ← c5 .four-at .ensures .0, ← c4 .sanitize-offset .ensures, c2 .s .given .1, c .or-just .ensures)
 
 returns-3 : tie.Need-returns-3
 unfolding step
-returns-3 c = rw (le-ltb _ _ (c .before .before .before .before .before .if1 .left), ← c .before .before .before .before .four-at .ensures .0, ← c .before .before .before .sanitize-offset .ensures, c .before .s2 .given .1)
+returns-3 c =
+    let c3 = c .before .before .before in
+    let c4 = c3 .before in
+    let c5 = c4 .before in
+    rw (le-ltb _ _ (c5 .if1 .left), ← c4 .four-at .ensures .0, ← c3 .sanitize-offset .ensures, c .before .s2 .given .1)
 
 pub register-variable-spec : {M : Type 1} → statement M
 register-variable-spec =

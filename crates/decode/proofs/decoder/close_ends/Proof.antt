@@ -46,11 +46,14 @@ loop-less c = omega arith
 
 loop-again : tie.Need-loop-again Inv-loop μ-loop
 loop-again c =
-    let start = c .before .before .before .before in
-    let taken = c .before .before .loop-test .taken in
+    let c2 = c .before .before in
+    let c3 = c2 .before in
+    let c4 = c3 .before in
+    let start = c4 in
+    let taken = c2 .loop-test .taken in
     let starts = start .good .0 .1 .0 .1 in
     let ends = start .good .1 .0 .1 .0 .1 in
-    closing-more _ _ _ _ _ _ _ (c .before .before .before .loop .inv) taken starts ends (start .pre) _ _ (c .before .closed-end .ensures) (c .start-from .ensures)
+    closing-more _ _ _ _ _ _ _ (c3 .loop .inv) taken starts ends (start .pre) _ _ (c .before .closed-end .ensures) (c .start-from .ensures)
 
 returns : tie.Need-returns Inv-loop μ-loop
 returns c = closing-all _ _ _ _ _ _ _ (c .before .loop .inv) (c .loop-test .left)

@@ -25,7 +25,10 @@ array-read-if1 : tie.Need-array-read-if1 Inv-loop μ-loop
 array-read-if1 c = omega arith
 
 returns : tie.Need-returns Inv-loop μ-loop
-returns c = zeros-stop _ _ (c .before .before .before .good .0 .1 .0 .1) (c .before .loop-test .taken) (c .if1 .taken) ∙ c .before .before .loop .inv
+returns c =
+    let c2 = c .before .before in
+    let c3 = c2 .before in
+    zeros-stop _ _ (c3 .good .0 .1 .0 .1) (c .before .loop-test .taken) (c .if1 .taken) ∙ c2 .loop .inv
 
 add-i : tie.Need-add-i Inv-loop μ-loop
 add-i c = omega arith
@@ -34,10 +37,15 @@ loop-less : tie.Need-loop-less Inv-loop μ-loop
 loop-less c = omega arith
 
 loop-again : tie.Need-loop-again Inv-loop μ-loop
-loop-again c = zeros-more _ _ (c .before .before .before .good .0 .1 .0 .1) (c .before .loop-test .taken) (c .if1 .left) ∙ c .before .before .loop .inv
+loop-again c =
+    let c2 = c .before .before in
+    let c3 = c2 .before in
+    zeros-more _ _ (c3 .good .0 .1 .0 .1) (c .before .loop-test .taken) (c .if1 .left) ∙ c2 .loop .inv
 
 returns-2 : tie.Need-returns-2 Inv-loop μ-loop
-returns-2 c = zeros-end _ _ (c .before .before .good .0 .1 .0 .1) (c .loop-test .left) ∙ c .before .loop .inv
+returns-2 c =
+    let c2 = c .before .before in
+    zeros-end _ _ (c2 .good .0 .1 .0 .1) (c .loop-test .left) ∙ c .before .loop .inv
 
 pub is-zero-from-spec : {M : Type 1} → statement M
 is-zero-from-spec =

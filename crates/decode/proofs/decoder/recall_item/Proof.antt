@@ -15,13 +15,17 @@ register-head-requires c κs = search needs
 returns : tie.Need-returns
 unfolding recall
 returns c =
-    let is-open = c .before .before .before .if1 .taken in
-    let offset = c .before .if2 .taken ∙ c .before .before .four-at .ensures .0 in
+    let c2 = c .before .before in
+    let c3 = c2 .before in
+    let is-open = c3 .if1 .taken in
+    let offset = c .before .if2 .taken ∙ c2 .four-at .ensures .0 in
     rw (eq-eqb _ _ is-open, eq-eqb _ _ offset) (c .register-head .ensures)
 
 returns-2 : tie.Need-returns-2
 unfolding recall
-returns-2 c = rw (eq-eqb _ _ (c .before .before .if1 .taken), ← c .before .four-at .ensures .0, ne-eqb _ _ (c .if2 .left))
+returns-2 c =
+    let c2 = c .before .before in
+    rw (eq-eqb _ _ (c2 .if1 .taken), ← c .before .four-at .ensures .0, ne-eqb _ _ (c .if2 .left))
 
 returns-3 : tie.Need-returns-3
 unfolding recall
@@ -29,7 +33,9 @@ returns-3 c = rw (ne-eqb _ _ (c .before .if1 .left), ne-eqb _ _ (c .if3 .taken))
 
 returns-4 : tie.Need-returns-4
 unfolding recall
-returns-4 c = rw (ne-eqb _ _ (c .before .before .if1 .left), eq-eqb _ _ (c .before .if3 .left), lt-ltb _ _ (c .if4 .taken))
+returns-4 c =
+    let c2 = c .before .before in
+    rw (ne-eqb _ _ (c2 .if1 .left), eq-eqb _ _ (c .before .if3 .left), lt-ltb _ _ (c .if4 .taken))
 
 register-head-requires-2 : tie.Need-register-head-requires-2
 register-head-requires-2 c κs = search needs
@@ -37,8 +43,10 @@ register-head-requires-2 c κs = search needs
 returns-5 : tie.Need-returns-5
 unfolding recall
 returns-5 c =
-    let shut = c .before .before .before .if1 .left in
-    let here = c .before .before .if3 .left in
+    let c2 = c .before .before in
+    let c3 = c2 .before in
+    let shut = c3 .if1 .left in
+    let here = c2 .if3 .left in
     let upright = c .before .if4 .left in
     rw (ne-eqb _ _ shut, eq-eqb _ _ here, le-ltb _ _ upright) (c .register-head2 .ensures)
 

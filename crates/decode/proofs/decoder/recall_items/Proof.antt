@@ -42,12 +42,16 @@ enum-known-s-2 c = search needs
 
 returns : tie.Need-returns Inv-loop μ-loop
 returns c =
-    let start = c .before .before .before .before .before .before .before .before in
-    let taken = c .before .before .before .before .loop-test .taken in
+    let c3 = c .before .before .before in
+    let c4 = c3 .before in
+    let c5 = c4 .before in
+    let c8 = c5 .before .before .before in
+    let start = c8 in
+    let taken = c4 .loop-test .taken in
     let starts = start .good .0 .1 .0 .1 in
     let ends = start .good .1 .0 .1 .0 .1 in
-    let item = sym (c .before .s2 .given .1) ∙ c .before .before .before .recall-item .ensures in
-    walking-bad _ _ _ _ _ _ (c .before .before .before .before .before .loop .inv) taken starts ends (start .pre) _ item
+    let item = sym (c .before .s2 .given .1) ∙ c3 .recall-item .ensures in
+    walking-bad _ _ _ _ _ _ (c5 .loop .inv) taken starts ends (start .pre) _ item
 
 add-i : tie.Need-add-i Inv-loop μ-loop
 add-i c = omega arith
@@ -57,12 +61,16 @@ loop-less c = omega arith
 
 loop-again : tie.Need-loop-again Inv-loop μ-loop
 loop-again c =
-    let start = c .before .before .before .before .before .before .before .before in
-    let taken = c .before .before .before .before .loop-test .taken in
+    let c3 = c .before .before .before in
+    let c4 = c3 .before in
+    let c5 = c4 .before in
+    let c8 = c5 .before .before .before in
+    let start = c8 in
+    let taken = c4 .loop-test .taken in
     let starts = start .good .0 .1 .0 .1 in
     let ends = start .good .1 .0 .1 .0 .1 in
-    let item = sym (c .before .s .given .1) ∙ c .before .before .before .recall-item .ensures in
-    walking-more _ _ _ _ _ _ (c .before .before .before .before .before .loop .inv) taken starts ends (start .pre) _ item
+    let item = sym (c .before .s .given .1) ∙ c3 .recall-item .ensures in
+    walking-more _ _ _ _ _ _ (c5 .loop .inv) taken starts ends (start .pre) _ item
 
 returns-2 : tie.Need-returns-2 Inv-loop μ-loop
 returns-2 c = walking-all _ _ _ _ _ _ (c .before .loop .inv) (c .loop-test .left)

@@ -13,12 +13,14 @@ returns c =
 
 returns-2 : tie.Need-returns-2
 returns-2 c =
-    let h : c .before .before .args .size + c .before .before .args .used ≤ 4294967295 = omega arith in
+    let c2 = c .before .before in
+    let h : c2 .args .size + c2 .args .used ≤ 4294967295 = omega arith in
     sym (le-leb _ _ h)
 
 returns-3 : tie.Need-returns-3
 returns-3 c =
-    let h : 4294967295 < c .before .before .args .size + c .before .before .args .used = omega arith in
+    let c2 = c .before .before in
+    let h : 4294967295 < c2 .args .size + c2 .args .used = omega arith in
     sym (lt-leb _ _ h)
 
 pub is-offset-spec : {M : Type 1} → statement M

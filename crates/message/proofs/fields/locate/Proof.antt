@@ -34,7 +34,9 @@ add-next c =
     )
 
 add-after : tie.Need-add-after
-add-after c = omega (arith, c .before .before .before .before .before .before .pre .0 .near)
+add-after c =
+    let c6 = c .before .before .before .before .before .before in
+    omega (arith, c6 .pre .0 .near)
 
 sub-rest : tie.Need-sub-rest
 sub-rest c = search needs

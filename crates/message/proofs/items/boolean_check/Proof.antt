@@ -17,11 +17,15 @@ leaf-requires c κs = search needs
 
 returns-2 : tie.Need-returns-2
 unfolding readItem
-returns-2 c = rw (eq-eqb _ _ (c .before .before .before .if1 .left), lt-ltb _ _ (c .before .if2 .taken)) (c .leaf .ensures)
+returns-2 c =
+    let c3 = c .before .before .before in
+    rw (eq-eqb _ _ (c3 .if1 .left), lt-ltb _ _ (c .before .if2 .taken)) (c .leaf .ensures)
 
 returns-3 : tie.Need-returns-3
 unfolding readItem
-returns-3 c = rw (eq-eqb _ _ (c .before .before .if1 .left), le-ltb _ _ (c .if2 .left))
+returns-3 c =
+    let c2 = c .before .before in
+    rw (eq-eqb _ _ (c2 .if1 .left), le-ltb _ _ (c .if2 .left))
 
 pub boolean-check-spec : {M : Type 1} → statement M
 boolean-check-spec =

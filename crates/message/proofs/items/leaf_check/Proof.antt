@@ -46,7 +46,13 @@ list-check-requires c κs = search needs
 
 returns-6 : tie.Need-returns-6
 unfolding leafOf
-returns-6 c = rw (ne-eqb _ _ (c .before .before .before .before .before .if1 .left), ne-eqb _ _ (c .before .before .before .before .if2 .left), ne-eqb _ _ (c .before .before .before .if3 .left), ne-eqb _ _ (c .before .before .if4 .left), ne-eqb _ _ (c .before .if5 .left)) (c .list-check .ensures)
+returns-6 c =
+    let c2 = c .before .before in
+    let c3 = c2 .before in
+    let c4 = c3 .before in
+    let c5 = c4 .before in
+    rw (ne-eqb _ _ (c5 .if1 .left), ne-eqb _ _ (c4 .if2 .left), ne-eqb _ _ (c3 .if3 .left), ne-eqb _ _ (c2 .if4 .left), ne-eqb _ _ (c .before .if5 .left))
+    (c .list-check .ensures)
 
 pub leaf-check-spec : {M : Type 1} → statement M
 leaf-check-spec =

@@ -21,11 +21,16 @@ enum-known-bits-2 c = search needs
 
 returns : tie.Need-returns
 unfolding readItem
-returns c = rw (← c .before .before .before .before .before .bitlist-body .ensures, c .before .before .before .bits .given .1, ← c .before .raw-bytes .ensures) (c .leaf .ensures)
+returns c =
+    let c3 = c .before .before .before in
+    let c5 = c3 .before .before in
+    rw (← c5 .bitlist-body .ensures, c3 .bits .given .1, ← c .before .raw-bytes .ensures) (c .leaf .ensures)
 
 returns-2 : tie.Need-returns-2
 unfolding readItem
-returns-2 c = rw (← c .before .before .before .bitlist-body .ensures, c .before .bits2 .given .1)
+returns-2 c =
+    let c3 = c .before .before .before in
+    rw (← c3 .bitlist-body .ensures, c .before .bits2 .given .1)
 
 pub list-check-spec : {M : Type 1} → statement M
 list-check-spec =

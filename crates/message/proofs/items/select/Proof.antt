@@ -24,7 +24,10 @@ cast-k c = search needs
 
 returns : tie.Need-returns
 unfolding choose
-returns c = rw (← c .before .before .before .before .before .split-union-bytes .ensures, c .before .before .before .s2 .given .1, ← c .before .get .ensures, le-ltb _ _ (c .if1 .taken))
+returns c =
+    let c3 = c .before .before .before in
+    let c5 = c3 .before .before in
+    rw (← c5 .split-union-bytes .ensures, c3 .s2 .given .1, ← c .before .get .ensures, le-ltb _ _ (c .if1 .taken))
 
 add-place : tie.Need-add-place
 add-place c = search needs
@@ -33,15 +36,27 @@ word-at-requires : tie.Need-word-at-requires
 word-at-requires c κs = search needs
 
 option-at-requires : tie.Need-option-at-requires
-option-at-requires c κs = split-some (c .before .before .before .before .before .before .before .before .before .args .b .now) _ (sym (c .before .before .before .before .before .before .split-union-bytes .ensures) ∙ c .before .before .before .before .s2 .given .1)
+option-at-requires c κs =
+    let c4 = c .before .before .before .before in
+    let c6 = c4 .before .before in
+    let c9 = c6 .before .before .before in
+    split-some (c9 .args .b .now) _ (sym (c6 .split-union-bytes .ensures) ∙ c4 .s2 .given .1)
 
 returns-2 : tie.Need-returns-2
 unfolding choose
-returns-2 c = rw (← c .before .before .before .split-union-bytes .ensures, c .before .s .given .1)
+returns-2 c =
+    let c3 = c .before .before .before in
+    rw (← c3 .split-union-bytes .ensures, c .before .s .given .1)
 
 returns-3 : tie.Need-returns-3
 unfolding choose
-returns-3 c = rw (← c .before .before .before .before .before .before .before .split-union-bytes .ensures, c .before .before .before .before .before .s2 .given .1, ← c .before .before .before .get .ensures, lt-ltb _ _ (c .before .before .if1 .left), ← c .before .word-at .ensures .0) (c .option-at .ensures)
+returns-3 c =
+    let c2 = c .before .before in
+    let c3 = c2 .before in
+    let c5 = c3 .before .before in
+    let c7 = c5 .before .before in
+    rw (← c7 .split-union-bytes .ensures, c5 .s2 .given .1, ← c3 .get .ensures, lt-ltb _ _ (c2 .if1 .left), ← c .before .word-at .ensures .0)
+    (c .option-at .ensures)
 
 pub select-spec : {M : Type 1} → statement M
 select-spec =

@@ -18,11 +18,15 @@ enum-known-told c = search needs
 
 returns : tie.Need-returns
 unfolding readItem
-returns c = rw (← c .before .before .before .bitvector-body .ensures, c .before .enum-told .given .1) (c .leaf .ensures)
+returns c =
+    let c3 = c .before .before .before in
+    rw (← c3 .bitvector-body .ensures, c .before .enum-told .given .1) (c .leaf .ensures)
 
 returns-2 : tie.Need-returns-2
 unfolding readItem
-returns-2 c = rw (← c .before .before .before .bitvector-body .ensures, c .before .told .given .1)
+returns-2 c =
+    let c3 = c .before .before .before in
+    rw (← c3 .bitvector-body .ensures, c .before .told .given .1)
 
 pub vector-check-spec : {M : Type 1} → statement M
 vector-check-spec =

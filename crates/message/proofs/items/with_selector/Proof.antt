@@ -8,13 +8,17 @@ enum-known-r : tie.Need-enum-known-r
 enum-known-r c = search needs
 
 add-requires : tie.Need-add-requires
-add-requires c κs = (record { records = omega arith; words = omega arith; bytes = omega arith }, c .before .before .before .pre _ (c .before .r .given .1))
+add-requires c κs =
+    let c3 = c .before .before .before in
+    (record { records = omega arith; words = omega arith; bytes = omega arith }, c3 .pre _ (c .before .r .given .1))
 
 enum-known-r-2 : tie.Need-enum-known-r-2
 enum-known-r-2 c = search needs
 
 returns : tie.Need-returns
-returns c = rw (c .before .before .r .given .1, c .add .ensures)
+returns c =
+    let c2 = c .before .before in
+    rw (c2 .r .given .1, c .add .ensures)
 
 returns-2 : tie.Need-returns-2
 returns-2 c = rw (c .before .r2 .given .1)

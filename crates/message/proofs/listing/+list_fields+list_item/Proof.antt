@@ -149,7 +149,9 @@ list-fields-list-item-requires t c κs =
     )
 
 list-fields-add-a : (t : ℕ) → list-fields-lts.Need-add-a (list-fields-calls t) (list-fields-at t) list-fields.Post list-fields-Inv-loop list-fields-μ-loop
-list-fields-add-a t c = omega (arith, c .before .before .before .before .before .before .before .before .loop .inv .row .near)
+list-fields-add-a t c =
+    let c8 = c .before .before .before .before .before .before .before .before in
+    omega (arith, c8 .loop .inv .row .near)
 
 list-fields-sub-left : (t : ℕ) → list-fields-lts.Need-sub-left (list-fields-calls t) (list-fields-at t) list-fields.Post list-fields-Inv-loop list-fields-μ-loop
 list-fields-sub-left t c = omega arith
@@ -179,7 +181,9 @@ list-item-put-entry-requires t c κs =
     (room-long _ _ _ _ _ (c5 .pre .1 .3), c5 .pre .1 .1)
 
 list-item-add-next : (t : ℕ) → list-item-lts.Need-add-next (list-item-calls t) (list-item-at t) list-item.Post
-list-item-add-next t c = omega (arith, room-long _ _ _ _ _ (c .before .before .before .before .before .before .before .before .pre .1 .3))
+list-item-add-next t c =
+    let c8 = c .before .before .before .before .before .before .before .before in
+    omega (arith, room-long _ _ _ _ _ (c8 .pre .1 .3))
 
 list-item-look-requires : (t : ℕ) → list-item-lts.Need-look-requires (list-item-calls t) (list-item-at t) list-item.Post
 list-item-look-requires t c κs = search needs
@@ -341,7 +345,9 @@ list-item-returns-4 t c =
     .ensures)
 
 list-item-same-length-5 : (t : ℕ) → list-item-lts.Need-same-length-5 (list-item-calls t) (list-item-at t) list-item.Post
-list-item-same-length-5 t c = stored-length _ _ _ _ _ (c .before .before .before .before .before .before .before .before .put-entry .ensures)
+list-item-same-length-5 t c =
+    let c8 = c .before .before .before .before .before .before .before .before in
+    stored-length _ _ _ _ _ (c8 .put-entry .ensures)
 
 list-item-returns-5 : (t : ℕ) → list-item-lts.Need-returns-5 (list-item-calls t) (list-item-at t) list-item.Post
 list-item-returns-5 t c =

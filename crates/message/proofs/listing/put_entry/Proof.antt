@@ -26,7 +26,11 @@ same-length : tie.Need-same-length
 same-length c = search needs
 
 returns : tie.Need-returns
-returns c = entry-stored _ _ _ _ _ _ _ _ (c .before .before .before .before .before .before .before .before .before .before .put-four .ensures) (c .before .before .before .before .before .before .put-four2 .ensures) (c .before .before .put-four3 .ensures)
+returns c =
+    let c2 = c .before .before in
+    let c6 = c2 .before .before .before .before in
+    let c10 = c6 .before .before .before .before in
+    entry-stored _ _ _ _ _ _ _ _ (c10 .put-four .ensures) (c6 .put-four2 .ensures) (c2 .put-four3 .ensures)
 
 pub put-entry-spec : {M : Type 1} → statement M
 put-entry-spec =

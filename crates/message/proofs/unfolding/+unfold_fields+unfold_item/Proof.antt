@@ -60,28 +60,55 @@ abbrev unfold-item-calls : ℕ → unfold-item-lts.Claims
 unfold-item-calls t = (look-reads.Asked, look-reads.Learnt, unfold-fields-below t, unfold-fields.Post, select-reads.Asked, select-reads.Learnt, put-selector-reads.Asked, put-selector-reads.Learnt, unfold-item-below t, unfold-item.Post, unfold-leaf-reads.Asked, unfold-leaf-reads.Learnt)
 
 unfold-fields-loop-holds : (t : ℕ) → unfold-fields-lts.Need-loop-holds (unfold-fields-calls t) (unfold-fields-at t) unfold-fields.Post unfold-fields-Inv-loop unfold-fields-μ-loop
-unfold-fields-loop-holds t c = record { row = c .before .before .before .before .before .pre .1 .0; ranges = c .before .before .before .before .before .pre .1 .2; accepted = c .before .before .before .before .before .pre .1 .3; rooms = c .before .before .before .before .before .pre .1 .4; words = []; bytes = []; filled = filled-none _ _ _; all-words = refl; all-bytes = refl }
+unfold-fields-loop-holds t c =
+    let c5 = c .before .before .before .before .before in
+    record { row = c5 .pre .1 .0; ranges = c5 .pre .1 .2; accepted = c5 .pre .1 .3; rooms = c5 .pre .1 .4; words = []; bytes = []; filled = filled-none _ _ _; all-words = refl; all-bytes = refl }
 
 unfold-fields-word-at-requires : (t : ℕ) → unfold-fields-lts.Need-word-at-requires (unfold-fields-calls t) (unfold-fields-at t) unfold-fields.Post unfold-fields-Inv-loop unfold-fields-μ-loop
 unfold-fields-word-at-requires t c κs = search needs
 
 unfold-fields-locate-requires : (t : ℕ) → unfold-fields-lts.Need-locate-requires (unfold-fields-calls t) (unfold-fields-at t) unfold-fields.Post unfold-fields-Inv-loop unfold-fields-μ-loop
-unfold-fields-locate-requires t c κs = (c .before .before .loop .inv .row, c .before .loop-test .taken, c .word-at .ensures .0, c .before .before .loop .inv .ranges)
+unfold-fields-locate-requires t c κs =
+    let c2 = c .before .before in
+    (c2 .loop .inv .row, c .before .loop-test .taken, c .word-at .ensures .0, c2 .loop .inv .ranges)
 
 unfold-fields-sub-unfold-item : (t : ℕ) → unfold-fields-lts.Need-sub-unfold-item (unfold-fields-calls t) (unfold-fields-at t) unfold-fields.Post unfold-fields-Inv-loop unfold-fields-μ-loop
-unfold-fields-sub-unfold-item t c = omega (arith, span-ok _ _ _ _ _ _ _ _ (c .before .before .before .before .before .loop .inv .row) (c .before .before .before .before .loop-test .taken) (c .before .before .before .word-at .ensures .0) (c .before .before .before .before .before .loop .inv .ranges) _ (c .before .before .locate .ensures))
+unfold-fields-sub-unfold-item t c =
+    let c2 = c .before .before in
+    let c3 = c2 .before in
+    let c4 = c3 .before in
+    let c5 = c4 .before in
+    omega (arith, span-ok _ _ _ _ _ _ _ _ (c5 .loop .inv .row) (c4 .loop-test .taken) (c3 .word-at .ensures .0) (c5 .loop .inv .ranges) _ (c2 .locate .ensures))
 
 unfold-fields-part-unfold-item-start : (t : ℕ) → unfold-fields-lts.Need-part-unfold-item-start (unfold-fields-calls t) (unfold-fields-at t) unfold-fields.Post unfold-fields-Inv-loop unfold-fields-μ-loop
-unfold-fields-part-unfold-item-start t c = span-ok _ _ _ _ _ _ _ _ (c .before .before .before .before .before .loop .inv .row) (c .before .before .before .before .loop-test .taken) (c .before .before .before .word-at .ensures .0) (c .before .before .before .before .before .loop .inv .ranges) _ (c .before .before .locate .ensures) .0
+unfold-fields-part-unfold-item-start t c =
+    let c2 = c .before .before in
+    let c3 = c2 .before in
+    let c4 = c3 .before in
+    let c5 = c4 .before in
+    span-ok _ _ _ _ _ _ _ _ (c5 .loop .inv .row) (c4 .loop-test .taken) (c3 .word-at .ensures .0) (c5 .loop .inv .ranges) _ (c2 .locate .ensures) .0
 
 unfold-fields-part-unfold-item-end : (t : ℕ) → unfold-fields-lts.Need-part-unfold-item-end (unfold-fields-calls t) (unfold-fields-at t) unfold-fields.Post unfold-fields-Inv-loop unfold-fields-μ-loop
-unfold-fields-part-unfold-item-end t c = span-ok _ _ _ _ _ _ _ _ (c .before .before .before .before .before .loop .inv .row) (c .before .before .before .before .loop-test .taken) (c .before .before .before .word-at .ensures .0) (c .before .before .before .before .before .loop .inv .ranges) _ (c .before .before .locate .ensures) .1
+unfold-fields-part-unfold-item-end t c =
+    let c2 = c .before .before in
+    let c3 = c2 .before in
+    let c4 = c3 .before in
+    let c5 = c4 .before in
+    span-ok _ _ _ _ _ _ _ _ (c5 .loop .inv .row) (c4 .loop-test .taken) (c3 .word-at .ensures .0) (c5 .loop .inv .ranges) _ (c2 .locate .ensures) .1
 
 unfold-fields-unfold-item-requires : (t : ℕ) → unfold-fields-lts.Need-unfold-item-requires (unfold-fields-calls t) (unfold-fields-at t) unfold-fields.Post unfold-fields-Inv-loop unfold-fields-μ-loop
-unfold-fields-unfold-item-requires t c κs = (omega (arith, row-below _ _ _ _ _ _ (c .before .before .before .before .before .before .loop .inv .row) (c .before .before .before .before .before .loop-test .taken) (c .before .before .before .before .word-at .ensures .0), c .before .before .before .before .before .before .before .before .before .before .before .before .pre .0), (row-under _ _ _ _ _ _ (c .before .before .before .before .before .before .loop .inv .row) (c .before .before .before .before .before .loop-test .taken) (c .before .before .before .before .word-at .ensures .0), omega (arith, span-ok _ _ _ _ _ _ _ _ (c .before .before .before .before .before .before .loop .inv .row) (c .before .before .before .before .before .loop-test .taken) (c .before .before .before .before .word-at .ensures .0) (c .before .before .before .before .before .before .loop .inv .ranges) _ (c .before .before .before .locate .ensures), span-length _ _ _ _ _ _ _ _ (c .before .before .before .before .before .before .loop .inv .row) (c .before .before .before .before .before .loop-test .taken) (c .before .before .before .before .word-at .ensures .0) (c .before .before .before .before .before .before .loop .inv .ranges) _ (c .before .before .before .locate .ensures), c .before .before .before .before .before .before .before .before .before .before .before .before .pre .1 .1), filling-accepts _ _ _ _ _ _ _ _ _ _ _ _ _ _ _ _ (c .before .before .before .before .before .before .loop .inv) (c .before .before .before .before .before .loop-test .taken) (c .before .before .before .before .word-at .ensures .0) _ (c .before .before .before .locate .ensures), filling-rooms _ _ _ _ _ _ _ _ _ _ _ _ _ _ _ _ (c .before .before .before .before .before .before .loop .inv) (c .before .before .before .before .before .loop-test .taken) (c .before .before .before .before .word-at .ensures .0) _ (c .before .before .before .locate .ensures)))
+unfold-fields-unfold-item-requires t c κs =
+    let c3 = c .before .before .before in
+    let c4 = c3 .before in
+    let c5 = c4 .before in
+    let c6 = c5 .before in
+    let c12 = c6 .before .before .before .before .before .before in
+    (omega (arith, row-below _ _ _ _ _ _ (c6 .loop .inv .row) (c5 .loop-test .taken) (c4 .word-at .ensures .0), c12 .pre .0), (row-under _ _ _ _ _ _ (c6 .loop .inv .row) (c5 .loop-test .taken) (c4 .word-at .ensures .0), omega (arith, span-ok _ _ _ _ _ _ _ _ (c6 .loop .inv .row) (c5 .loop-test .taken) (c4 .word-at .ensures .0) (c6 .loop .inv .ranges) _ (c3 .locate .ensures), span-length _ _ _ _ _ _ _ _ (c6 .loop .inv .row) (c5 .loop-test .taken) (c4 .word-at .ensures .0) (c6 .loop .inv .ranges) _ (c3 .locate .ensures), c12 .pre .1 .1), filling-accepts _ _ _ _ _ _ _ _ _ _ _ _ _ _ _ _ (c6 .loop .inv) (c5 .loop-test .taken) (c4 .word-at .ensures .0) _ (c3 .locate .ensures), filling-rooms _ _ _ _ _ _ _ _ _ _ _ _ _ _ _ _ (c6 .loop .inv) (c5 .loop-test .taken) (c4 .word-at .ensures .0) _ (c3 .locate .ensures)))
 
 unfold-fields-add-a : (t : ℕ) → unfold-fields-lts.Need-add-a (unfold-fields-calls t) (unfold-fields-at t) unfold-fields.Post unfold-fields-Inv-loop unfold-fields-μ-loop
-unfold-fields-add-a t c = omega (arith, c .before .before .before .before .before .before .before .before .before .before .before .loop .inv .row .near)
+unfold-fields-add-a t c =
+    let c11 = c .before .before .before .before .before .before .before .before .before .before .before in
+    omega (arith, c11 .loop .inv .row .near)
 
 unfold-fields-sub-left : (t : ℕ) → unfold-fields-lts.Need-sub-left (unfold-fields-calls t) (unfold-fields-at t) unfold-fields.Post unfold-fields-Inv-loop unfold-fields-μ-loop
 unfold-fields-sub-left t c = omega arith
@@ -90,7 +117,14 @@ unfold-fields-loop-less : (t : ℕ) → unfold-fields-lts.Need-loop-less (unfold
 unfold-fields-loop-less t c = omega arith
 
 unfold-fields-loop-again : (t : ℕ) → unfold-fields-lts.Need-loop-again (unfold-fields-calls t) (unfold-fields-at t) unfold-fields.Post unfold-fields-Inv-loop unfold-fields-μ-loop
-unfold-fields-loop-again t c = filling-next _ _ _ _ _ _ _ _ _ _ _ _ _ _ _ _ (c .before .before .before .before .before .before .before .before .before .before .before .loop .inv) (c .before .before .before .before .before .before .before .before .before .before .loop-test .taken) (c .before .before .before .before .before .before .before .before .before .word-at .ensures .0) _ (c .before .before .before .before .before .before .before .before .locate .ensures) _ _ _ (c .before .before .before .before .unfold-item .ensures)
+unfold-fields-loop-again t c =
+    let c4 = c .before .before .before .before in
+    let c8 = c4 .before .before .before .before in
+    let c9 = c8 .before in
+    let c10 = c9 .before in
+    let c11 = c10 .before in
+    filling-next _ _ _ _ _ _ _ _ _ _ _ _ _ _ _ _ (c11 .loop .inv) (c10 .loop-test .taken) (c9 .word-at .ensures .0) _ (c8 .locate .ensures) _ _ _
+    (c4 .unfold-item .ensures)
 
 unfold-fields-same-length : (t : ℕ) → unfold-fields-lts.Need-same-length (unfold-fields-calls t) (unfold-fields-at t) unfold-fields.Post unfold-fields-Inv-loop unfold-fields-μ-loop
 unfold-fields-same-length t c = stored-length _ _ _ _ _ (c .before .loop .inv .filled .words)
@@ -105,83 +139,172 @@ unfold-item-look-requires : (t : ℕ) → unfold-item-lts.Need-look-requires (un
 unfold-item-look-requires t c κs = search needs
 
 unfold-item-add-first : (t : ℕ) → unfold-item-lts.Need-add-first (unfold-item-calls t) (unfold-item-at t) unfold-item.Post
-unfold-item-add-first t c = omega (arith, node-ok _ _ _ _ (c .before .look .ensures) (c .before .before .before .before .before .before .before .pre .1 .0) .near)
+unfold-item-add-first t c =
+    let c7 = c .before .before .before .before .before .before .before in
+    omega (arith, node-ok _ _ _ _ (c .before .look .ensures) (c7 .pre .1 .0) .near)
 
 unfold-item-unfold-fields-requires : (t : ℕ) → unfold-item-lts.Need-unfold-fields-requires (unfold-item-calls t) (unfold-item-at t) unfold-item.Post
 unfold-item-unfold-fields-requires t c κs =
-    let k = fields-accepts _ _ _ _ (c .before .before .before .before .before .look .ensures) (c .before .before .before .before .before .before .before .before .before .before .before .pre .1 .0) _ (c .before .before .before .before .before .before .before .before .before .before .before .pre .1 .2) (c .before .before .if1 .taken) in
-    (omega (arith, c .before .before .before .before .before .before .before .before .before .before .before .pre .0), (container-row _ _ _ _ (c .before .before .before .before .before .look .ensures) (c .before .before .before .before .before .before .before .before .before .before .before .pre .1 .0) (c .before .before .if1 .taken), c .before .before .before .before .before .before .before .before .before .before .before .pre .1 .1, k .0, k .1, container-rooms _ _ _ _ (c .before .before .before .before .before .look .ensures) (c .before .before .before .before .before .before .before .before .before .before .before .pre .1 .0) _ (c .before .before .before .before .before .before .before .before .before .before .before .pre .1 .2) (c .before .before .if1 .taken) _ _ _ (c .before .before .before .before .before .before .before .before .before .before .before .pre .1 .3)))
+    let c2 = c .before .before in
+    let c5 = c2 .before .before .before in
+    let c11 = c5 .before .before .before .before .before .before in
+    let k = fields-accepts _ _ _ _ (c5 .look .ensures) (c11 .pre .1 .0) _ (c11 .pre .1 .2) (c2 .if1 .taken) in
+    (omega (arith, c11 .pre .0), (container-row _ _ _ _ (c5 .look .ensures) (c11 .pre .1 .0) (c2 .if1 .taken), c11 .pre .1 .1, k .0, k .1, container-rooms _ _ _ _ (c5 .look .ensures) (c11 .pre .1 .0) _ (c11 .pre .1 .2) (c2 .if1 .taken) _ _ _ (c11 .pre .1 .3)))
 
 unfold-item-select-requires : (t : ℕ) → unfold-item-lts.Need-select-requires (unfold-item-calls t) (unfold-item-at t) unfold-item.Post
-unfold-item-select-requires t c κs = omega (arith, node-ok _ _ _ _ (c .before .before .before .before .before .look .ensures) (c .before .before .before .before .before .before .before .before .before .before .before .pre .1 .0) .near)
+unfold-item-select-requires t c κs =
+    let c5 = c .before .before .before .before .before in
+    let c11 = c5 .before .before .before .before .before .before in
+    omega (arith, node-ok _ _ _ _ (c5 .look .ensures) (c11 .pre .1 .0) .near)
 
 unfold-item-enum-told : (t : ℕ) → unfold-item-lts.Need-enum-told (unfold-item-calls t) (unfold-item-at t) unfold-item.Post
 unfold-item-enum-told t c = search needs
 
 unfold-item-put-selector-requires : (t : ℕ) → unfold-item-lts.Need-put-selector-requires (unfold-item-calls t) (unfold-item-at t) unfold-item.Post
-unfold-item-put-selector-requires t c κs = (union-room _ _ _ _ (c .before .before .before .before .before .before .before .before .before .look .ensures) (c .before .before .before .before .before .before .before .before .before .before .before .before .before .before .before .pre .1 .0) _ (c .before .before .before .before .before .before .before .before .before .before .before .before .before .before .before .pre .1 .2) (c .before .before .before .before .if2 .taken) _ _ _ (c .before .before .before .before .before .before .before .before .before .before .before .before .before .before .before .pre .1 .3), union-long _ _ _ _ (c .before .before .before .before .before .before .before .before .before .look .ensures) (c .before .before .before .before .before .before .before .before .before .before .before .before .before .before .before .pre .1 .0) _ (c .before .before .before .before .before .before .before .before .before .before .before .before .before .before .before .pre .1 .2) (c .before .before .before .before .if2 .taken))
+unfold-item-put-selector-requires t c κs =
+    let c4 = c .before .before .before .before in
+    let c9 = c4 .before .before .before .before .before in
+    let c15 = c9 .before .before .before .before .before .before in
+    (union-room _ _ _ _ (c9 .look .ensures) (c15 .pre .1 .0) _ (c15 .pre .1 .2) (c4 .if2 .taken) _ _ _ (c15 .pre .1 .3), union-long _ _ _ _ (c9 .look .ensures) (c15 .pre .1 .0) _ (c15 .pre .1 .2) (c4 .if2 .taken))
 
 unfold-item-enum-known-c : (t : ℕ) → unfold-item-lts.Need-enum-known-c (unfold-item-calls t) (unfold-item-at t) unfold-item.Post
 unfold-item-enum-known-c t c = search needs
 
 unfold-item-put-selector-requires-2 : (t : ℕ) → unfold-item-lts.Need-put-selector-requires-2 (unfold-item-calls t) (unfold-item-at t) unfold-item.Post
-unfold-item-put-selector-requires-2 t c κs = (union-room _ _ _ _ (c .before .before .before .before .before .before .before .before .before .before .look .ensures) (c .before .before .before .before .before .before .before .before .before .before .before .before .before .before .before .before .pre .1 .0) _ (c .before .before .before .before .before .before .before .before .before .before .before .before .before .before .before .before .pre .1 .2) (c .before .before .before .before .before .if2 .taken) _ _ _ (c .before .before .before .before .before .before .before .before .before .before .before .before .before .before .before .before .pre .1 .3), union-long _ _ _ _ (c .before .before .before .before .before .before .before .before .before .before .look .ensures) (c .before .before .before .before .before .before .before .before .before .before .before .before .before .before .before .before .pre .1 .0) _ (c .before .before .before .before .before .before .before .before .before .before .before .before .before .before .before .before .pre .1 .2) (c .before .before .before .before .before .if2 .taken))
+unfold-item-put-selector-requires-2 t c κs =
+    let c5 = c .before .before .before .before .before in
+    let c10 = c5 .before .before .before .before .before in
+    let c16 = c10 .before .before .before .before .before .before in
+    (union-room _ _ _ _ (c10 .look .ensures) (c16 .pre .1 .0) _ (c16 .pre .1 .2) (c5 .if2 .taken) _ _ _ (c16 .pre .1 .3), union-long _ _ _ _ (c10 .look .ensures) (c16 .pre .1 .0) _ (c16 .pre .1 .2) (c5 .if2 .taken))
 
 unfold-item-sub-unfold-item : (t : ℕ) → unfold-item-lts.Need-sub-unfold-item (unfold-item-calls t) (unfold-item-at t) unfold-item.Post
-unfold-item-sub-unfold-item t c = omega (arith, body-below _ _ _ _ (c .before .before .before .before .before .before .before .before .before .before .before .before .before .before .before .look .ensures) (c .before .before .before .before .before .before .before .before .before .before .before .before .before .before .before .before .before .before .before .before .before .pre .1 .0) (c .before .before .before .before .before .before .before .before .before .before .if2 .taken) _ _ (sym (c .before .before .before .before .before .before .before .c .given .1) ∙ c .before .before .before .before .before .before .before .before .before .select .ensures))
+unfold-item-sub-unfold-item t c =
+    let c7 = c .before .before .before .before .before .before .before in
+    let c9 = c7 .before .before in
+    let c10 = c9 .before in
+    let c15 = c10 .before .before .before .before .before in
+    let c21 = c15 .before .before .before .before .before .before in
+    omega (arith, body-below _ _ _ _ (c15 .look .ensures) (c21 .pre .1 .0) (c10 .if2 .taken) _ _ (sym (c7 .c .given .1) ∙ c9 .select .ensures))
 
 unfold-item-part-unfold-item-start : (t : ℕ) → unfold-item-lts.Need-part-unfold-item-start (unfold-item-calls t) (unfold-item-at t) unfold-item.Post
-unfold-item-part-unfold-item-start t c = omega (arith, body-below _ _ _ _ (c .before .before .before .before .before .before .before .before .before .before .before .before .before .before .before .look .ensures) (c .before .before .before .before .before .before .before .before .before .before .before .before .before .before .before .before .before .before .before .before .before .pre .1 .0) (c .before .before .before .before .before .before .before .before .before .before .if2 .taken) _ _ (sym (c .before .before .before .before .before .before .before .c .given .1) ∙ c .before .before .before .before .before .before .before .before .before .select .ensures))
+unfold-item-part-unfold-item-start t c =
+    let c7 = c .before .before .before .before .before .before .before in
+    let c9 = c7 .before .before in
+    let c10 = c9 .before in
+    let c15 = c10 .before .before .before .before .before in
+    let c21 = c15 .before .before .before .before .before .before in
+    omega (arith, body-below _ _ _ _ (c15 .look .ensures) (c21 .pre .1 .0) (c10 .if2 .taken) _ _ (sym (c7 .c .given .1) ∙ c9 .select .ensures))
 
 unfold-item-part-unfold-item-end : (t : ℕ) → unfold-item-lts.Need-part-unfold-item-end (unfold-item-calls t) (unfold-item-at t) unfold-item.Post
 unfold-item-part-unfold-item-end t c = omega arith
 
 unfold-item-unfold-item-requires : (t : ℕ) → unfold-item-lts.Need-unfold-item-requires (unfold-item-calls t) (unfold-item-at t) unfold-item.Post
 unfold-item-unfold-item-requires t c κs =
-    let z = body-below _ _ _ _ (c .before .before .before .before .before .before .before .before .before .before .before .before .before .before .before .before .look .ensures) (c .before .before .before .before .before .before .before .before .before .before .before .before .before .before .before .before .before .before .before .before .before .before .pre .1 .0) (c .before .before .before .before .before .before .before .before .before .before .before .if2 .taken) _ _ (sym (c .before .before .before .before .before .before .before .before .c .given .1) ∙ c .before .before .before .before .before .before .before .before .before .before .select .ensures) in
-    (omega (arith, c .before .before .before .before .before .before .before .before .before .before .before .before .before .before .before .before .before .before .before .before .before .before .pre .0, z), (under-below _ _ _ _ (omega (arith, z)) (c .before .before .before .before .before .before .before .before .before .before .before .before .before .before .before .before .before .before .before .before .before .before .pre .1 .0), simp (length-take, length-drop) (omega (arith, c .before .before .before .before .before .before .before .before .before .before .before .before .before .before .before .before .before .before .before .before .before .before .pre .1 .1, z)), body-accepts _ _ _ _ (c .before .before .before .before .before .before .before .before .before .before .before .before .before .before .before .before .look .ensures) (c .before .before .before .before .before .before .before .before .before .before .before .before .before .before .before .before .before .before .before .before .before .before .pre .1 .0) _ (c .before .before .before .before .before .before .before .before .before .before .before .before .before .before .before .before .before .before .before .before .before .before .pre .1 .2) (c .before .before .before .before .before .before .before .before .before .before .before .if2 .taken) _ (sym (c .before .before .before .before .before .before .before .before .c .given .1) ∙ c .before .before .before .before .before .before .before .before .before .before .select .ensures), rooms-then _ _ _ _ _ _ _ _ _ _ _ _ (c .before .before .before .before .before .before .before .before .before .before .before .before .before .before .before .before .before .before .before .before .before .before .pre .1 .3) (body-words _ _ _ _ (c .before .before .before .before .before .before .before .before .before .before .before .before .before .before .before .before .look .ensures) (c .before .before .before .before .before .before .before .before .before .before .before .before .before .before .before .before .before .before .before .before .before .before .pre .1 .0) _ (c .before .before .before .before .before .before .before .before .before .before .before .before .before .before .before .before .before .before .before .before .before .before .pre .1 .2) (c .before .before .before .before .before .before .before .before .before .before .before .if2 .taken) _ (sym (c .before .before .before .before .before .before .before .before .c .given .1) ∙ c .before .before .before .before .before .before .before .before .before .before .select .ensures)) (body-bytes _ _ _ _ (c .before .before .before .before .before .before .before .before .before .before .before .before .before .before .before .before .look .ensures) (c .before .before .before .before .before .before .before .before .before .before .before .before .before .before .before .before .before .before .before .before .before .before .pre .1 .0) _ (c .before .before .before .before .before .before .before .before .before .before .before .before .before .before .before .before .before .before .before .before .before .before .pre .1 .2) (c .before .before .before .before .before .before .before .before .before .before .before .if2 .taken) _ (sym (c .before .before .before .before .before .before .before .before .c .given .1) ∙ c .before .before .before .before .before .before .before .before .before .before .select .ensures)) (selector-filled _ _ _ _ _ _ (c .before .before .before .before .before .put-selector2 .ensures .0) (c .before .before .before .before .before .put-selector2 .ensures .1))))
+    let c5 = c .before .before .before .before .before in
+    let c8 = c5 .before .before .before in
+    let c10 = c8 .before .before in
+    let c11 = c10 .before in
+    let c16 = c11 .before .before .before .before .before in
+    let c22 = c16 .before .before .before .before .before .before in
+    let z = body-below _ _ _ _ (c16 .look .ensures) (c22 .pre .1 .0) (c11 .if2 .taken) _ _ (sym (c8 .c .given .1) ∙ c10 .select .ensures) in
+    (omega (arith, c22 .pre .0, z), (under-below _ _ _ _ (omega (arith, z)) (c22 .pre .1 .0), simp (length-take, length-drop) (omega (arith, c22 .pre .1 .1, z)), body-accepts _ _ _ _ (c16 .look .ensures) (c22 .pre .1 .0) _ (c22 .pre .1 .2) (c11 .if2 .taken) _ (sym (c8 .c .given .1) ∙ c10 .select .ensures), rooms-then _ _ _ _ _ _ _ _ _ _ _ _ (c22 .pre .1 .3) (body-words _ _ _ _ (c16 .look .ensures) (c22 .pre .1 .0) _ (c22 .pre .1 .2) (c11 .if2 .taken) _ (sym (c8 .c .given .1) ∙ c10 .select .ensures)) (body-bytes _ _ _ _ (c16 .look .ensures) (c22 .pre .1 .0) _ (c22 .pre .1 .2) (c11 .if2 .taken) _ (sym (c8 .c .given .1) ∙ c10 .select .ensures)) (selector-filled _ _ _ _ _ _ (c5 .put-selector2 .ensures .0) (c5 .put-selector2 .ensures .1))))
 
 unfold-item-enum-told-2 : (t : ℕ) → unfold-item-lts.Need-enum-told-2 (unfold-item-calls t) (unfold-item-at t) unfold-item.Post
 unfold-item-enum-told-2 t c = search needs
 
 unfold-item-unfold-leaf-requires : (t : ℕ) → unfold-item-lts.Need-unfold-leaf-requires (unfold-item-calls t) (unfold-item-at t) unfold-item.Post
-unfold-item-unfold-leaf-requires t c κs = (node-ok _ _ _ _ (c .before .before .before .before .before .before .before .look .ensures) (c .before .before .before .before .before .before .before .before .before .before .before .before .before .pre .1 .0) .small, c .before .before .before .before .before .before .before .before .before .before .before .before .before .pre .1 .1, leaf-accepts _ _ _ _ (c .before .before .before .before .before .before .before .look .ensures) (c .before .before .before .before .before .before .before .before .before .before .before .before .before .pre .1 .0) _ (c .before .before .before .before .before .before .before .before .before .before .before .before .before .pre .1 .2) (c .before .before .before .before .if1 .left) (c .before .before .if2 .left), leaf-rooms _ _ _ _ (c .before .before .before .before .before .before .before .look .ensures) (c .before .before .before .before .before .before .before .before .before .before .before .before .before .pre .1 .0) _ (c .before .before .before .before .before .before .before .before .before .before .before .before .before .pre .1 .2) (c .before .before .before .before .if1 .left) (c .before .before .if2 .left) _ _ _ (c .before .before .before .before .before .before .before .before .before .before .before .before .before .pre .1 .3))
+unfold-item-unfold-leaf-requires t c κs =
+    let c2 = c .before .before in
+    let c4 = c2 .before .before in
+    let c7 = c4 .before .before .before in
+    let c13 = c7 .before .before .before .before .before .before in
+    (node-ok _ _ _ _ (c7 .look .ensures) (c13 .pre .1 .0) .small, c13 .pre .1 .1, leaf-accepts _ _ _ _ (c7 .look .ensures) (c13 .pre .1 .0) _ (c13 .pre .1 .2) (c4 .if1 .left) (c2 .if2 .left), leaf-rooms _ _ _ _ (c7 .look .ensures) (c13 .pre .1 .0) _ (c13 .pre .1 .2) (c4 .if1 .left) (c2 .if2 .left) _ _ _ (c13 .pre .1 .3))
 
 unfold-item-same-length : (t : ℕ) → unfold-item-lts.Need-same-length (unfold-item-calls t) (unfold-item-at t) unfold-item.Post
-unfold-item-same-length t c = stored-length _ _ _ _ _ (c .before .before .before .before .unfold-fields .ensures .words)
+unfold-item-same-length t c =
+    let c4 = c .before .before .before .before in
+    stored-length _ _ _ _ _ (c4 .unfold-fields .ensures .words)
 
 unfold-item-same-length-2 : (t : ℕ) → unfold-item-lts.Need-same-length-2 (unfold-item-calls t) (unfold-item-at t) unfold-item.Post
-unfold-item-same-length-2 t c = stored-length _ _ _ _ _ (c .before .before .before .before .unfold-fields .ensures .bytes)
+unfold-item-same-length-2 t c =
+    let c4 = c .before .before .before .before in
+    stored-length _ _ _ _ _ (c4 .unfold-fields .ensures .bytes)
 
 unfold-item-returns : (t : ℕ) → unfold-item-lts.Need-returns (unfold-item-calls t) (unfold-item-at t) unfold-item.Post
-unfold-item-returns t c = container-filled _ _ _ _ (c .before .before .before .before .before .before .before .before .before .before .look .ensures) (c .before .before .before .before .before .before .before .before .before .before .before .before .before .before .before .before .pre .1 .0) _ (c .before .before .before .before .before .before .before .before .before .before .before .before .before .before .before .before .pre .1 .2) (c .before .before .before .before .before .before .before .if1 .taken) _ _ _ _ _ _ (c .before .before .before .before .unfold-fields .ensures)
+unfold-item-returns t c =
+    let c4 = c .before .before .before .before in
+    let c7 = c4 .before .before .before in
+    let c10 = c7 .before .before .before in
+    let c16 = c10 .before .before .before .before .before .before in
+    container-filled _ _ _ _ (c10 .look .ensures) (c16 .pre .1 .0) _ (c16 .pre .1 .2) (c7 .if1 .taken) _ _ _ _ _ _ (c4 .unfold-fields .ensures)
 
 unfold-item-same-length-3 : (t : ℕ) → unfold-item-lts.Need-same-length-3 (unfold-item-calls t) (unfold-item-at t) unfold-item.Post
-unfold-item-same-length-3 t c = stored-length _ _ _ _ _ (c .before .before .put-selector .ensures .0)
+unfold-item-same-length-3 t c =
+    let c2 = c .before .before in
+    stored-length _ _ _ _ _ (c2 .put-selector .ensures .0)
 
 unfold-item-returns-2 : (t : ℕ) → unfold-item-lts.Need-returns-2 (unfold-item-calls t) (unfold-item-at t) unfold-item.Post
-unfold-item-returns-2 t c = bare-filled _ _ _ _ (c .before .before .before .before .before .before .before .before .before .before .before .before .look .ensures) (c .before .before .before .before .before .before .before .before .before .before .before .before .before .before .before .before .before .before .pre .1 .0) _ (c .before .before .before .before .before .before .before .before .before .before .before .before .before .before .before .before .before .before .pre .1 .2) (c .before .before .before .before .before .before .before .if2 .taken) (sym (c .before .before .before .before .enum-told .given .1) ∙ c .before .before .before .before .before .before .select .ensures) _ _ _ _ _ _ (selector-filled _ _ _ _ _ _ (c .before .before .put-selector .ensures .0) (c .before .before .put-selector .ensures .1))
+unfold-item-returns-2 t c =
+    let c2 = c .before .before in
+    let c4 = c2 .before .before in
+    let c6 = c4 .before .before in
+    let c7 = c6 .before in
+    let c12 = c7 .before .before .before .before .before in
+    let c18 = c12 .before .before .before .before .before .before in
+    bare-filled _ _ _ _ (c12 .look .ensures) (c18 .pre .1 .0) _ (c18 .pre .1 .2) (c7 .if2 .taken) (sym (c4 .enum-told .given .1) ∙ c6 .select .ensures) _ _ _
+    _ _ _ (selector-filled _ _ _ _ _ _ (c2 .put-selector .ensures .0) (c2 .put-selector .ensures .1))
 
 unfold-item-same-length-4 : (t : ℕ) → unfold-item-lts.Need-same-length-4 (unfold-item-calls t) (unfold-item-at t) unfold-item.Post
-unfold-item-same-length-4 t c = stored-length _ _ _ _ _ (c .before .before .before .before .unfold-item .ensures .words) ∙ stored-length _ _ _ _ _ (c .before .before .before .before .before .before .before .before .before .before .put-selector2 .ensures .0)
+unfold-item-same-length-4 t c =
+    let c4 = c .before .before .before .before in
+    let c10 = c4 .before .before .before .before .before .before in
+    stored-length _ _ _ _ _ (c4 .unfold-item .ensures .words) ∙ stored-length _ _ _ _ _ (c10 .put-selector2 .ensures .0)
 
 unfold-item-same-length-5 : (t : ℕ) → unfold-item-lts.Need-same-length-5 (unfold-item-calls t) (unfold-item-at t) unfold-item.Post
-unfold-item-same-length-5 t c = stored-length _ _ _ _ _ (c .before .before .before .before .unfold-item .ensures .bytes)
+unfold-item-same-length-5 t c =
+    let c4 = c .before .before .before .before in
+    stored-length _ _ _ _ _ (c4 .unfold-item .ensures .bytes)
 
 unfold-item-returns-3 : (t : ℕ) → unfold-item-lts.Need-returns-3 (unfold-item-calls t) (unfold-item-at t) unfold-item.Post
-unfold-item-returns-3 t c = filled-then _ _ _ _ _ _ _ _ _ _ _ _ _ _ _ (selector-filled _ _ _ _ _ _ (c .before .before .before .before .before .before .before .before .before .before .put-selector2 .ensures .0) (c .before .before .before .before .before .before .before .before .before .before .put-selector2 .ensures .1)) (c .before .before .before .before .unfold-item .ensures) (body-words _ _ _ _ (c .before .before .before .before .before .before .before .before .before .before .before .before .before .before .before .before .before .before .before .before .before .look .ensures) (c .before .before .before .before .before .before .before .before .before .before .before .before .before .before .before .before .before .before .before .before .before .before .before .before .before .before .before .pre .1 .0) _ (c .before .before .before .before .before .before .before .before .before .before .before .before .before .before .before .before .before .before .before .before .before .before .before .before .before .before .before .pre .1 .2) (c .before .before .before .before .before .before .before .before .before .before .before .before .before .before .before .before .if2 .taken) _ (sym (c .before .before .before .before .before .before .before .before .before .before .before .before .before .c .given .1) ∙ c .before .before .before .before .before .before .before .before .before .before .before .before .before .before .before .select .ensures)) (body-bytes _ _ _ _ (c .before .before .before .before .before .before .before .before .before .before .before .before .before .before .before .before .before .before .before .before .before .look .ensures) (c .before .before .before .before .before .before .before .before .before .before .before .before .before .before .before .before .before .before .before .before .before .before .before .before .before .before .before .pre .1 .0) _ (c .before .before .before .before .before .before .before .before .before .before .before .before .before .before .before .before .before .before .before .before .before .before .before .before .before .before .before .pre .1 .2) (c .before .before .before .before .before .before .before .before .before .before .before .before .before .before .before .before .if2 .taken) _ (sym (c .before .before .before .before .before .before .before .before .before .before .before .before .before .c .given .1) ∙ c .before .before .before .before .before .before .before .before .before .before .before .before .before .before .before .select .ensures))
+unfold-item-returns-3 t c =
+    let c4 = c .before .before .before .before in
+    let c10 = c4 .before .before .before .before .before .before in
+    let c13 = c10 .before .before .before in
+    let c15 = c13 .before .before in
+    let c16 = c15 .before in
+    let c21 = c16 .before .before .before .before .before in
+    let c27 = c21 .before .before .before .before .before .before in
+    filled-then _ _ _ _ _ _ _ _ _ _ _ _ _ _ _ (selector-filled _ _ _ _ _ _ (c10 .put-selector2 .ensures .0) (c10 .put-selector2 .ensures .1))
+    (c4 .unfold-item .ensures)
+    (body-words _ _ _ _ (c21 .look .ensures) (c27 .pre .1 .0) _ (c27 .pre .1 .2) (c16 .if2 .taken) _ (sym (c13 .c .given .1) ∙ c15 .select .ensures))
+    (body-bytes _ _ _ _ (c21 .look .ensures) (c27 .pre .1 .0) _ (c27 .pre .1 .2) (c16 .if2 .taken) _ (sym (c13 .c .given .1) ∙ c15 .select .ensures))
 
 unfold-item-returns-4 : (t : ℕ) → unfold-item-lts.Need-returns-4 (unfold-item-calls t) (unfold-item-at t) unfold-item.Post
-unfold-item-returns-4 t c = never _ _ _ _ (c .before .before .before .before .before .before .before .before .look .ensures) (c .before .before .before .before .before .before .before .before .before .before .before .before .before .before .pre .1 .0) _ (c .before .before .before .before .before .before .before .before .before .before .before .before .before .before .pre .1 .2) (c .before .before .before .if2 .taken) _ (sym (c .enum-told2 .given .1) ∙ c .before .before .select .ensures)
+unfold-item-returns-4 t c =
+    let c2 = c .before .before in
+    let c3 = c2 .before in
+    let c8 = c3 .before .before .before .before .before in
+    let c14 = c8 .before .before .before .before .before .before in
+    never _ _ _ _ (c8 .look .ensures) (c14 .pre .1 .0) _ (c14 .pre .1 .2) (c3 .if2 .taken) _ (sym (c .enum-told2 .given .1) ∙ c2 .select .ensures)
 
 unfold-item-same-length-6 : (t : ℕ) → unfold-item-lts.Need-same-length-6 (unfold-item-calls t) (unfold-item-at t) unfold-item.Post
-unfold-item-same-length-6 t c = stored-length _ _ _ _ _ (c .before .before .before .before .unfold-leaf .ensures .words)
+unfold-item-same-length-6 t c =
+    let c4 = c .before .before .before .before in
+    stored-length _ _ _ _ _ (c4 .unfold-leaf .ensures .words)
 
 unfold-item-same-length-7 : (t : ℕ) → unfold-item-lts.Need-same-length-7 (unfold-item-calls t) (unfold-item-at t) unfold-item.Post
-unfold-item-same-length-7 t c = stored-length _ _ _ _ _ (c .before .before .before .before .unfold-leaf .ensures .bytes)
+unfold-item-same-length-7 t c =
+    let c4 = c .before .before .before .before in
+    stored-length _ _ _ _ _ (c4 .unfold-leaf .ensures .bytes)
 
 unfold-item-returns-5 : (t : ℕ) → unfold-item-lts.Need-returns-5 (unfold-item-calls t) (unfold-item-at t) unfold-item.Post
-unfold-item-returns-5 t c = leaf-filled _ _ _ _ (c .before .before .before .before .before .before .before .before .before .before .before .before .look .ensures) (c .before .before .before .before .before .before .before .before .before .before .before .before .before .before .before .before .before .before .pre .1 .0) _ (c .before .before .before .before .before .before .before .before .before .before .before .before .before .before .before .before .before .before .pre .1 .2) (c .before .before .before .before .before .before .before .before .before .if1 .left) (c .before .before .before .before .before .before .before .if2 .left) _ _ _ _ _ _ (c .before .before .before .before .unfold-leaf .ensures)
+unfold-item-returns-5 t c =
+    let c4 = c .before .before .before .before in
+    let c7 = c4 .before .before .before in
+    let c9 = c7 .before .before in
+    let c12 = c9 .before .before .before in
+    let c18 = c12 .before .before .before .before .before .before in
+    leaf-filled _ _ _ _ (c12 .look .ensures) (c18 .pre .1 .0) _ (c18 .pre .1 .2) (c9 .if1 .left) (c7 .if2 .left) _ _ _ _ _ _ (c4 .unfold-leaf .ensures)
 
 pub +unfold-fields+unfold-item-spec : {M : Type 1} → statement M
 +unfold-fields+unfold-item-spec = close μ-unfold-fields μ-unfold-item (λ t. unfold-fields-lts.spec (unfold-fields-calls t)

@@ -16,13 +16,18 @@ loop-holds : tie.Need-loop-holds Inv-loop μ-loop
 loop-holds c = copying-first _ _ _
 
 add-to : tie.Need-add-to Inv-loop μ-loop
-add-to c = omega (arith, c .before .before .pre .room)
+add-to c =
+    let c2 = c .before .before in
+    omega (arith, c2 .pre .room)
 
 shared-slice-read-out : tie.Need-shared-slice-read-out Inv-loop μ-loop
 shared-slice-read-out c = omega arith
 
 slice-write-out : tie.Need-slice-write-out Inv-loop μ-loop
-slice-write-out c = omega (arith, c .before .before .before .pre .room, stored-length _ _ _ _ _ (c .before .before .loop .inv .stored))
+slice-write-out c =
+    let c2 = c .before .before in
+    let c3 = c2 .before in
+    omega (arith, c3 .pre .room, stored-length _ _ _ _ _ (c2 .loop .inv .stored))
 
 add-i : tie.Need-add-i Inv-loop μ-loop
 add-i c = omega arith
@@ -31,10 +36,14 @@ loop-less : tie.Need-loop-less Inv-loop μ-loop
 loop-less c = omega arith
 
 loop-again : tie.Need-loop-again Inv-loop μ-loop
-loop-again c = copying-next _ _ _ _ _ (c .before .before .loop .inv) (c .before .loop-test .taken)
+loop-again c =
+    let c2 = c .before .before in
+    copying-next _ _ _ _ _ (c2 .loop .inv) (c .before .loop-test .taken)
 
 add-result : tie.Need-add-result Inv-loop μ-loop
-add-result c = omega (arith, c .before .before .pre .room, c .before .loop .inv .within)
+add-result c =
+    let c2 = c .before .before in
+    omega (arith, c2 .pre .room, c .before .loop .inv .within)
 
 same-length : tie.Need-same-length Inv-loop μ-loop
 same-length c = stored-length _ _ _ _ _ (c .before .loop .inv .stored)

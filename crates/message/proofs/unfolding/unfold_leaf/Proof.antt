@@ -8,25 +8,44 @@ use Rattle.message.proofs.unfolding.unfold_leaf.Statement.{statement}
 use Rattle.message.proofs.unfolding.unfold_leaf.Tie as tie
 
 unfold-free-requires : tie.Need-unfold-free-requires
-unfold-free-requires c κs = (c .before .before .before .before .before .before .pre .1, free-rooms _ _ _ _ _ _ (c .before .before .if1 .taken) (c .before .before .before .before .before .before .pre .3))
+unfold-free-requires c κs =
+    let c2 = c .before .before in
+    let c6 = c2 .before .before .before .before in
+    (c6 .pre .1, free-rooms _ _ _ _ _ _ (c2 .if1 .taken) (c6 .pre .3))
 
 same-length : tie.Need-same-length
-same-length c = stored-length _ _ _ _ _ (c .before .before .before .before .unfold-free .ensures .words)
+same-length c =
+    let c4 = c .before .before .before .before in
+    stored-length _ _ _ _ _ (c4 .unfold-free .ensures .words)
 
 same-length-2 : tie.Need-same-length-2
-same-length-2 c = stored-length _ _ _ _ _ (c .before .before .before .before .unfold-free .ensures .bytes)
+same-length-2 c =
+    let c4 = c .before .before .before .before in
+    stored-length _ _ _ _ _ (c4 .unfold-free .ensures .bytes)
 
 returns : tie.Need-returns
-returns c = free-filled _ _ _ _ _ _ (c .before .before .before .before .before .before .before .if1 .taken) _ _ _ (c .before .before .before .before .unfold-free .ensures)
+returns c =
+    let c4 = c .before .before .before .before in
+    let c7 = c4 .before .before .before in
+    free-filled _ _ _ _ _ _ (c7 .if1 .taken) _ _ _ (c4 .unfold-free .ensures)
 
 copy-into-requires : tie.Need-copy-into-requires
-copy-into-requires c κs = plain-room _ _ _ _ _ _ (c .before .before .if1 .left) (c .before .if2 .taken) (c .before .before .before .before .before .before .pre .3)
+copy-into-requires c κs =
+    let c2 = c .before .before in
+    let c6 = c2 .before .before .before .before in
+    plain-room _ _ _ _ _ _ (c2 .if1 .left) (c .before .if2 .taken) (c6 .pre .3)
 
 same-length-3 : tie.Need-same-length-3
-same-length-3 c = stored-length _ _ _ _ _ (c .before .before .copy-into .ensures)
+same-length-3 c =
+    let c2 = c .before .before in
+    stored-length _ _ _ _ _ (c2 .copy-into .ensures)
 
 returns-2 : tie.Need-returns-2
-returns-2 c = plain-filled _ _ _ _ _ _ (c .before .before .before .before .before .if1 .left) (c .before .before .before .before .if2 .taken) _ _ (c .before .before .copy-into .ensures)
+returns-2 c =
+    let c2 = c .before .before in
+    let c4 = c2 .before .before in
+    let c5 = c4 .before in
+    plain-filled _ _ _ _ _ _ (c5 .if1 .left) (c4 .if2 .taken) _ _ (c2 .copy-into .ensures)
 
 bitlist-body-requires : tie.Need-bitlist-body-requires
 bitlist-body-requires c κs = search needs
@@ -36,23 +55,42 @@ enum-known-bits c = search needs
 
 unfold-bits-requires : tie.Need-unfold-bits-requires
 unfold-bits-requires c κs =
-    let q = marked-at (c .before .before .before .before .before .before .before .before .before .before .before .args .b .now) (c .before .before .before .before .before .before .before .before .before .before .before .args .n .second) _ (bytes-known _ (λ i. c .before .before .before .before .before .before .before .before .shared-slice-known .given i .fits)) (sym (sym (c .before .before .before .bits .given .1) ∙ c .before .before .before .before .before .bitlist-body .ensures)) in
-    (omega (arith, q .1, c .before .before .before .before .before .before .before .before .before .before .before .pre .0), q .0, bits-rooms _ _ _ _ _ _ (c .before .before .before .before .before .before .if2 .left) _ (sym (c .before .before .before .bits .given .1) ∙ c .before .before .before .before .before .bitlist-body .ensures) (c .before .before .before .before .before .before .before .before .before .before .before .pre .3))
+    let c3 = c .before .before .before in
+    let c5 = c3 .before .before in
+    let c6 = c5 .before in
+    let c8 = c6 .before .before in
+    let c11 = c8 .before .before .before in
+    let q = marked-at (c11 .args .b .now) (c11 .args .n .second) _ (bytes-known _ (λ i. c8 .shared-slice-known .given i .fits))
+    (sym (sym (c3 .bits .given .1) ∙ c5 .bitlist-body .ensures)) in
+    (omega (arith, q .1, c11 .pre .0), q .0, bits-rooms _ _ _ _ _ _ (c6 .if2 .left) _ (sym (c3 .bits .given .1) ∙ c5 .bitlist-body .ensures) (c11 .pre .3))
 
 enum-told : tie.Need-enum-told
 enum-told c = search needs
 
 same-length-4 : tie.Need-same-length-4
-same-length-4 c = stored-length _ _ _ _ _ (c .before .before .before .before .unfold-bits .ensures .words)
+same-length-4 c =
+    let c4 = c .before .before .before .before in
+    stored-length _ _ _ _ _ (c4 .unfold-bits .ensures .words)
 
 same-length-5 : tie.Need-same-length-5
-same-length-5 c = stored-length _ _ _ _ _ (c .before .before .before .before .unfold-bits .ensures .bytes)
+same-length-5 c =
+    let c4 = c .before .before .before .before in
+    stored-length _ _ _ _ _ (c4 .unfold-bits .ensures .bytes)
 
 returns-3 : tie.Need-returns-3
-returns-3 c = bits-filled _ _ _ _ _ _ (c .before .before .before .before .before .before .before .before .before .before .before .if2 .left) _ (sym (c .before .before .before .before .before .before .before .before .bits .given .1) ∙ c .before .before .before .before .before .before .before .before .before .before .bitlist-body .ensures) _ _ _ (c .before .before .before .before .unfold-bits .ensures)
+returns-3 c =
+    let c4 = c .before .before .before .before in
+    let c8 = c4 .before .before .before .before in
+    let c10 = c8 .before .before in
+    let c11 = c10 .before in
+    bits-filled _ _ _ _ _ _ (c11 .if2 .left) _ (sym (c8 .bits .given .1) ∙ c10 .bitlist-body .ensures) _ _ _ (c4 .unfold-bits .ensures)
 
 returns-4 : tie.Need-returns-4
-returns-4 c = bits-never _ _ _ (c .before .before .before .if2 .left) _ (sym (c .enum-told .given .1) ∙ c .before .before .bitlist-body .ensures) (c .before .before .before .before .before .before .before .before .pre .2)
+returns-4 c =
+    let c2 = c .before .before in
+    let c3 = c2 .before in
+    let c8 = c3 .before .before .before .before .before in
+    bits-never _ _ _ (c3 .if2 .left) _ (sym (c .enum-told .given .1) ∙ c2 .bitlist-body .ensures) (c8 .pre .2)
 
 pub unfold-leaf-spec : {M : Type 1} → statement M
 unfold-leaf-spec =

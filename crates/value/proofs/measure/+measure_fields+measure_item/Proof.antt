@@ -80,19 +80,26 @@ abbrev measure-item-calls : ℕ → measure-item-lts.Claims
 measure-item-calls t = (look-reads.Asked, look-reads.Learnt, measure-fields-below t, measure-fields.Post, select-reads.Asked, select-reads.Learnt, measure-item-below t, measure-item.Post, with-selector-reads.Asked, with-selector-reads.Learnt, measure-leaf-reads.Asked, measure-leaf-reads.Learnt)
 
 measure-fields-loop-holds : (t : ℕ) → measure-fields-lts.Need-loop-holds (measure-fields-calls t) (measure-fields-at t) measure-fields.Post measure-fields-Inv-loop measure-fields-μ-loop
-measure-fields-loop-holds t c = measuring-none _ _ _ _ _ _ _ _ _ (c .before .before .before .before .pre .1)
+measure-fields-loop-holds t c =
+    let c4 = c .before .before .before .before in
+    measuring-none _ _ _ _ _ _ _ _ _ (c4 .pre .1)
 
 measure-fields-word-at-requires : (t : ℕ) → measure-fields-lts.Need-word-at-requires (measure-fields-calls t) (measure-fields-at t) measure-fields.Post measure-fields-Inv-loop measure-fields-μ-loop
 measure-fields-word-at-requires t c κs = search needs
 
 measure-fields-measure-item-requires : (t : ℕ) → measure-fields-lts.Need-measure-item-requires (measure-fields-calls t) (measure-fields-at t) measure-fields.Post measure-fields-Inv-loop measure-fields-μ-loop
-measure-fields-measure-item-requires t c κs = (omega (arith, row-below _ _ _ _ _ _ (c .before .before .loop .inv .row) (c .before .loop-test .taken) (c .word-at .ensures .0), c .before .before .before .before .before .before .before .pre .0), row-under _ _ _ _ _ _ (c .before .before .loop .inv .row) (c .before .loop-test .taken) (c .word-at .ensures .0))
+measure-fields-measure-item-requires t c κs =
+    let c2 = c .before .before in
+    let c7 = c2 .before .before .before .before .before in
+    (omega (arith, row-below _ _ _ _ _ _ (c2 .loop .inv .row) (c .before .loop-test .taken) (c .word-at .ensures .0), c7 .pre .0), row-under _ _ _ _ _ _ (c2 .loop .inv .row) (c .before .loop-test .taken) (c .word-at .ensures .0))
 
 measure-fields-enum-known-r : (t : ℕ) → measure-fields-lts.Need-enum-known-r (measure-fields-calls t) (measure-fields-at t) measure-fields.Post measure-fields-Inv-loop measure-fields-μ-loop
 measure-fields-enum-known-r t c = search needs
 
 measure-fields-mul-with-offset : (t : ℕ) → measure-fields-lts.Need-mul-with-offset (measure-fields-calls t) (measure-fields-at t) measure-fields.Post measure-fields-Inv-loop measure-fields-μ-loop
-measure-fields-mul-with-offset t c = omega (arith, c .before .before .before .before .word-at .ensures .1)
+measure-fields-mul-with-offset t c =
+    let c4 = c .before .before .before .before in
+    omega (arith, c4 .word-at .ensures .1)
 
 measure-fields-shared-slice-read-with-offset :
     (t : ℕ) → measure-fields-lts.Need-shared-slice-read-with-offset (
@@ -105,7 +112,11 @@ measure-fields-shared-slice-read-with-offset :
       add-reads.Asked,
       add-reads.Learnt,
     ) (measure-fields-at t) measure-fields.Post measure-fields-Inv-loop measure-fields-μ-loop
-measure-fields-shared-slice-read-with-offset t c = row-index _ _ _ _ _ _ (c .before .before .before .before .before .before .before .loop .inv .row) (c .before .before .before .before .before .before .loop-test .taken) (c .before .before .before .before .before .word-at .ensures .0)
+measure-fields-shared-slice-read-with-offset t c =
+    let c5 = c .before .before .before .before .before in
+    let c6 = c5 .before in
+    let c7 = c6 .before in
+    row-index _ _ _ _ _ _ (c7 .loop .inv .row) (c6 .loop-test .taken) (c5 .word-at .ensures .0)
 
 measure-fields-cast-with-offset : (t : ℕ) → measure-fields-lts.Need-cast-with-offset (measure-fields-calls t) (measure-fields-at t) measure-fields.Post measure-fields-Inv-loop measure-fields-μ-loop
 measure-fields-cast-with-offset t c =
@@ -124,10 +135,18 @@ measure-fields-enum-known-r-2 : (t : ℕ) → measure-fields-lts.Need-enum-known
 measure-fields-enum-known-r-2 t c = search needs
 
 measure-fields-returns : (t : ℕ) → measure-fields-lts.Need-returns (measure-fields-calls t) (measure-fields-at t) measure-fields.Post measure-fields-Inv-loop measure-fields-μ-loop
-measure-fields-returns t c = measuring-stop _ _ _ _ _ _ _ _ _ _ _ _ _ _ _ (c .before .before .before .before .before .before .loop .inv) (c .before .before .before .before .before .loop-test .taken) (c .before .before .before .before .word-at .ensures .0) _ (sym (c .before .r2 .given .1) ∙ c .before .before .before .measure-item .ensures)
+measure-fields-returns t c =
+    let c3 = c .before .before .before in
+    let c4 = c3 .before in
+    let c5 = c4 .before in
+    let c6 = c5 .before in
+    measuring-stop _ _ _ _ _ _ _ _ _ _ _ _ _ _ _ (c6 .loop .inv) (c5 .loop-test .taken) (c4 .word-at .ensures .0) _
+    (sym (c .before .r2 .given .1) ∙ c3 .measure-item .ensures)
 
 measure-fields-add-a : (t : ℕ) → measure-fields-lts.Need-add-a (measure-fields-calls t) (measure-fields-at t) measure-fields.Post measure-fields-Inv-loop measure-fields-μ-loop
-measure-fields-add-a t c = omega (arith, c .before .before .before .before .before .before .before .before .before .loop .inv .row .near)
+measure-fields-add-a t c =
+    let c9 = c .before .before .before .before .before .before .before .before .before in
+    omega (arith, c9 .loop .inv .row .near)
 
 measure-fields-sub-left : (t : ℕ) → measure-fields-lts.Need-sub-left (measure-fields-calls t) (measure-fields-at t) measure-fields.Post measure-fields-Inv-loop measure-fields-μ-loop
 measure-fields-sub-left t c = omega arith
@@ -136,7 +155,14 @@ measure-fields-loop-less : (t : ℕ) → measure-fields-lts.Need-loop-less (meas
 measure-fields-loop-less t c = omega arith
 
 measure-fields-loop-again : (t : ℕ) → measure-fields-lts.Need-loop-again (measure-fields-calls t) (measure-fields-at t) measure-fields.Post measure-fields-Inv-loop measure-fields-μ-loop
-measure-fields-loop-again t c = rw (c .add .ensures) (measuring-next _ _ _ _ _ _ _ _ _ _ _ _ _ _ _ (c .before .before .before .before .before .before .before .before .before .loop .inv) (c .before .before .before .before .before .before .before .before .loop-test .taken) (c .before .before .before .before .before .before .before .word-at .ensures .0) _ (sym (c .before .before .before .before .r .given .1) ∙ c .before .before .before .before .before .before .measure-item .ensures) _ refl _ (c .before .with-offset .ensures))
+measure-fields-loop-again t c =
+    let c4 = c .before .before .before .before in
+    let c6 = c4 .before .before in
+    let c7 = c6 .before in
+    let c8 = c7 .before in
+    let c9 = c8 .before in
+    rw (c .add .ensures)
+    (measuring-next _ _ _ _ _ _ _ _ _ _ _ _ _ _ _ (c9 .loop .inv) (c8 .loop-test .taken) (c7 .word-at .ensures .0) _ (sym (c4 .r .given .1) ∙ c6 .measure-item .ensures) _ refl _ (c .before .with-offset .ensures))
 
 measure-fields-returns-2 : (t : ℕ) → measure-fields-lts.Need-returns-2 (measure-fields-calls t) (measure-fields-at t) measure-fields.Post measure-fields-Inv-loop measure-fields-μ-loop
 measure-fields-returns-2 t c = measuring-end _ _ _ _ _ _ _ _ _ _ _ _ _ _ (c .before .loop .inv) (c .loop-test .left)
@@ -145,30 +171,53 @@ measure-item-look-requires : (t : ℕ) → measure-item-lts.Need-look-requires (
 measure-item-look-requires t c κs = search needs
 
 measure-item-add-first : (t : ℕ) → measure-item-lts.Need-add-first (measure-item-calls t) (measure-item-at t) measure-item.Post
-measure-item-add-first t c = omega (arith, node-ok _ _ _ _ (c .before .look .ensures) (c .before .before .before .before .before .before .pre .1) .near)
+measure-item-add-first t c =
+    let c6 = c .before .before .before .before .before .before in
+    omega (arith, node-ok _ _ _ _ (c .before .look .ensures) (c6 .pre .1) .near)
 
 measure-item-measure-fields-requires : (t : ℕ) → measure-item-lts.Need-measure-fields-requires (measure-item-calls t) (measure-item-at t) measure-item.Post
-measure-item-measure-fields-requires t c κs = (omega (arith, c .before .before .before .before .before .before .before .before .pre .0), container-row _ _ _ _ (c .before .before .before .look .ensures) (c .before .before .before .before .before .before .before .before .pre .1) (c .if1 .taken))
+measure-item-measure-fields-requires t c κs =
+    let c3 = c .before .before .before in
+    let c8 = c3 .before .before .before .before .before in
+    (omega (arith, c8 .pre .0), container-row _ _ _ _ (c3 .look .ensures) (c8 .pre .1) (c .if1 .taken))
 
 measure-item-select-requires : (t : ℕ) → measure-item-lts.Need-select-requires (measure-item-calls t) (measure-item-at t) measure-item.Post
-measure-item-select-requires t c κs = omega (arith, node-ok _ _ _ _ (c .before .before .before .before .before .look .ensures) (c .before .before .before .before .before .before .before .before .before .before .pre .1) .near)
+measure-item-select-requires t c κs =
+    let c5 = c .before .before .before .before .before in
+    let c10 = c5 .before .before .before .before .before in
+    omega (arith, node-ok _ _ _ _ (c5 .look .ensures) (c10 .pre .1) .near)
 
 measure-item-enum-told : (t : ℕ) → measure-item-lts.Need-enum-told (measure-item-calls t) (measure-item-at t) measure-item.Post
 measure-item-enum-told t c = search needs
 
 measure-item-add-word : (t : ℕ) → measure-item-lts.Need-add-word (measure-item-calls t) (measure-item-at t) measure-item.Post
-measure-item-add-word t c = omega (arith, bare-item _ _ _ (c .before .before .before .before .before .before .before .before .look .ensures) (c .before .before .before .if2 .taken) _ (c .before .before .before .before .before .before .before .before .before .before .before .before .before .args .bodies .now) _ (c .before .before .before .before .before .before .before .before .before .before .before .before .before .args .j) (sym (c .enum-told .given .1) ∙ c .before .before .select .ensures) .2)
+measure-item-add-word t c =
+    let c2 = c .before .before in
+    let c3 = c2 .before in
+    let c8 = c3 .before .before .before .before .before in
+    let c13 = c8 .before .before .before .before .before in
+    omega (arith, bare-item _ _ _ (c8 .look .ensures) (c3 .if2 .taken) _ (c13 .args .bodies .now) _ (c13 .args .j) (sym (c .enum-told .given .1) ∙ c2 .select .ensures) .2)
 
 measure-item-enum-known-c : (t : ℕ) → measure-item-lts.Need-enum-known-c (measure-item-calls t) (measure-item-at t) measure-item.Post
 measure-item-enum-known-c t c = search needs
 
 measure-item-add-word-2 : (t : ℕ) → measure-item-lts.Need-add-word-2 (measure-item-calls t) (measure-item-at t) measure-item.Post
-measure-item-add-word-2 t c = omega (arith, body-item _ _ _ (c .before .before .before .before .before .before .before .before .before .look .ensures) (c .before .before .before .before .if2 .taken) _ (c .before .before .before .before .before .before .before .before .before .before .before .before .before .before .args .bodies .now) _ (c .before .before .before .before .before .before .before .before .before .before .before .before .before .before .args .j) ((c .before .before .before .before .before .before .before .before .before .before .before .before .before .before .pre .1) .legal) _ (sym (c .before .c .given .1) ∙ c .before .before .before .select .ensures) .2)
+measure-item-add-word-2 t c =
+    let c3 = c .before .before .before in
+    let c4 = c3 .before in
+    let c9 = c4 .before .before .before .before .before in
+    let c14 = c9 .before .before .before .before .before in
+    omega (arith, body-item _ _ _ (c9 .look .ensures) (c4 .if2 .taken) _ (c14 .args .bodies .now) _ (c14 .args .j) ((c14 .pre .1) .legal) _ (sym (c .before .c .given .1) ∙ c3 .select .ensures) .2)
 
 measure-item-measure-item-requires : (t : ℕ) → measure-item-lts.Need-measure-item-requires (measure-item-calls t) (measure-item-at t) measure-item.Post
 measure-item-measure-item-requires t c κs =
-    let z = body-item _ _ _ (c .before .before .before .before .before .before .before .before .before .look .ensures) (c .before .before .before .before .if2 .taken) _ (c .before .before .before .before .before .before .before .before .before .before .before .before .before .before .args .bodies .now) _ (c .before .before .before .before .before .before .before .before .before .before .before .before .before .before .args .j) ((c .before .before .before .before .before .before .before .before .before .before .before .before .before .before .pre .1) .legal) _ (sym (c .before .c .given .1) ∙ c .before .before .before .select .ensures) .4 in
-    (omega (arith, c .before .before .before .before .before .before .before .before .before .before .before .before .before .before .pre .0, z), under-below _ _ _ _ (omega (arith, z)) (c .before .before .before .before .before .before .before .before .before .before .before .before .before .before .pre .1))
+    let c3 = c .before .before .before in
+    let c4 = c3 .before in
+    let c9 = c4 .before .before .before .before .before in
+    let c14 = c9 .before .before .before .before .before in
+    let z = body-item _ _ _ (c9 .look .ensures) (c4 .if2 .taken) _ (c14 .args .bodies .now) _ (c14 .args .j) ((c14 .pre .1) .legal) _
+    (sym (c .before .c .given .1) ∙ c3 .select .ensures) .4 in
+    (omega (arith, c14 .pre .0, z), under-below _ _ _ _ (omega (arith, z)) (c14 .pre .1))
 
 measure-item-with-selector-requires : (t : ℕ) → measure-item-lts.Need-with-selector-requires (measure-item-calls t) (measure-item-at t) measure-item.Post
 measure-item-with-selector-requires t c κs = search needs
@@ -180,21 +229,43 @@ measure-item-measure-leaf-requires : (t : ℕ) → measure-item-lts.Need-measure
 measure-item-measure-leaf-requires t c κs = search needs
 
 measure-item-returns : (t : ℕ) → measure-item-lts.Need-returns (measure-item-calls t) (measure-item-at t) measure-item.Post
-measure-item-returns t c = rw (container-walk _ _ _ (c .before .before .before .before .look .ensures) (c .before .if1 .taken), container-write _ _ _ (c .before .before .before .before .look .ensures) (c .before .if1 .taken)) (c .measure-fields .ensures)
+measure-item-returns t c =
+    let c4 = c .before .before .before .before in
+    rw (container-walk _ _ _ (c4 .look .ensures) (c .before .if1 .taken), container-write _ _ _ (c4 .look .ensures) (c .before .if1 .taken))
+    (c .measure-fields .ensures)
 
 measure-item-returns-2 : (t : ℕ) → measure-item-lts.Need-returns-2 (measure-item-calls t) (measure-item-at t) measure-item.Post
-measure-item-returns-2 t c = rw (bare-item _ _ _ (c .before .before .before .before .before .before .before .before .look .ensures) (c .before .before .before .if2 .taken) _ (c .before .before .before .before .before .before .before .before .before .before .before .before .before .args .bodies .now) _ (c .before .before .before .before .before .before .before .before .before .before .before .before .before .args .j) (sym (c .enum-told .given .1) ∙ c .before .before .select .ensures) .0, bare-item _ _ _ (c .before .before .before .before .before .before .before .before .look .ensures) (c .before .before .before .if2 .taken) _ (c .before .before .before .before .before .before .before .before .before .before .before .before .before .args .bodies .now) _ (c .before .before .before .before .before .before .before .before .before .before .before .before .before .args .j) (sym (c .enum-told .given .1) ∙ c .before .before .select .ensures) .1)
+measure-item-returns-2 t c =
+    let c2 = c .before .before in
+    let c3 = c2 .before in
+    let c8 = c3 .before .before .before .before .before in
+    let c13 = c8 .before .before .before .before .before in
+    rw (bare-item _ _ _ (c8 .look .ensures) (c3 .if2 .taken) _ (c13 .args .bodies .now) _ (c13 .args .j) (sym (c .enum-told .given .1) ∙ c2 .select .ensures) .0, bare-item _ _ _ (c8 .look .ensures) (c3 .if2 .taken) _ (c13 .args .bodies .now) _ (c13 .args .j) (sym (c .enum-told .given .1) ∙ c2 .select .ensures) .1)
 
 measure-item-returns-3 : (t : ℕ) → measure-item-lts.Need-returns-3 (measure-item-calls t) (measure-item-at t) measure-item.Post
 measure-item-returns-3 t c =
-    let z = body-item _ _ _ (c .before .before .before .before .before .before .before .before .before .before .before .look .ensures) (c .before .before .before .before .before .before .if2 .taken) _ (c .before .before .before .before .before .before .before .before .before .before .before .before .before .before .before .before .args .bodies .now) _ (c .before .before .before .before .before .before .before .before .before .before .before .before .before .before .before .before .args .j) ((c .before .before .before .before .before .before .before .before .before .before .before .before .before .before .before .before .pre .1) .legal) _ (sym (c .before .before .before .c .given .1) ∙ c .before .before .before .before .before .select .ensures) in
+    let c3 = c .before .before .before in
+    let c5 = c3 .before .before in
+    let c6 = c5 .before in
+    let c11 = c6 .before .before .before .before .before in
+    let c16 = c11 .before .before .before .before .before in
+    let z = body-item _ _ _ (c11 .look .ensures) (c6 .if2 .taken) _ (c16 .args .bodies .now) _ (c16 .args .j) ((c16 .pre .1) .legal) _
+    (sym (c3 .c .given .1) ∙ c5 .select .ensures) in
     selected-item _ _ _ _ _ (z .0) (z .1) _ _ (c .with-selector .ensures) (c .before .measure-item .ensures)
 
 measure-item-returns-4 : (t : ℕ) → measure-item-lts.Need-returns-4 (measure-item-calls t) (measure-item-at t) measure-item.Post
-measure-item-returns-4 t c = rw (wrong-item _ _ _ (c .before .before .before .before .before .before .before .before .before .look .ensures) (c .before .before .before .before .if2 .taken) _ (c .before .before .before .before .before .before .before .before .before .before .before .before .before .before .args .bodies .now) _ (c .before .before .before .before .before .before .before .before .before .before .before .before .before .before .args .j) _ (sym (c .before .c2 .given .1) ∙ c .before .before .before .select .ensures))
+measure-item-returns-4 t c =
+    let c3 = c .before .before .before in
+    let c4 = c3 .before in
+    let c9 = c4 .before .before .before .before .before in
+    let c14 = c9 .before .before .before .before .before in
+    rw (wrong-item _ _ _ (c9 .look .ensures) (c4 .if2 .taken) _ (c14 .args .bodies .now) _ (c14 .args .j) _ (sym (c .before .c2 .given .1) ∙ c3 .select .ensures))
 
 measure-item-returns-5 : (t : ℕ) → measure-item-lts.Need-returns-5 (measure-item-calls t) (measure-item-at t) measure-item.Post
-measure-item-returns-5 t c = rw (as-leaf _ _ _ (c .before .before .before .before .before .before .look .ensures) (c .before .before .before .if1 .left) (c .before .if2 .left), leaf-walk, leaf-write) (c .measure-leaf .ensures)
+measure-item-returns-5 t c =
+    let c3 = c .before .before .before in
+    let c6 = c3 .before .before .before in
+    rw (as-leaf _ _ _ (c6 .look .ensures) (c3 .if1 .left) (c .before .if2 .left), leaf-walk, leaf-write) (c .measure-leaf .ensures)
 
 pub +measure-fields+measure-item-spec : {M : Type 1} → statement M
 +measure-fields+measure-item-spec =

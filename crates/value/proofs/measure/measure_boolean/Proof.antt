@@ -18,10 +18,16 @@ add-byte : tie.Need-add-byte
 add-byte c = search needs
 
 returns-2 : tie.Need-returns-2
-returns-2 c = rw (le-leb (c .before .before .before .args .j + 1) (length (c .before .before .before .args .bodies .now)) (omega (arith, c .before .before .if1 .left)), lt-ltb _ _ (c .if2 .taken))
+returns-2 c =
+    let c2 = c .before .before in
+    let c3 = c2 .before in
+    rw (le-leb (c3 .args .j + 1) (length (c3 .args .bodies .now)) (omega (arith, c2 .if1 .left)), lt-ltb _ _ (c .if2 .taken))
 
 returns-3 : tie.Need-returns-3
-returns-3 c = rw (le-leb (c .before .before .before .args .j + 1) (length (c .before .before .before .args .bodies .now)) (omega (arith, c .before .before .if1 .left)), le-ltb _ _ (c .if2 .left))
+returns-3 c =
+    let c2 = c .before .before in
+    let c3 = c2 .before in
+    rw (le-leb (c3 .args .j + 1) (length (c3 .args .bodies .now)) (omega (arith, c2 .if1 .left)), le-ltb _ _ (c .if2 .left))
 
 pub measure-boolean-spec : {M : Type 1} → statement M
 measure-boolean-spec =

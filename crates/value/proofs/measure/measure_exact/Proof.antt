@@ -12,13 +12,17 @@ has-requires : tie.Need-has-requires
 has-requires c κs = search needs
 
 add-byte : tie.Need-add-byte
-add-byte c = let h = leb-true (c .before .before .before .args .j + c .before .before .before .args .n) (length (c .before .before .before .args .bodies .now)) (sym (c .before .has .ensures) ∙ c .if1 .taken) in omega arith
+add-byte c =
+    let c3 = c .before .before .before in
+    let h = leb-true (c3 .args .j + c3 .args .n) (length (c3 .args .bodies .now)) (sym (c .before .has .ensures) ∙ c .if1 .taken) in omega arith
 
 capped-requires : tie.Need-capped-requires
 capped-requires c κs = search needs
 
 returns : tie.Need-returns
-returns c = rw (← c .before .before .has .ensures, c .before .if1 .taken, c .capped .ensures)
+returns c =
+    let c2 = c .before .before in
+    rw (← c2 .has .ensures, c .before .if1 .taken, c .capped .ensures)
 
 returns-2 : tie.Need-returns-2
 returns-2 c = rw (← c .before .has .ensures, c .if1 .left)

@@ -18,11 +18,15 @@ shared-slice-read-n : tie.Need-shared-slice-read-n
 shared-slice-read-n c = search needs
 
 cast-n : tie.Need-cast-n
-cast-n c = omega (arith, c .shared-slice-known3 .given (c .before .before .before .before .args .i))
+cast-n c =
+    let c4 = c .before .before .before .before in
+    omega (arith, c .shared-slice-known3 .given (c4 .args .i))
 
 returns-2 : tie.Need-returns-2
 unfolding walkItem
-returns-2 c = rw (lt-ltb _ _ (c .before .before .if1 .left), lt-leb _ _ (c .if2 .taken))
+returns-2 c =
+    let c2 = c .before .before in
+    rw (lt-ltb _ _ (c2 .if1 .left), lt-leb _ _ (c .if2 .taken))
 
 add-next : tie.Need-add-next
 add-next c = search needs
@@ -32,7 +36,9 @@ measure-exact-requires c κs = search needs
 
 returns-3 : tie.Need-returns-3
 unfolding walkItem
-returns-3 c = rw (lt-ltb _ _ (c .before .before .before .if1 .left), le-leb _ _ (c .before .if2 .left)) (c .measure-exact .ensures)
+returns-3 c =
+    let c3 = c .before .before .before in
+    rw (lt-ltb _ _ (c3 .if1 .left), le-leb _ _ (c .before .if2 .left)) (c .measure-exact .ensures)
 
 pub measure-free-spec : {M : Type 1} → statement M
 measure-free-spec =

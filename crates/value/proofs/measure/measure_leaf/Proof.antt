@@ -43,14 +43,22 @@ measure-bits-requires c κs = search needs
 
 returns-5 : tie.Need-returns-5
 unfolding leafOf
-returns-5 c = rw (c .before .before .if5 .taken) (rw (c .before .raw-bytes .ensures) at (c .measure-bits .ensures) ∙ leaf-vector _ _ _ _ _)
+returns-5 c =
+    let c2 = c .before .before in
+    rw (c2 .if5 .taken) (rw (c .before .raw-bytes .ensures) at (c .measure-bits .ensures) ∙ leaf-vector _ _ _ _ _)
 
 measure-list-requires : tie.Need-measure-list-requires
 measure-list-requires c κs = search needs
 
 returns-6 : tie.Need-returns-6
 unfolding leafOf
-returns-6 c = rw (ne-eqb _ _ (c .before .before .before .before .before .if1 .left), ne-eqb _ _ (c .before .before .before .before .if2 .left), ne-eqb _ _ (c .before .before .before .if3 .left), ne-eqb _ _ (c .before .before .if4 .left), ne-eqb _ _ (c .before .if5 .left)) (c .measure-list .ensures ∙ leaf-list _ _ _ _ _)
+returns-6 c =
+    let c2 = c .before .before in
+    let c3 = c2 .before in
+    let c4 = c3 .before in
+    let c5 = c4 .before in
+    rw (ne-eqb _ _ (c5 .if1 .left), ne-eqb _ _ (c4 .if2 .left), ne-eqb _ _ (c3 .if3 .left), ne-eqb _ _ (c2 .if4 .left), ne-eqb _ _ (c .before .if5 .left))
+    (c .measure-list .ensures ∙ leaf-list _ _ _ _ _)
 
 pub measure-leaf-spec : {M : Type 1} → statement M
 measure-leaf-spec =

@@ -18,11 +18,15 @@ shared-slice-read-k : tie.Need-shared-slice-read-k
 shared-slice-read-k c = search needs
 
 cast-k : tie.Need-cast-k
-cast-k c = omega (arith, c .shared-slice-known3 .given (c .before .before .before .before .args .i))
+cast-k c =
+    let c4 = c .before .before .before .before in
+    omega (arith, c .shared-slice-known3 .given (c4 .args .i))
 
 returns-2 : tie.Need-returns-2
 unfolding walkItem
-returns-2 c = rw (lt-ltb _ _ (c .before .before .if1 .left), lt-leb _ _ (c .if2 .taken))
+returns-2 c =
+    let c2 = c .before .before in
+    rw (lt-ltb _ _ (c2 .if1 .left), lt-leb _ _ (c .if2 .taken))
 
 add-next : tie.Need-add-next
 add-next c = search needs
@@ -35,7 +39,9 @@ measure-bits-requires c κs = search needs
 
 returns-3 : tie.Need-returns-3
 unfolding walkItem
-returns-3 c = rw (lt-ltb _ _ (c .before .before .before .if1 .left), le-leb _ _ (c .before .if2 .left)) (c .measure-bits .ensures)
+returns-3 c =
+    let c3 = c .before .before .before in
+    rw (lt-ltb _ _ (c3 .if1 .left), le-leb _ _ (c .before .if2 .left)) (c .measure-bits .ensures)
 
 pub measure-list-spec : {M : Type 1} → statement M
 measure-list-spec =

@@ -18,14 +18,20 @@ shared-slice-read-k : tie.Need-shared-slice-read-k
 shared-slice-read-k c = search needs
 
 cast-k : tie.Need-cast-k
-cast-k c = omega (arith, c .shared-slice-known3 .given (c .before .before .before .before .args .i))
+cast-k c =
+    let c4 = c .before .before .before .before in
+    omega (arith, c .shared-slice-known3 .given (c4 .args .i))
 
 returns-2 : tie.Need-returns-2
 unfolding choose
-returns-2 c = rw (lt-ltb _ _ (c .before .before .if1 .left), le-ltb _ _ (c .if2 .taken))
+returns-2 c =
+    let c2 = c .before .before in
+    rw (lt-ltb _ _ (c2 .if1 .left), le-ltb _ _ (c .if2 .taken))
 
 add-place : tie.Need-add-place
-add-place c = omega (arith, c .before .shared-slice-known3 .given (c .before .before .before .before .before .args .i))
+add-place c =
+    let c5 = c .before .before .before .before .before in
+    omega (arith, c .before .shared-slice-known3 .given (c5 .args .i))
 
 word-at-requires : tie.Need-word-at-requires
 word-at-requires c κs = search needs
@@ -35,7 +41,10 @@ option-at-requires c κs = search needs
 
 returns-3 : tie.Need-returns-3
 unfolding choose
-returns-3 c = rw (lt-ltb _ _ (c .before .before .before .before .if1 .left), lt-ltb _ _ (c .before .before .if2 .left), ← c .before .word-at .ensures .0) (c .option-at .ensures)
+returns-3 c =
+    let c2 = c .before .before in
+    let c4 = c2 .before .before in
+    rw (lt-ltb _ _ (c4 .if1 .left), lt-ltb _ _ (c2 .if2 .left), ← c .before .word-at .ensures .0) (c .option-at .ensures)
 
 pub select-spec : {M : Type 1} → statement M
 select-spec =

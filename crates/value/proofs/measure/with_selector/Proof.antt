@@ -15,7 +15,9 @@ enum-known-r-2 : tie.Need-enum-known-r-2
 enum-known-r-2 c = search needs
 
 returns : tie.Need-returns
-returns c = rw (c .before .before .r .given .1, c .add .ensures)
+returns c =
+    let c2 = c .before .before in
+    rw (c2 .r .given .1, c .add .ensures)
 
 returns-2 : tie.Need-returns-2
 returns-2 c = rw (c .before .r2 .given .1)

@@ -76,13 +76,19 @@ abbrev write-item-calls : ℕ → write-item-lts.Claims
 write-item-calls t = (look-reads.Asked, look-reads.Learnt, write-fields-below t, write-fields.Post, select-reads.Asked, select-reads.Learnt, put-selector-reads.Asked, put-selector-reads.Learnt, write-item-below t, write-item.Post, put-leaf-reads.Asked, put-leaf-reads.Learnt)
 
 write-fields-portion-of-requires : (t : ℕ) → write-fields-lts.Need-portion-of-requires (write-fields-calls t) (write-fields-at t) write-fields.Post write-fields-Inv-loop write-fields-μ-loop
-write-fields-portion-of-requires t c κs = (c .before .before .before .before .before .pre .1 .row, c .before .before .before .before .before .pre .1 .short)
+write-fields-portion-of-requires t c κs =
+    let c5 = c .before .before .before .before .before in
+    (c5 .pre .1 .row, c5 .pre .1 .short)
 
 write-fields-add-q : (t : ℕ) → write-fields-lts.Need-add-q (write-fields-calls t) (write-fields-at t) write-fields.Post write-fields-Inv-loop write-fields-μ-loop
-write-fields-add-q t c = omega (arith, fields-fit _ _ _ _ _ _ _ _ _ _ _ _ (c .before .before .before .before .before .before .pre .1) (c .portion-of .ensures), c .before .before .before .before .before .before .good)
+write-fields-add-q t c =
+    let c6 = c .before .before .before .before .before .before in
+    omega (arith, fields-fit _ _ _ _ _ _ _ _ _ _ _ _ (c6 .pre .1) (c .portion-of .ensures), c6 .good)
 
 write-fields-loop-holds : (t : ℕ) → write-fields-lts.Need-loop-holds (write-fields-calls t) (write-fields-at t) write-fields.Post write-fields-Inv-loop write-fields-μ-loop
-write-fields-loop-holds t c = writing-none _ _ _ _ _ _ _ _ _ _ _ _ (c .before .before .before .before .before .before .pre .1) (c .portion-of .ensures)
+write-fields-loop-holds t c =
+    let c6 = c .before .before .before .before .before .before in
+    writing-none _ _ _ _ _ _ _ _ _ _ _ _ (c6 .pre .1) (c .portion-of .ensures)
 
 write-fields-word-at-requires : (t : ℕ) → write-fields-lts.Need-word-at-requires (write-fields-calls t) (write-fields-at t) write-fields.Post write-fields-Inv-loop write-fields-μ-loop
 write-fields-word-at-requires t c κs = search needs
@@ -91,7 +97,10 @@ write-fields-mul-k : (t : ℕ) → write-fields-lts.Need-mul-k (write-fields-cal
 write-fields-mul-k t c = omega (arith, c .word-at .ensures .1)
 
 write-fields-shared-slice-read-k : (t : ℕ) → write-fields-lts.Need-shared-slice-read-k (write-fields-calls t) (write-fields-at t) write-fields.Post write-fields-Inv-loop write-fields-μ-loop
-write-fields-shared-slice-read-k t c = row-index _ _ _ _ _ _ (c .before .before .before .loop .inv .row) (c .before .before .loop-test .taken) (c .before .word-at .ensures .0)
+write-fields-shared-slice-read-k t c =
+    let c2 = c .before .before in
+    let c3 = c2 .before in
+    row-index _ _ _ _ _ _ (c3 .loop .inv .row) (c2 .loop-test .taken) (c .before .word-at .ensures .0)
 
 write-fields-cast-k : (t : ℕ) → write-fields-lts.Need-cast-k (write-fields-calls t) (write-fields-at t) write-fields.Post write-fields-Inv-loop write-fields-μ-loop
 write-fields-cast-k t c =
@@ -101,19 +110,38 @@ write-fields-cast-k t c =
     omega (arith, row-small _ _ _ _ _ _ (c3 .loop .inv .row) (c2 .loop-test .taken) (c1 .word-at .ensures .0))
 
 write-fields-begin-requires : (t : ℕ) → write-fields-lts.Need-begin-requires (write-fields-calls t) (write-fields-at t) write-fields.Post write-fields-Inv-loop write-fields-μ-loop
-write-fields-begin-requires t c κs = writing-order _ _ _ _ _ _ _ _ _ _ _ _ _ _ _ _ _ _ _ (c .before .before .before .before .before .before .before .before .before .before .before .pre .1 .walk) (c .before .before .before .before .loop .inv) (c .before .before .before .loop-test .taken) (c .before .before .word-at .ensures .0)
+write-fields-begin-requires t c κs =
+    let c2 = c .before .before in
+    let c3 = c2 .before in
+    let c4 = c3 .before in
+    let c11 = c4 .before .before .before .before .before .before .before in
+    writing-order _ _ _ _ _ _ _ _ _ _ _ _ _ _ _ _ _ _ _ (c11 .pre .1 .walk) (c4 .loop .inv) (c3 .loop-test .taken) (c2 .word-at .ensures .0)
 
 write-fields-write-item-requires : (t : ℕ) → write-fields-lts.Need-write-item-requires (write-fields-calls t) (write-fields-at t) write-fields.Post write-fields-Inv-loop write-fields-μ-loop
-write-fields-write-item-requires t c κs = (omega (arith, row-below _ _ _ _ _ _ (c .before .before .before .before .before .before .before .before .loop .inv .row) (c .before .before .before .before .before .before .before .loop-test .taken) (c .before .before .before .before .before .before .word-at .ensures .0), c .before .before .before .before .before .before .before .before .before .before .before .before .before .before .before .pre .0), (row-under _ _ _ _ _ _ (c .before .before .before .before .before .before .before .before .loop .inv .row) (c .before .before .before .before .before .before .before .loop-test .taken) (c .before .before .before .before .before .before .word-at .ensures .0), writing-upto _ _ _ _ _ _ _ _ _ _ _ _ _ _ _ _ _ _ _ (c .before .before .before .before .before .before .before .before .before .before .before .before .before .before .before .pre .1 .walk) (c .before .before .before .before .before .before .before .before .loop .inv) (c .before .before .before .before .before .before .before .loop-test .taken) (c .before .before .before .before .before .before .word-at .ensures .0), writing-room _ _ _ _ _ _ _ _ _ _ _ _ _ _ _ _ _ _ _ (c .before .before .before .before .before .before .before .before .before .before .before .before .before .before .before .pre .1 .walk) (c .before .before .before .before .before .before .before .before .loop .inv) (c .before .before .before .before .before .before .before .loop-test .taken) (c .before .before .before .before .before .before .word-at .ensures .0) _ refl _ _ (c .before .before .before .begin .ensures)))
+write-fields-write-item-requires t c κs =
+    let c3 = c .before .before .before in
+    let c6 = c3 .before .before .before in
+    let c7 = c6 .before in
+    let c8 = c7 .before in
+    let c15 = c8 .before .before .before .before .before .before .before in
+    (omega (arith, row-below _ _ _ _ _ _ (c8 .loop .inv .row) (c7 .loop-test .taken) (c6 .word-at .ensures .0), c15 .pre .0), (row-under _ _ _ _ _ _ (c8 .loop .inv .row) (c7 .loop-test .taken) (c6 .word-at .ensures .0), writing-upto _ _ _ _ _ _ _ _ _ _ _ _ _ _ _ _ _ _ _ (c15 .pre .1 .walk) (c8 .loop .inv) (c7 .loop-test .taken) (c6 .word-at .ensures .0), writing-room _ _ _ _ _ _ _ _ _ _ _ _ _ _ _ _ _ _ _ (c15 .pre .1 .walk) (c8 .loop .inv) (c7 .loop-test .taken) (c6 .word-at .ensures .0) _ refl _ _ (c3 .begin .ensures)))
 
 write-fields-next-head-requires : (t : ℕ) → write-fields-lts.Need-next-head-requires (write-fields-calls t) (write-fields-at t) write-fields.Post write-fields-Inv-loop write-fields-μ-loop
-write-fields-next-head-requires t c κs = λ z. omega (arith, writing-four _ _ _ _ _ _ _ _ _ _ _ _ _ _ _ _ _ _ _ (c .before .before .before .before .before .before .before .before .before .before .before .before .before .before .before .before .before .before .pre .1 .walk) (c .before .before .before .before .before .before .before .before .before .before .before .loop .inv) (c .before .before .before .before .before .before .before .before .before .before .loop-test .taken) (c .before .before .before .before .before .before .before .before .before .word-at .ensures .0) _ refl z, c .before .before .before .before .before .before .before .before .before .before .before .loop .inv .long, c .before .before .before .before .before .before .before .before .before .before .before .before .before .before .before .before .before .before .good)
+write-fields-next-head-requires t c κs =
+    let c9 = c .before .before .before .before .before .before .before .before .before in
+    let c10 = c9 .before in
+    let c11 = c10 .before in
+    let c18 = c11 .before .before .before .before .before .before .before in
+    λ z. omega
+    (arith, writing-four _ _ _ _ _ _ _ _ _ _ _ _ _ _ _ _ _ _ _ (c18 .pre .1 .walk) (c11 .loop .inv) (c10 .loop-test .taken) (c9 .word-at .ensures .0) _ refl z, c11 .loop .inv .long, c18 .good)
 
 write-fields-next-tail-requires : (t : ℕ) → write-fields-lts.Need-next-tail-requires (write-fields-calls t) (write-fields-at t) write-fields.Post write-fields-Inv-loop write-fields-μ-loop
 write-fields-next-tail-requires t c κs = search needs
 
 write-fields-add-a : (t : ℕ) → write-fields-lts.Need-add-a (write-fields-calls t) (write-fields-at t) write-fields.Post write-fields-Inv-loop write-fields-μ-loop
-write-fields-add-a t c = omega (arith, c .before .before .before .before .before .before .before .before .before .before .before .before .before .loop .inv .row .near)
+write-fields-add-a t c =
+    let c13 = c .before .before .before .before .before .before .before .before .before .before .before .before .before in
+    omega (arith, c13 .loop .inv .row .near)
 
 write-fields-sub-left : (t : ℕ) → write-fields-lts.Need-sub-left (write-fields-calls t) (write-fields-at t) write-fields.Post write-fields-Inv-loop write-fields-μ-loop
 write-fields-sub-left t c = omega arith
@@ -122,7 +150,15 @@ write-fields-loop-less : (t : ℕ) → write-fields-lts.Need-loop-less (write-fi
 write-fields-loop-less t c = omega arith
 
 write-fields-loop-again : (t : ℕ) → write-fields-lts.Need-loop-again (write-fields-calls t) (write-fields-at t) write-fields.Post write-fields-Inv-loop write-fields-μ-loop
-write-fields-loop-again t c = rw (c .before .next-head .ensures, c .next-tail .ensures) (writing-next _ _ _ _ _ _ _ _ _ _ _ _ _ _ _ _ _ _ _ (c .before .before .before .before .before .before .before .before .before .before .before .before .before .before .before .before .before .before .before .before .pre .1 .walk) (c .before .before .before .before .before .before .before .before .before .before .before .before .before .loop .inv) (c .before .before .before .before .before .before .before .before .before .before .before .before .loop-test .taken) (c .before .before .before .before .before .before .before .before .before .before .before .word-at .ensures .0) _ refl _ _ (c .before .before .before .before .before .before .before .before .begin .ensures) _ _ (c .before .before .before .before .write-item .ensures))
+write-fields-loop-again t c =
+    let c4 = c .before .before .before .before in
+    let c8 = c4 .before .before .before .before in
+    let c11 = c8 .before .before .before in
+    let c12 = c11 .before in
+    let c13 = c12 .before in
+    let c20 = c13 .before .before .before .before .before .before .before in
+    rw (c .before .next-head .ensures, c .next-tail .ensures)
+    (writing-next _ _ _ _ _ _ _ _ _ _ _ _ _ _ _ _ _ _ _ (c20 .pre .1 .walk) (c13 .loop .inv) (c12 .loop-test .taken) (c11 .word-at .ensures .0) _ refl _ _ (c8 .begin .ensures) _ _ (c4 .write-item .ensures))
 
 write-fields-same-length : (t : ℕ) → write-fields-lts.Need-same-length (write-fields-calls t) (write-fields-at t) write-fields.Post write-fields-Inv-loop write-fields-μ-loop
 write-fields-same-length t c = c .before .loop .inv .long
@@ -134,90 +170,177 @@ write-item-look-requires : (t : ℕ) → write-item-lts.Need-look-requires (writ
 write-item-look-requires t c κs = search needs
 
 write-item-add-first : (t : ℕ) → write-item-lts.Need-add-first (write-item-calls t) (write-item-at t) write-item.Post
-write-item-add-first t c = omega (arith, node-ok _ _ _ _ (c .before .look .ensures) (c .before .before .before .before .before .before .before .pre .1 .0) .near)
+write-item-add-first t c =
+    let c7 = c .before .before .before .before .before .before .before in
+    omega (arith, node-ok _ _ _ _ (c .before .look .ensures) (c7 .pre .1 .0) .near)
 
 write-item-write-fields-requires : (t : ℕ) → write-item-lts.Need-write-fields-requires (write-item-calls t) (write-item-at t) write-item.Post
-write-item-write-fields-requires t c κs = (omega (arith, c .before .before .before .before .before .before .before .before .before .before .pre .0), container-ready _ _ _ _ (c .before .before .before .before .look .ensures) (c .before .before .before .before .before .before .before .before .before .before .pre .1 .0) (c .before .if1 .taken) _ _ _ _ _ _ (c .before .before .before .before .before .before .before .before .before .before .pre .1 .1) (c .before .before .before .before .before .before .before .before .before .before .pre .1 .2))
+write-item-write-fields-requires t c κs =
+    let c4 = c .before .before .before .before in
+    let c10 = c4 .before .before .before .before .before .before in
+    (omega (arith, c10 .pre .0), container-ready _ _ _ _ (c4 .look .ensures) (c10 .pre .1 .0) (c .before .if1 .taken) _ _ _ _ _ _ (c10 .pre .1 .1) (c10 .pre .1 .2))
 
 write-item-select-requires : (t : ℕ) → write-item-lts.Need-select-requires (write-item-calls t) (write-item-at t) write-item.Post
-write-item-select-requires t c κs = omega (arith, node-ok _ _ _ _ (c .before .before .before .before .before .look .ensures) (c .before .before .before .before .before .before .before .before .before .before .before .pre .1 .0) .near)
+write-item-select-requires t c κs =
+    let c5 = c .before .before .before .before .before in
+    let c11 = c5 .before .before .before .before .before .before in
+    omega (arith, node-ok _ _ _ _ (c5 .look .ensures) (c11 .pre .1 .0) .near)
 
 write-item-enum-told : (t : ℕ) → write-item-lts.Need-enum-told (write-item-calls t) (write-item-at t) write-item.Post
 write-item-enum-told t c = search needs
 
 write-item-put-selector-requires : (t : ℕ) → write-item-lts.Need-put-selector-requires (write-item-calls t) (write-item-at t) write-item.Post
 write-item-put-selector-requires t c κs =
-    let z = bare-item _ _ _ (c .before .before .before .before .before .before .before .before .before .look .ensures) (c .before .before .before .before .if2 .taken) _ (c .before .before .before .before .before .before .before .before .before .before .before .before .before .before .before .args .bodies .now) _ (c .before .before .before .before .before .before .before .before .before .before .before .before .before .before .before .args .j) (sym (c .before .enum-told .given .1) ∙ c .before .before .before .select .ensures) in
-    selector-need _ _ _ _ (c .before .before .before .before .before .before .before .before .before .before .before .before .before .before .before .args .contents .now) (c .before .before .before .before .before .before .before .before .before .before .before .before .before .before .before .args .i) _ _ (z .1) refl (z .2) (z .3) (node-ok _ _ _ _ (c .before .before .before .before .before .before .before .before .before .look .ensures) (c .before .before .before .before .before .before .before .before .before .before .before .before .before .before .before .pre .1 .0) .most (c .before .before .before .before .if2 .taken)) (c .before .before .before .before .before .before .before .before .before .before .before .before .before .before .before .pre .1 .2)
+    let c3 = c .before .before .before in
+    let c4 = c3 .before in
+    let c9 = c4 .before .before .before .before .before in
+    let c15 = c9 .before .before .before .before .before .before in
+    let z = bare-item _ _ _ (c9 .look .ensures) (c4 .if2 .taken) _ (c15 .args .bodies .now) _ (c15 .args .j)
+    (sym (c .before .enum-told .given .1) ∙ c3 .select .ensures) in
+    selector-need _ _ _ _ (c15 .args .contents .now) (c15 .args .i) _ _ (z .1) refl (z .2) (z .3)
+    (node-ok _ _ _ _ (c9 .look .ensures) (c15 .pre .1 .0) .most (c4 .if2 .taken)) (c15 .pre .1 .2)
 
 write-item-add-word : (t : ℕ) → write-item-lts.Need-add-word (write-item-calls t) (write-item-at t) write-item.Post
-write-item-add-word t c = omega (arith, bare-item _ _ _ (c .before .before .before .before .before .before .before .before .before .before .before .before .look .ensures) (c .before .before .before .before .before .before .before .if2 .taken) _ (c .before .before .before .before .before .before .before .before .before .before .before .before .before .before .before .before .before .before .args .bodies .now) _ (c .before .before .before .before .before .before .before .before .before .before .before .before .before .before .before .before .before .before .args .j) (sym (c .before .before .before .before .enum-told .given .1) ∙ c .before .before .before .before .before .before .select .ensures) .2, c .before .before .before .before .before .before .before .before .before .before .before .before .before .before .before .before .before .before .good)
+write-item-add-word t c =
+    let c4 = c .before .before .before .before in
+    let c6 = c4 .before .before in
+    let c7 = c6 .before in
+    let c12 = c7 .before .before .before .before .before in
+    let c18 = c12 .before .before .before .before .before .before in
+    omega (arith, bare-item _ _ _ (c12 .look .ensures) (c7 .if2 .taken) _ (c18 .args .bodies .now) _ (c18 .args .j) (sym (c4 .enum-told .given .1) ∙ c6 .select .ensures) .2, c18 .good)
 
 write-item-add-to : (t : ℕ) → write-item-lts.Need-add-to (write-item-calls t) (write-item-at t) write-item.Post
 write-item-add-to t c =
-    let z = bare-item _ _ _ (c .before .before .before .before .before .before .before .before .before .before .before .before .look .ensures) (c .before .before .before .before .before .before .before .if2 .taken) _ (c .before .before .before .before .before .before .before .before .before .before .before .before .before .before .before .before .before .before .args .bodies .now) _ (c .before .before .before .before .before .before .before .before .before .before .before .before .before .before .before .before .before .before .args .j) (sym (c .before .before .before .before .enum-told .given .1) ∙ c .before .before .before .before .before .before .select .ensures) in
-    omega (arith, selector-need _ _ _ _ (c .before .before .before .before .before .before .before .before .before .before .before .before .before .before .before .before .before .before .args .contents .now) (c .before .before .before .before .before .before .before .before .before .before .before .before .before .before .before .before .before .before .args .i) _ _ (z .1) refl (z .2) (z .3) (node-ok _ _ _ _ (c .before .before .before .before .before .before .before .before .before .before .before .before .look .ensures) (c .before .before .before .before .before .before .before .before .before .before .before .before .before .before .before .before .before .before .pre .1 .0) .most (c .before .before .before .before .before .before .before .if2 .taken)) (c .before .before .before .before .before .before .before .before .before .before .before .before .before .before .before .before .before .before .pre .1 .2) .2)
+    let c4 = c .before .before .before .before in
+    let c6 = c4 .before .before in
+    let c7 = c6 .before in
+    let c12 = c7 .before .before .before .before .before in
+    let c18 = c12 .before .before .before .before .before .before in
+    let z = bare-item _ _ _ (c12 .look .ensures) (c7 .if2 .taken) _ (c18 .args .bodies .now) _ (c18 .args .j)
+    (sym (c4 .enum-told .given .1) ∙ c6 .select .ensures) in
+    omega (arith, selector-need _ _ _ _ (c18 .args .contents .now) (c18 .args .i) _ _ (z .1) refl (z .2) (z .3) (node-ok _ _ _ _ (c12 .look .ensures) (c18 .pre .1 .0) .most (c7 .if2 .taken)) (c18 .pre .1 .2) .2)
 
 write-item-enum-known-c : (t : ℕ) → write-item-lts.Need-enum-known-c (write-item-calls t) (write-item-at t) write-item.Post
 write-item-enum-known-c t c = search needs
 
 write-item-put-selector-requires-2 : (t : ℕ) → write-item-lts.Need-put-selector-requires-2 (write-item-calls t) (write-item-at t) write-item.Post
 write-item-put-selector-requires-2 t c κs =
-    let z = body-item _ _ _ (c .before .before .before .before .before .before .before .before .before .before .look .ensures) (c .before .before .before .before .before .if2 .taken) _ (c .before .before .before .before .before .before .before .before .before .before .before .before .before .before .before .before .args .bodies .now) _ (c .before .before .before .before .before .before .before .before .before .before .before .before .before .before .before .before .args .j) ((c .before .before .before .before .before .before .before .before .before .before .before .before .before .before .before .before .pre .1 .0) .legal) _ (sym (c .before .before .c .given .1) ∙ c .before .before .before .before .select .ensures) in
-    selector-need _ _ _ _ (c .before .before .before .before .before .before .before .before .before .before .before .before .before .before .before .before .args .contents .now) (c .before .before .before .before .before .before .before .before .before .before .before .before .before .before .before .before .args .i) _ _ (z .1) refl (z .2) (z .3) (node-ok _ _ _ _ (c .before .before .before .before .before .before .before .before .before .before .look .ensures) (c .before .before .before .before .before .before .before .before .before .before .before .before .before .before .before .before .pre .1 .0) .most (c .before .before .before .before .before .if2 .taken)) (c .before .before .before .before .before .before .before .before .before .before .before .before .before .before .before .before .pre .1 .2)
+    let c2 = c .before .before in
+    let c4 = c2 .before .before in
+    let c5 = c4 .before in
+    let c10 = c5 .before .before .before .before .before in
+    let c16 = c10 .before .before .before .before .before .before in
+    let z = body-item _ _ _ (c10 .look .ensures) (c5 .if2 .taken) _ (c16 .args .bodies .now) _ (c16 .args .j) ((c16 .pre .1 .0) .legal) _
+    (sym (c2 .c .given .1) ∙ c4 .select .ensures) in
+    selector-need _ _ _ _ (c16 .args .contents .now) (c16 .args .i) _ _ (z .1) refl (z .2) (z .3)
+    (node-ok _ _ _ _ (c10 .look .ensures) (c16 .pre .1 .0) .most (c5 .if2 .taken)) (c16 .pre .1 .2)
 
 write-item-add-word-2 : (t : ℕ) → write-item-lts.Need-add-word-2 (write-item-calls t) (write-item-at t) write-item.Post
-write-item-add-word-2 t c = omega (arith, body-item _ _ _ (c .before .before .before .before .before .before .before .before .before .before .before .before .before .look .ensures) (c .before .before .before .before .before .before .before .before .if2 .taken) _ (c .before .before .before .before .before .before .before .before .before .before .before .before .before .before .before .before .before .before .before .args .bodies .now) _ (c .before .before .before .before .before .before .before .before .before .before .before .before .before .before .before .before .before .before .before .args .j) ((c .before .before .before .before .before .before .before .before .before .before .before .before .before .before .before .before .before .before .before .pre .1 .0) .legal) _ (sym (c .before .before .before .before .before .c .given .1) ∙ c .before .before .before .before .before .before .before .select .ensures) .2, c .before .before .before .before .before .before .before .before .before .before .before .before .before .before .before .before .before .before .before .good)
+write-item-add-word-2 t c =
+    let c5 = c .before .before .before .before .before in
+    let c7 = c5 .before .before in
+    let c8 = c7 .before in
+    let c13 = c8 .before .before .before .before .before in
+    let c19 = c13 .before .before .before .before .before .before in
+    omega (arith, body-item _ _ _ (c13 .look .ensures) (c8 .if2 .taken) _ (c19 .args .bodies .now) _ (c19 .args .j) ((c19 .pre .1 .0) .legal) _ (sym (c5 .c .given .1) ∙ c7 .select .ensures) .2, c19 .good)
 
 write-item-add-to-2 : (t : ℕ) → write-item-lts.Need-add-to-2 (write-item-calls t) (write-item-at t) write-item.Post
 write-item-add-to-2 t c =
-    let z = body-item _ _ _ (c .before .before .before .before .before .before .before .before .before .before .before .before .before .look .ensures) (c .before .before .before .before .before .before .before .before .if2 .taken) _ (c .before .before .before .before .before .before .before .before .before .before .before .before .before .before .before .before .before .before .before .args .bodies .now) _ (c .before .before .before .before .before .before .before .before .before .before .before .before .before .before .before .before .before .before .before .args .j) ((c .before .before .before .before .before .before .before .before .before .before .before .before .before .before .before .before .before .before .before .pre .1 .0) .legal) _ (sym (c .before .before .before .before .before .c .given .1) ∙ c .before .before .before .before .before .before .before .select .ensures) in
-    omega (arith, selector-need _ _ _ _ (c .before .before .before .before .before .before .before .before .before .before .before .before .before .before .before .before .before .before .before .args .contents .now) (c .before .before .before .before .before .before .before .before .before .before .before .before .before .before .before .before .before .before .before .args .i) _ _ (z .1) refl (z .2) (z .3) (node-ok _ _ _ _ (c .before .before .before .before .before .before .before .before .before .before .before .before .before .look .ensures) (c .before .before .before .before .before .before .before .before .before .before .before .before .before .before .before .before .before .before .before .pre .1 .0) .most (c .before .before .before .before .before .before .before .before .if2 .taken)) (c .before .before .before .before .before .before .before .before .before .before .before .before .before .before .before .before .before .before .before .pre .1 .2) .2)
+    let c5 = c .before .before .before .before .before in
+    let c7 = c5 .before .before in
+    let c8 = c7 .before in
+    let c13 = c8 .before .before .before .before .before in
+    let c19 = c13 .before .before .before .before .before .before in
+    let z = body-item _ _ _ (c13 .look .ensures) (c8 .if2 .taken) _ (c19 .args .bodies .now) _ (c19 .args .j) ((c19 .pre .1 .0) .legal) _
+    (sym (c5 .c .given .1) ∙ c7 .select .ensures) in
+    omega (arith, selector-need _ _ _ _ (c19 .args .contents .now) (c19 .args .i) _ _ (z .1) refl (z .2) (z .3) (node-ok _ _ _ _ (c13 .look .ensures) (c19 .pre .1 .0) .most (c8 .if2 .taken)) (c19 .pre .1 .2) .2)
 
 write-item-write-item-requires : (t : ℕ) → write-item-lts.Need-write-item-requires (write-item-calls t) (write-item-at t) write-item.Post
 write-item-write-item-requires t c κs =
-    let z = body-item _ _ _ (c .before .before .before .before .before .before .before .before .before .before .before .before .before .before .look .ensures) (c .before .before .before .before .before .before .before .before .before .if2 .taken) _ (c .before .before .before .before .before .before .before .before .before .before .before .before .before .before .before .before .before .before .before .before .args .bodies .now) _ (c .before .before .before .before .before .before .before .before .before .before .before .before .before .before .before .before .before .before .before .before .args .j) ((c .before .before .before .before .before .before .before .before .before .before .before .before .before .before .before .before .before .before .before .before .pre .1 .0) .legal) _ (sym (c .before .before .before .before .before .before .c .given .1) ∙ c .before .before .before .before .before .before .before .before .select .ensures) in
-    (omega (arith, c .before .before .before .before .before .before .before .before .before .before .before .before .before .before .before .before .before .before .before .before .pre .0, z .4), (under-below _ _ _ _ (omega (arith, z .4)) (c .before .before .before .before .before .before .before .before .before .before .before .before .before .before .before .before .before .before .before .before .pre .1 .0), rw (z .0) at (c .before .before .before .before .before .before .before .before .before .before .before .before .before .before .before .before .before .before .before .before .pre .1 .1), body-room _ _ _ _ _ (z .1) (c .before .before .before .before .before .before .before .before .before .before .before .before .before .before .before .before .before .before .before .before .pre .1 .2) _ (c .before .before .before .put-selector2 .ensures)))
+    let c3 = c .before .before .before in
+    let c6 = c3 .before .before .before in
+    let c8 = c6 .before .before in
+    let c9 = c8 .before in
+    let c14 = c9 .before .before .before .before .before in
+    let c20 = c14 .before .before .before .before .before .before in
+    let z = body-item _ _ _ (c14 .look .ensures) (c9 .if2 .taken) _ (c20 .args .bodies .now) _ (c20 .args .j) ((c20 .pre .1 .0) .legal) _
+    (sym (c6 .c .given .1) ∙ c8 .select .ensures) in
+    (omega (arith, c20 .pre .0, z .4), (under-below _ _ _ _ (omega (arith, z .4)) (c20 .pre .1 .0), rw (z .0) at (c20 .pre .1 .1), body-room _ _ _ _ _ (z .1) (c20 .pre .1 .2) _ (c3 .put-selector2 .ensures)))
 
 write-item-enum-told-2 : (t : ℕ) → write-item-lts.Need-enum-told-2 (write-item-calls t) (write-item-at t) write-item.Post
 write-item-enum-told-2 t c = search needs
 
 write-item-put-leaf-requires : (t : ℕ) → write-item-lts.Need-put-leaf-requires (write-item-calls t) (write-item-at t) write-item.Post
 write-item-put-leaf-requires t c κs =
-    let w = tree-walk _ _ _ (c .before .before .before .before .before .before .look .ensures) (c .before .before .before .if1 .left) (c .before .if2 .left) (c .before .before .before .before .before .before .before .before .before .before .before .before .args .contents .now) (c .before .before .before .before .before .before .before .before .before .before .before .before .args .bodies .now) (c .before .before .before .before .before .before .before .before .before .before .before .before .args .i) (c .before .before .before .before .before .before .before .before .before .before .before .before .args .j) in
-    let x = tree-write _ _ _ (c .before .before .before .before .before .before .look .ensures) (c .before .before .before .if1 .left) (c .before .if2 .left) (c .before .before .before .before .before .before .before .before .before .before .before .before .args .contents .now) (c .before .before .before .before .before .before .before .before .before .before .before .before .args .bodies .now) (c .before .before .before .before .before .before .before .before .before .before .before .before .args .i) (c .before .before .before .before .before .before .before .before .before .before .before .before .args .j) in
-    (rw w at (c .before .before .before .before .before .before .before .before .before .before .before .before .pre .1 .1), rw x at (c .before .before .before .before .before .before .before .before .before .before .before .before .pre .1 .2))
+    let c3 = c .before .before .before in
+    let c6 = c3 .before .before .before in
+    let c12 = c6 .before .before .before .before .before .before in
+    let w = tree-walk _ _ _ (c6 .look .ensures) (c3 .if1 .left) (c .before .if2 .left) (c12 .args .contents .now) (c12 .args .bodies .now) (c12 .args .i)
+    (c12 .args .j) in
+    let x = tree-write _ _ _ (c6 .look .ensures) (c3 .if1 .left) (c .before .if2 .left) (c12 .args .contents .now) (c12 .args .bodies .now) (c12 .args .i)
+    (c12 .args .j) in
+    (rw w at (c12 .pre .1 .1), rw x at (c12 .pre .1 .2))
 
 write-item-same-length : (t : ℕ) → write-item-lts.Need-same-length (write-item-calls t) (write-item-at t) write-item.Post
 write-item-same-length t c = search needs
 
 write-item-returns : (t : ℕ) → write-item-lts.Need-returns (write-item-calls t) (write-item-at t) write-item.Post
-write-item-returns t c = rw (container-walk _ _ _ (c .before .before .before .before .before .before .before .look .ensures) (c .before .before .before .before .if1 .taken), container-write _ _ _ (c .before .before .before .before .before .before .before .look .ensures) (c .before .before .before .before .if1 .taken)) (c .before .before .write-fields .ensures)
+write-item-returns t c =
+    let c2 = c .before .before in
+    let c4 = c2 .before .before in
+    let c7 = c4 .before .before .before in
+    rw (container-walk _ _ _ (c7 .look .ensures) (c4 .if1 .taken), container-write _ _ _ (c7 .look .ensures) (c4 .if1 .taken)) (c2 .write-fields .ensures)
 
 write-item-same-length-2 : (t : ℕ) → write-item-lts.Need-same-length-2 (write-item-calls t) (write-item-at t) write-item.Post
 write-item-same-length-2 t c = search needs
 
 write-item-returns-2 : (t : ℕ) → write-item-lts.Need-returns-2 (write-item-calls t) (write-item-at t) write-item.Post
 write-item-returns-2 t c =
-    let z = bare-item _ _ _ (c .before .before .before .before .before .before .before .before .before .before .before .before .look .ensures) (c .before .before .before .before .before .before .before .if2 .taken) _ (c .before .before .before .before .before .before .before .before .before .before .before .before .before .before .before .before .before .before .args .bodies .now) _ (c .before .before .before .before .before .before .before .before .before .before .before .before .before .before .before .before .before .before .args .j) (sym (c .before .before .before .before .enum-told .given .1) ∙ c .before .before .before .before .before .before .select .ensures) in
-    bare-done _ _ _ _ _ _ _ (z .0) (z .1) _ (c .before .before .put-selector .ensures)
+    let c2 = c .before .before in
+    let c4 = c2 .before .before in
+    let c6 = c4 .before .before in
+    let c7 = c6 .before in
+    let c12 = c7 .before .before .before .before .before in
+    let c18 = c12 .before .before .before .before .before .before in
+    let z = bare-item _ _ _ (c12 .look .ensures) (c7 .if2 .taken) _ (c18 .args .bodies .now) _ (c18 .args .j)
+    (sym (c4 .enum-told .given .1) ∙ c6 .select .ensures) in
+    bare-done _ _ _ _ _ _ _ (z .0) (z .1) _ (c2 .put-selector .ensures)
 
 write-item-same-length-3 : (t : ℕ) → write-item-lts.Need-same-length-3 (write-item-calls t) (write-item-at t) write-item.Post
 write-item-same-length-3 t c = search needs
 
 write-item-returns-3 : (t : ℕ) → write-item-lts.Need-returns-3 (write-item-calls t) (write-item-at t) write-item.Post
 write-item-returns-3 t c =
-    let z = body-item _ _ _ (c .before .before .before .before .before .before .before .before .before .before .before .before .before .before .before .before .before .look .ensures) (c .before .before .before .before .before .before .before .before .before .before .before .before .if2 .taken) _ (c .before .before .before .before .before .before .before .before .before .before .before .before .before .before .before .before .before .before .before .before .before .before .before .args .bodies .now) _ (c .before .before .before .before .before .before .before .before .before .before .before .before .before .before .before .before .before .before .before .before .before .before .before .args .j) ((c .before .before .before .before .before .before .before .before .before .before .before .before .before .before .before .before .before .before .before .before .before .before .before .pre .1 .0) .legal) _ (sym (c .before .before .before .before .before .before .before .before .before .c .given .1) ∙ c .before .before .before .before .before .before .before .before .before .before .before .select .ensures) in
-    body-done _ _ _ _ _ _ _ (z .0) (z .1) _ (c .before .before .before .before .before .before .put-selector2 .ensures) _ _ (c .before .before .write-item .ensures)
+    let c2 = c .before .before in
+    let c6 = c2 .before .before .before .before in
+    let c9 = c6 .before .before .before in
+    let c11 = c9 .before .before in
+    let c12 = c11 .before in
+    let c17 = c12 .before .before .before .before .before in
+    let c23 = c17 .before .before .before .before .before .before in
+    let z = body-item _ _ _ (c17 .look .ensures) (c12 .if2 .taken) _ (c23 .args .bodies .now) _ (c23 .args .j) ((c23 .pre .1 .0) .legal) _
+    (sym (c9 .c .given .1) ∙ c11 .select .ensures) in
+    body-done _ _ _ _ _ _ _ (z .0) (z .1) _ (c6 .put-selector2 .ensures) _ _ (c2 .write-item .ensures)
 
 write-item-returns-4 : (t : ℕ) → write-item-lts.Need-returns-4 (write-item-calls t) (write-item-at t) write-item.Post
-write-item-returns-4 t c = absurd (rw (wrong-item _ _ _ (c .before .before .before .before .before .before .before .before .look .ensures) (c .before .before .before .if2 .taken) (c .before .before .before .before .before .before .before .before .before .before .before .before .before .before .args .contents .now) (c .before .before .before .before .before .before .before .before .before .before .before .before .before .before .args .bodies .now) (c .before .before .before .before .before .before .before .before .before .before .before .before .before .before .args .i) (c .before .before .before .before .before .before .before .before .before .before .before .before .before .before .args .j) _ (sym (c .enum-told2 .given .1) ∙ c .before .before .select .ensures)) at (c .before .before .before .before .before .before .before .before .before .before .before .before .before .before .pre .1 .1))
+write-item-returns-4 t c =
+    let c2 = c .before .before in
+    let c3 = c2 .before in
+    let c8 = c3 .before .before .before .before .before in
+    let c14 = c8 .before .before .before .before .before .before in
+    absurd (rw (wrong-item _ _ _ (c8 .look .ensures) (c3 .if2 .taken) (c14 .args .contents .now) (c14 .args .bodies .now) (c14 .args .i) (c14 .args .j) _ (sym (c .enum-told2 .given .1) ∙ c2 .select .ensures)) at (c14 .pre .1 .1))
 
 write-item-same-length-4 : (t : ℕ) → write-item-lts.Need-same-length-4 (write-item-calls t) (write-item-at t) write-item.Post
 write-item-same-length-4 t c = search needs
 
 write-item-returns-5 : (t : ℕ) → write-item-lts.Need-returns-5 (write-item-calls t) (write-item-at t) write-item.Post
-write-item-returns-5 t c = rw (tree-walk _ _ _ (c .before .before .before .before .before .before .before .before .before .look .ensures) (c .before .before .before .before .before .before .if1 .left) (c .before .before .before .before .if2 .left), tree-write _ _ _ (c .before .before .before .before .before .before .before .before .before .look .ensures) (c .before .before .before .before .before .before .if1 .left) (c .before .before .before .before .if2 .left)) (c .before .before .put-leaf .ensures)
+write-item-returns-5 t c =
+    let c2 = c .before .before in
+    let c4 = c2 .before .before in
+    let c6 = c4 .before .before in
+    let c9 = c6 .before .before .before in
+    rw (tree-walk _ _ _ (c9 .look .ensures) (c6 .if1 .left) (c4 .if2 .left), tree-write _ _ _ (c9 .look .ensures) (c6 .if1 .left) (c4 .if2 .left))
+    (c2 .put-leaf .ensures)
 
 pub +write-fields+write-item-spec : {M : Type 1} → statement M
 +write-fields+write-item-spec = close μ-write-fields μ-write-item (λ t. write-fields-lts.spec (write-fields-calls t)

@@ -15,7 +15,10 @@ same-length : tie.Need-same-length
 same-length c = search needs
 
 returns : tie.Need-returns
-returns c = record { place = rw (c .before .before .before .before .if1 .taken); list = rw (c .before .before .before .before .if1 .taken) (c .before .before .put-four .ensures) }
+returns c =
+    let c2 = c .before .before in
+    let c4 = c2 .before .before in
+    record { place = rw (c4 .if1 .taken); list = rw (c4 .if1 .taken) (c2 .put-four .ensures) }
 
 returns-2 : tie.Need-returns-2
 returns-2 c = record { place = rw (ne-eqb _ _ (c .if1 .left)); list = rw (ne-eqb _ _ (c .if1 .left)) }

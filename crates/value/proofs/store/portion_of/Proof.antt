@@ -14,7 +14,9 @@ abbrev μ-loop : tie.MeasureT-loop
 μ-loop lens layout t a0 n a₀ left₀ sum₀ a left sum = left
 
 loop-holds : tie.Need-loop-holds Inv-loop μ-loop
-loop-holds c = record { row = c .before .before .pre .0; same = zero-add _ }
+loop-holds c =
+    let c2 = c .before .before in
+    record { row = c2 .pre .0; same = zero-add _ }
 
 word-at-requires : tie.Need-word-at-requires Inv-loop μ-loop
 word-at-requires c κs = search needs
@@ -23,7 +25,10 @@ mul-width-of : tie.Need-mul-width-of Inv-loop μ-loop
 mul-width-of c = omega (arith, c .word-at .ensures .1)
 
 shared-slice-read-width-of : tie.Need-shared-slice-read-width-of Inv-loop μ-loop
-shared-slice-read-width-of c = row-index _ _ _ _ _ _ (c .before .before .before .loop .inv .row) (c .before .before .loop-test .taken) (c .before .word-at .ensures .0)
+shared-slice-read-width-of c =
+    let c2 = c .before .before in
+    let c3 = c2 .before in
+    row-index _ _ _ _ _ _ (c3 .loop .inv .row) (c2 .loop-test .taken) (c .before .word-at .ensures .0)
 
 cast-width-of : tie.Need-cast-width-of Inv-loop μ-loop
 cast-width-of c =
@@ -36,10 +41,17 @@ width-of-requires : tie.Need-width-of-requires Inv-loop μ-loop
 width-of-requires c κs = search needs
 
 add-sum : tie.Need-add-sum Inv-loop μ-loop
-add-sum c = omega (arith, adding-same _ _ _ _ _ _ _ _ _ _ (c .before .before .before .before .loop .inv) (c .before .before .before .loop-test .taken) (c .before .before .word-at .ensures .0) (c .width-of .ensures), c .before .before .before .before .before .before .before .pre .1)
+add-sum c =
+    let c2 = c .before .before in
+    let c3 = c2 .before in
+    let c4 = c3 .before in
+    let c7 = c4 .before .before .before in
+    omega (arith, adding-same _ _ _ _ _ _ _ _ _ _ (c4 .loop .inv) (c3 .loop-test .taken) (c2 .word-at .ensures .0) (c .width-of .ensures), c7 .pre .1)
 
 add-a : tie.Need-add-a Inv-loop μ-loop
-add-a c = omega (arith, c .before .before .before .before .loop .inv .row .near)
+add-a c =
+    let c4 = c .before .before .before .before in
+    omega (arith, c4 .loop .inv .row .near)
 
 sub-left : tie.Need-sub-left Inv-loop μ-loop
 sub-left c = omega arith
@@ -48,7 +60,11 @@ loop-less : tie.Need-loop-less Inv-loop μ-loop
 loop-less c = omega arith
 
 loop-again : tie.Need-loop-again Inv-loop μ-loop
-loop-again c = adding-next _ _ _ _ _ _ _ _ _ _ (c .before .before .before .before .loop .inv) (c .before .before .before .loop-test .taken) (c .before .before .word-at .ensures .0) (c .width-of .ensures)
+loop-again c =
+    let c2 = c .before .before in
+    let c3 = c2 .before in
+    let c4 = c3 .before in
+    adding-next _ _ _ _ _ _ _ _ _ _ (c4 .loop .inv) (c3 .loop-test .taken) (c2 .word-at .ensures .0) (c .width-of .ensures)
 
 returns : tie.Need-returns Inv-loop μ-loop
 returns c = adding-end _ _ _ _ _ _ _ _ (c .before .loop .inv) (c .loop-test .left)

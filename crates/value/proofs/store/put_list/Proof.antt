@@ -20,7 +20,9 @@ copy-into-requires : tie.Need-copy-into-requires
 copy-into-requires c κs = search needs
 
 mark-byte-requires : tie.Need-mark-byte-requires
-mark-byte-requires c κs = mark-need (c .before .before .before .before .before .before .before .args .bodies .now) (c .before .before .before .before .before .before .before .args .j) (c .before .before .before .before .before .before .before .args .k) (c .before .before .before .before .before .before .before .pre .0) (c .before .before .before .before .before .before .before .pre .1)
+mark-byte-requires c κs =
+    let c7 = c .before .before .before .before .before .before .before in
+    mark-need (c7 .args .bodies .now) (c7 .args .j) (c7 .args .k) (c7 .pre .0) (c7 .pre .1)
 
 add-place : tie.Need-add-place
 add-place c = search needs
@@ -41,7 +43,10 @@ same-length : tie.Need-same-length
 same-length c = search needs
 
 returns : tie.Need-returns
-returns c = list-stored _ _ _ _ _ _ _ _ _ (c .before .before .before .before .before .before .before .before .before .pre .0) (c .before .before .before .before .copy-into .ensures) (c .before .mark-byte .ensures) (c .raw-bytes .ensures)
+returns c =
+    let c4 = c .before .before .before .before in
+    let c9 = c4 .before .before .before .before .before in
+    list-stored _ _ _ _ _ _ _ _ _ (c9 .pre .0) (c4 .copy-into .ensures) (c .before .mark-byte .ensures) (c .raw-bytes .ensures)
 
 pub put-list-spec : {M : Type 1} → statement M
 put-list-spec =

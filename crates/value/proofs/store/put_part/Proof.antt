@@ -26,7 +26,10 @@ same-length : tie.Need-same-length
 same-length c = search needs
 
 returns : tie.Need-returns
-returns c = part-stored _ _ _ _ _ _ _ (c .before .before .before .before .before .before .before .pre .0) (c .before .before .copy-into .ensures)
+returns c =
+    let c2 = c .before .before in
+    let c7 = c2 .before .before .before .before .before in
+    part-stored _ _ _ _ _ _ _ (c7 .pre .0) (c2 .copy-into .ensures)
 
 pub put-part-spec : {M : Type 1} → statement M
 put-part-spec =

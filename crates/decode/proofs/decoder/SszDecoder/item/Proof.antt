@@ -13,25 +13,46 @@ enum-told : tie.Need-enum-told
 enum-told c = search needs
 
 mul-start : tie.Need-mul-start
-mul-start c = omega (arith, item-fine _ _ _ (sym (c .before .before .before .before .item-told .ensures) ∙ c .before .before .enum-told .given .1))
+mul-start c =
+    let c2 = c .before .before in
+    let c4 = c2 .before .before in
+    omega (arith, item-fine _ _ _ (sym (c4 .item-told .ensures) ∙ c2 .enum-told .given .1))
 
 array-read-start : tie.Need-array-read-start
-array-read-start c = omega (arith, item-fine _ _ _ (sym (c .before .before .before .before .item-told .ensures) ∙ c .before .before .enum-told .given .1))
+array-read-start c =
+    let c2 = c .before .before in
+    let c4 = c2 .before .before in
+    omega (arith, item-fine _ _ _ (sym (c4 .item-told .ensures) ∙ c2 .enum-told .given .1))
 
 mul-end : tie.Need-mul-end
-mul-end c = omega (arith, item-fine _ _ _ (sym (c .before .before .before .before .item-told .ensures) ∙ c .before .before .enum-told .given .1))
+mul-end c =
+    let c2 = c .before .before in
+    let c4 = c2 .before .before in
+    omega (arith, item-fine _ _ _ (sym (c4 .item-told .ensures) ∙ c2 .enum-told .given .1))
 
 array-read-end : tie.Need-array-read-end
-array-read-end c = omega (arith, item-fine _ _ _ (sym (c .before .before .before .before .item-told .ensures) ∙ c .before .before .enum-told .given .1))
+array-read-end c =
+    let c2 = c .before .before in
+    let c4 = c2 .before .before in
+    omega (arith, item-fine _ _ _ (sym (c4 .item-told .ensures) ∙ c2 .enum-told .given .1))
 
 sub-result : tie.Need-sub-result
-sub-result c = omega (arith, item-fine _ _ _ (sym (c .before .before .before .before .item-told .ensures) ∙ c .before .before .enum-told .given .1))
+sub-result c =
+    let c2 = c .before .before in
+    let c4 = c2 .before .before in
+    omega (arith, item-fine _ _ _ (sym (c4 .item-told .ensures) ∙ c2 .enum-told .given .1))
 
 part-result-start : tie.Need-part-result-start
-part-result-start c = omega (arith, item-fine _ _ _ (sym (c .before .before .before .before .item-told .ensures) ∙ c .before .before .enum-told .given .1))
+part-result-start c =
+    let c2 = c .before .before in
+    let c4 = c2 .before .before in
+    omega (arith, item-fine _ _ _ (sym (c4 .item-told .ensures) ∙ c2 .enum-told .given .1))
 
 part-result-end : tie.Need-part-result-end
-part-result-end c = omega (arith, item-fine _ _ _ (sym (c .before .before .before .before .item-told .ensures) ∙ c .before .before .enum-told .given .1))
+part-result-end c =
+    let c2 = c .before .before in
+    let c4 = c2 .before .before in
+    omega (arith, item-fine _ _ _ (sym (c4 .item-told .ensures) ∙ c2 .enum-told .given .1))
 
 enum-told-2 : tie.Need-enum-told-2
 enum-told-2 c = search needs
@@ -40,10 +61,15 @@ slice-aggregate-result : tie.Need-slice-aggregate-result
 slice-aggregate-result c = search needs
 
 returns : tie.Need-returns
-returns c = rw (sym (c .before .before .before .before .before .item-told .ensures) ∙ c .before .before .before .enum-told .given .1)
+returns c =
+    let c3 = c .before .before .before in
+    let c5 = c3 .before .before in
+    rw (sym (c5 .item-told .ensures) ∙ c3 .enum-told .given .1)
 
 returns-2 : tie.Need-returns-2
-returns-2 c = rw (sym (c .before .before .before .item-told .ensures) ∙ c .before .enum-told2 .given .1)
+returns-2 c =
+    let c3 = c .before .before .before in
+    rw (sym (c3 .item-told .ensures) ∙ c .before .enum-told2 .given .1)
 
 pub item-spec : {M : Type 1} → statement M
 item-spec =

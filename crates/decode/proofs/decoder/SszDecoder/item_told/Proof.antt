@@ -27,21 +27,28 @@ array-read-if3 c = search needs
 
 returns-3 : tie.Need-returns-3
 unfolding itemTold
-returns-3 c = rw (lt-ltb _ _ (c .before .before .before .before .if1 .left), lt-ltb _ _ (c .before .before .before .if2 .left), lt-ltb _ _ (c .if3 .taken))
+returns-3 c =
+    let c3 = c .before .before .before in
+    let c4 = c3 .before in
+    rw (lt-ltb _ _ (c4 .if1 .left), lt-ltb _ _ (c3 .if2 .left), lt-ltb _ _ (c .if3 .taken))
 
 returns-4 : tie.Need-returns-4
 unfolding itemTold
 returns-4 c =
-    let item = c .before .before .before .before .before .if1 .left in
-    let few = c .before .before .before .before .if2 .left in
+    let c4 = c .before .before .before .before in
+    let c5 = c4 .before in
+    let item = c5 .if1 .left in
+    let few = c4 .if2 .left in
     let upright = c .before .if3 .left in
     rw (lt-ltb _ _ item, lt-ltb _ _ few, le-ltb _ _ upright, lt-ltb _ _ (c .if4 .taken))
 
 returns-5 : tie.Need-returns-5
 unfolding itemTold
 returns-5 c =
-    let item = c .before .before .before .before .before .if1 .left in
-    let few = c .before .before .before .before .if2 .left in
+    let c4 = c .before .before .before .before in
+    let c5 = c4 .before in
+    let item = c5 .if1 .left in
+    let few = c4 .if2 .left in
     let upright = c .before .if3 .left in
     rw (lt-ltb _ _ item, lt-ltb _ _ few, le-ltb _ _ upright, le-ltb _ _ (c .if4 .left))
 

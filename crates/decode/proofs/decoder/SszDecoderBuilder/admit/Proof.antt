@@ -16,7 +16,9 @@ refused-requires-2 : tie.Need-refused-requires-2
 refused-requires-2 c κs = search needs
 
 returns-2 : tie.Need-returns-2
-returns-2 c = rw (le-ltb _ _ (c .before .before .before .if1 .left), le-ltb _ _ (c .before .if2 .taken)) (c .refused2 .ensures)
+returns-2 c =
+    let c3 = c .before .before .before in
+    rw (le-ltb _ _ (c3 .if1 .left), le-ltb _ _ (c .before .if2 .taken)) (c .refused2 .ensures)
 
 register-head-requires : tie.Need-register-head-requires
 register-head-requires c κs = search needs
@@ -26,10 +28,14 @@ enum-known-s c = search needs
 
 put-requires : tie.Need-put-requires
 put-requires c κs =
-    let come = c .before .before .before .before .before .before .before .before .pre in
-    let small = c .before .before .before .before .before .before .if1 .left in
-    let few = c .before .before .before .before .if2 .left in
-    let registered = c .before .before .before .register-head .ensures in
+    let c3 = c .before .before .before in
+    let c4 = c3 .before in
+    let c6 = c4 .before .before in
+    let c8 = c6 .before .before in
+    let come = c8 .pre in
+    let small = c6 .if1 .left in
+    let few = c4 .if2 .left in
+    let registered = c3 .register-head .ensures in
     let stepped = come-step _ _ _ _ _ come small registered ∙ c .before .s .given .1 in
     (few, come-pos _ _ _ _ _ come stepped)
 
@@ -41,20 +47,30 @@ refused-requires-3 c κs = search needs
 
 returns-3 : tie.Need-returns-3
 returns-3 c =
-    let come = c .before .before .before .before .before .before .before .before .before .pre in
-    let small = c .before .before .before .before .before .before .before .if1 .left in
-    let few = c .before .before .before .before .before .if2 .left in
-    let registered = c .before .before .before .before .register-head .ensures in
-    let stepped = come-step _ _ _ _ _ come small registered ∙ c .before .before .s .given .1 in
+    let c2 = c .before .before in
+    let c4 = c2 .before .before in
+    let c5 = c4 .before in
+    let c7 = c5 .before .before in
+    let c9 = c7 .before .before in
+    let come = c9 .pre in
+    let small = c7 .if1 .left in
+    let few = c5 .if2 .left in
+    let registered = c4 .register-head .ensures in
+    let stepped = come-step _ _ _ _ _ come small registered ∙ c2 .s .given .1 in
     rw (le-ltb _ _ small, lt-ltb _ _ few, stepped, c .put .ensures)
 
 returns-4 : tie.Need-returns-4
 returns-4 c =
-    let come = c .before .before .before .before .before .before .before .before .before .pre in
-    let small = c .before .before .before .before .before .before .before .if1 .left in
-    let few = c .before .before .before .before .before .if2 .left in
-    let registered = c .before .before .before .before .register-head .ensures in
-    let stepped = come-step _ _ _ _ _ come small registered ∙ c .before .before .s2 .given .1 in
+    let c2 = c .before .before in
+    let c4 = c2 .before .before in
+    let c5 = c4 .before in
+    let c7 = c5 .before .before in
+    let c9 = c7 .before .before in
+    let come = c9 .pre in
+    let small = c7 .if1 .left in
+    let few = c5 .if2 .left in
+    let registered = c4 .register-head .ensures in
+    let stepped = come-step _ _ _ _ _ come small registered ∙ c2 .s2 .given .1 in
     rw (le-ltb _ _ small, lt-ltb _ _ few, stepped) (c .refused3 .ensures)
 
 pub admit-spec : {M : Type 1} → statement M

@@ -13,7 +13,9 @@ enum-known-s : tie.Need-enum-known-s
 enum-known-s c = search needs
 
 close-requires : tie.Need-close-requires
-close-requires c κs = recalled-says _ _ _ (sym (c .before .before .before .recall .ensures) ∙ c .before .s .given .1) .few
+close-requires c κs =
+    let c3 = c .before .before .before in
+    recalled-says _ _ _ (sym (c3 .recall .ensures) ∙ c .before .s .given .1) .few
 
 enum-told : tie.Need-enum-told
 enum-told c = search needs
@@ -23,11 +25,16 @@ not-built-requires c κs = search needs
 
 returns : tie.Need-returns
 unfolding buildItems
-returns c = rw (sym (c .before .before .before .before .recall .ensures) ∙ c .before .before .s .given .1) (c .close .ensures)
+returns c =
+    let c2 = c .before .before in
+    let c4 = c2 .before .before in
+    rw (sym (c4 .recall .ensures) ∙ c2 .s .given .1) (c .close .ensures)
 
 returns-2 : tie.Need-returns-2
 unfolding buildItems
-returns-2 c = rw (sym (c .before .before .before .recall .ensures) ∙ c .before .enum-told .given .1) (c .not-built .ensures)
+returns-2 c =
+    let c3 = c .before .before .before in
+    rw (sym (c3 .recall .ensures) ∙ c .before .enum-told .given .1) (c .not-built .ensures)
 
 pub build-spec : {M : Type 1} → statement M
 build-spec =

@@ -28,14 +28,20 @@ not-built-requires-2 c κs = search needs
 
 returns-2 : tie.Need-returns-2
 returns-2 c =
-    let small = c .before .before .before .before .before .before .if1 .left in
-    let told = sym (c .before .before .before .before .before .finalize .ensures) ∙ c .before .before .before .enum-told .given .1 in
+    let c3 = c .before .before .before in
+    let c5 = c3 .before .before in
+    let c6 = c5 .before in
+    let small = c6 .if1 .left in
+    let told = sym (c5 .finalize .ensures) ∙ c3 .enum-told .given .1 in
     rw (le-ltb _ _ small, told, c .close-ends .ensures)
 
 returns-3 : tie.Need-returns-3
 returns-3 c =
-    let small = c .before .before .before .before .before .if1 .left in
-    let told = sym (c .before .before .before .before .finalize .ensures) ∙ c .before .before .told .given .1 in
+    let c2 = c .before .before in
+    let c4 = c2 .before .before in
+    let c5 = c4 .before in
+    let small = c5 .if1 .left in
+    let told = sym (c4 .finalize .ensures) ∙ c2 .told .given .1 in
     rw (le-ltb _ _ small, told) (c .not-built2 .ensures)
 
 pub close-spec : {M : Type 1} → statement M

@@ -25,7 +25,11 @@ add-more : tie.Need-add-more
 add-more c = search needs
 
 returns : tie.Need-returns
-returns c = rw (c .before .before .before .start-of .ensures, c .before .before .end-of .ensures, c .before .before .before .before .before .pre .1)
+returns c =
+    let c2 = c .before .before in
+    let c3 = c2 .before in
+    let c5 = c3 .before .before in
+    rw (c3 .start-of .ensures, c2 .end-of .ensures, c5 .pre .1)
 
 pub put-spec : {M : Type 1} → statement M
 put-spec =

@@ -13,7 +13,9 @@ enum-known-s : tie.Need-enum-known-s
 enum-known-s c = search needs
 
 admit-requires : tie.Need-admit-requires
-admit-requires c κs = recalled-come _ _ _ (sym (c .before .before .before .recall .ensures) ∙ c .before .s .given .1)
+admit-requires c κs =
+    let c3 = c .before .before .before in
+    recalled-come _ _ _ (sym (c3 .recall .ensures) ∙ c .before .s .given .1)
 
 enum-told : tie.Need-enum-told
 enum-told c = search needs
@@ -23,11 +25,16 @@ refused-requires c κs = search needs
 
 returns : tie.Need-returns
 unfolding registerItem
-returns c = rw (sym (c .before .before .before .before .recall .ensures) ∙ c .before .before .s .given .1) (c .admit .ensures)
+returns c =
+    let c2 = c .before .before in
+    let c4 = c2 .before .before in
+    rw (sym (c4 .recall .ensures) ∙ c2 .s .given .1) (c .admit .ensures)
 
 returns-2 : tie.Need-returns-2
 unfolding registerItem
-returns-2 c = rw (sym (c .before .before .before .recall .ensures) ∙ c .before .enum-told .given .1) (c .refused .ensures)
+returns-2 c =
+    let c3 = c .before .before .before in
+    rw (sym (c3 .recall .ensures) ∙ c .before .enum-told .given .1) (c .refused .ensures)
 
 pub register-spec : {M : Type 1} → statement M
 register-spec =

@@ -19,7 +19,9 @@ add-end c = search needs
 
 returns-3 : tie.Need-returns-3
 unfolding appendFixed
-returns-3 c = rw (le-leb _ _ (c .before .before .if1 .left), le-leb _ _ (c .before .if2 .left), lt-leb _ _ (c .if3 .taken)) (refl, refl)
+returns-3 c =
+    let c2 = c .before .before in
+    rw (le-leb _ _ (c2 .if1 .left), le-leb _ _ (c .before .if2 .left), lt-leb _ _ (c .if3 .taken)) (refl, refl)
 
 copy-into-requires : tie.Need-copy-into-requires
 copy-into-requires c κs = search needs
@@ -30,10 +32,14 @@ same-length c = search needs
 returns-4 : tie.Need-returns-4
 unfolding appendFixed
 returns-4 c =
-    let front = c .before .before .before .before .before .before .if1 .left in
-    let back = c .before .before .before .before .before .if2 .left in
-    let room = c .before .before .before .before .if3 .left in
-    rw (le-leb _ _ front, le-leb _ _ back, le-leb _ _ room) (refl, c .before .before .copy-into .ensures)
+    let c2 = c .before .before in
+    let c4 = c2 .before .before in
+    let c5 = c4 .before in
+    let c6 = c5 .before in
+    let front = c6 .if1 .left in
+    let back = c5 .if2 .left in
+    let room = c4 .if3 .left in
+    rw (le-leb _ _ front, le-leb _ _ back, le-leb _ _ room) (refl, c2 .copy-into .ensures)
 
 pub append-fixed-spec : {M : Type 1} → statement M
 append-fixed-spec =

@@ -18,9 +18,12 @@ same-length-2 c = search needs
 
 returns : tie.Need-returns
 returns c =
-    let r = c .before .before .append-fixed in
-    rw (c .before .before .before .before .before .if1 .taken)
-    (r .ensures .0, (r .ensures .1, appended-none (r .result) _ (c .before .before .before .before .before .before .before .before .before .args .self .«variable_used»)))
+    let c2 = c .before .before in
+    let c5 = c2 .before .before .before in
+    let c9 = c5 .before .before .before .before in
+    let r = c2 .append-fixed in
+    rw (c5 .if1 .taken)
+    (r .ensures .0, (r .ensures .1, appended-none (r .result) _ (c9 .args .self .«variable_used»)))
 
 same-length-3 : tie.Need-same-length-3
 same-length-3 c = search needs
@@ -29,7 +32,10 @@ same-length-4 : tie.Need-same-length-4
 same-length-4 c = search needs
 
 returns-2 : tie.Need-returns-2
-returns-2 c = rw (c .before .before .before .before .before .before .before .if1 .left) (c .before .before .before .before .append-variable .ensures)
+returns-2 c =
+    let c4 = c .before .before .before .before in
+    let c7 = c4 .before .before .before in
+    rw (c7 .if1 .left) (c4 .append-variable .ensures)
 
 pub append-parameterized-spec : {M : Type 1} → statement M
 append-parameterized-spec =
