@@ -61,6 +61,14 @@ pub fn look(layout: &[u8], t: usize) -> Node
     Node { kind, at, second }
 }
 
+// The kind of the type t alone.
+pub fn kind_of(layout: &[u8], t: usize) -> usize
+    ensures { λ r. ⌜ r ≡ nodeOf (now (layout .entry)) t .kind ⌝ }
+{
+    let at = start_of(layout, t);
+    word_at(layout, at)
+}
+
 // A word names a type below t, or no body where that may be.
 fn may_name(w: usize, t: usize, none: bool) -> bool
     ensures { λ r. ⌜ r ≡ mayName w t none ⌝ }

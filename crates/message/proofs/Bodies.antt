@@ -2,6 +2,7 @@
 use mathlib.Core.Path.{_≡_, refl, sym, ap, _∙_}
 use mathlib.Core.List.{List, [], _∷_}
 use mathlib.Core.Bool.{Bool, true, false}
+use mathlib.Core.Logic.{_⊎_, inl, inr, ⊎-elim}
 use Prim.Native.Nat.{ℕ, zero, suc, _+_, _-_, _*_, _≤_, _<_, _^_}
 use native.Mathlib.Nat.{add-zero}
 use native.Mathlib.Omega.{arith}
@@ -11,9 +12,10 @@ use lib.Seq.{take-all}
 use lib.Dec.{eqb, leb, ltb}
 use Rattle.standard.specs.Choice.{pick}
 use Rattle.standard.specs.Bytes.{wordAt}
-use Rattle.standard.specs.Types.{Ty, Tys, Opts, boolean, container, union, end, field, over, bare, body, head, heads}
+use Rattle.standard.specs.Types.{Ty, Tys, Opts, number, boolean, fixedBytes, container, union, end, field, over, bare, body, head, heads}
 use Rattle.standard.specs.Parts.{spanOf, part, InRange}
 use Rattle.standard.specs.declared.Head.{Head}
+use Rattle.standard.specs.declared.Head.the-variants.{Fixed}
 use Rattle.standard.specs.declared.Span.{Span}
 use Rattle.standard.specs.declared.Told.{Told}
 use Rattle.standard.specs.declared.Refusal.{Refusal}
@@ -22,19 +24,19 @@ use Rattle.decode.specs.Builder.{layOut}
 use Rattle.decode.specs.Unions.{selectorOf, splitUnion}
 use Rattle.decode.specs.declared.union_selector.UnionSelector.{UnionSelector}
 use Rattle.decode.specs.declared.union_selector.SelectorResult.{SelectorResult}
-use Rattle.layout.specs.Tree.{nodeOf, fields, options, trees, treeOf}
+use Rattle.layout.specs.Tree.{nodeOf, leafOf, fields, options, trees, treeOf}
 use Rattle.layout.specs.Legal.{LowerOrBare, LegalNode, Legal}
 use Rattle.layout.specs.declared.Node.{Node}
 use Rattle.layout.proofs.Facts.{trees-get, as-container, as-union, as-leaf, legal-node, fields-first, fields-none}
-use Rattle.message.specs.Read.{one, plus, andThen, built, readItem, readFields, readOption}
-use Rattle.message.specs.Steps.{Under, Row, rowOf, headsOf, optionAt, choiceOf, choose, Small}
+use Rattle.message.specs.Read.{one, plus, andThen, built, readExact, readItem, readFields, readOption}
+use Rattle.message.specs.Steps.{Under, Row, rowOf, headsOf, optionAt, choiceOf, choose, isPlain, Small}
 use Rattle.message.specs.declared.Counts.{Counts}
 use Rattle.message.specs.declared.Answer.{Answer}
 use Rattle.message.specs.declared.Answer.the-variants.{Accepted, Refused}
 use Rattle.message.specs.declared.items.Choice.{Choice}
 use Rattle.message.proofs.Answers.{then-assoc}
 use Rattle.message.proofs.Bounds.{counts-small}
-use Rattle.message.proofs.Rows.{under-below, row-next, span-ok}
+use Rattle.message.proofs.Rows.{under-below, row-under, row-next, span-ok, span-length}
 
 plus-zero : (a : Counts) → plus a (record { records = 0; words = 0; bytes = 0 }) ≡ a
 plus-zero a = simp add-zero
@@ -49,9 +51,47 @@ pub record Reading (lens l : List ℕ) (t a₀ n : ℕ) (b : List ℕ) (s : ℕ)
   pub bytes : sum .bytes + 2 ^ 40 * left ≤ 2 ^ 40 * n + 1
   pub same : andThen (Accepted sum) (readFields (rowOf l t a left) b p s) ≡ andThen (one 0 0) (readFields (rowOf l t a₀ n) b 0 s)
 
-pub reading-small : (lens l : List ℕ) (t a₀ n : ℕ) (b : List ℕ) (s : ℕ) (sum : Counts) (a left p : ℕ) → n ≤ 64 → Reading lens l t a₀ n b s sum a left p → Small sum (2 ^ 50)
+reading-small : (lens l : List ℕ) (t a₀ n : ℕ) (b : List ℕ) (s : ℕ) (sum : Counts) (a left p : ℕ) → n ≤ 64 → Reading lens l t a₀ n b s sum a left p → Small sum (2 ^ 50)
 reading-small lens l t a₀ n b s sum a left p h g =
     record { records = omega (arith, g .records); words = omega (arith, g .words); bytes = omega (arith, g .bytes) }
+
+-- What an item counts.
+pub item-small : (lens l : List ℕ) (f : ℕ) (b : List ℕ) (s : ℕ) (c : Counts) → Under lens l (f + 1) → length b < 2 ^ 32 → Accepted c ≡ readItem (treeOf l f) b s → Small c (2 ^ 40)
+item-small lens l f b s c g k e =
+    let q = counts-small l f b s c (g .legal) (omega (arith, g .few)) k (sym e) in
+    record { records = omega (arith, q .0); words = omega (arith, q .1); bytes = omega (arith, q .2) }
+
+pub small-more : (c : Counts) → Small c (2 ^ 40) → Small c (2 ^ 50)
+small-more c g = record { records = omega (arith, g .records); words = omega (arith, g .words); bytes = omega (arith, g .bytes) }
+
+-- A number or fixed bytes: the table names the length, and an item of that length is accepted.
+plain-kind : (k : ℕ) → isPlain k ≡ true → (k ≡ 0) ⊎ (k ≡ 2)
+unfolding isPlain
+plain-kind k h = go (eqb k 0) refl h
+  where
+    go : (c : Bool) → eqb k 0 ≡ c → pick c true (eqb k 2) ≡ true → (k ≡ 0) ⊎ (k ≡ 2)
+    go true e h = inl (eqb-true _ _ e)
+    go false e h = inr (eqb-true _ _ h)
+
+exact-read : (m t : ℕ) (b : List ℕ) (s k : ℕ) → length b ≡ k → k ≡ m → one 0 k ≡ readExact m t b s
+exact-read m t b s k h e = rw (h, eq-eqb k m e)
+
+module _ (l : List ℕ) (f : ℕ) (n : Node) (e : n ≡ nodeOf l f) where
+  as-number : n .kind ≡ 0 → treeOf l f ≡ number f (n .second)
+  unfolding leafOf
+  as-number h = as-leaf l f n e (λ (q : n .kind ≡ 6). omega arith) (λ (q : n .kind ≡ 7). omega arith) ∙ rw h
+
+  as-fixed-bytes : n .kind ≡ 2 → treeOf l f ≡ fixedBytes f (n .second)
+  unfolding leafOf
+  as-fixed-bytes h = as-leaf l f n e (λ (q : n .kind ≡ 6). omega arith) (λ (q : n .kind ≡ 7). omega arith) ∙ rw h
+
+  plain-type : isPlain (n .kind) ≡ true → (head (treeOf l f) ≡ Fixed (n .second)) × ((b : List ℕ) (s : ℕ) → readItem (treeOf l f) b s ≡ readExact (n .second) f b s)
+  unfolding head readItem
+  plain-type h =
+      ⊎-elim
+      (λ (k : n .kind ≡ 0). (rw (as-number k), λ b s. rw (as-number k)))
+      (λ (k : n .kind ≡ 2). (rw (as-fixed-bytes k), λ b s. rw (as-fixed-bytes k)))
+      (plain-kind (n .kind) h)
 
 -- The first field's answer, and that of the rest.
 module _ (lens l : List ℕ) (t a left f : ℕ) (b : List ℕ) (p : ℕ) (g : Row lens l t a left) (z : 0 < left) (e : f ≡ wordAt l a) (w : Span) (q : w ≡ spanOf (head (treeOf l f)) (headsOf l t (a + 1) (left - 1)) b p) (s : ℕ) where
@@ -63,15 +103,37 @@ module _ (lens l : List ℕ) (t a₀ n : ℕ) (b : List ℕ) (s : ℕ) (sum : Co
   reading-first : andThen (Accepted sum) (andThen (readItem (treeOf l f) (part b w) (s + w .from)) (readFields (rowOf l t (a + 1) (left - 1)) b (w .next) s)) ≡ andThen (one 0 0) (readFields (rowOf l t a₀ n) b 0 s)
   reading-first = rw (fields-read lens l t a left f b p (g .row) z e w q s) at (g .same)
 
-  pub reading-next : (c : Counts) → Accepted c ≡ readItem (treeOf l f) (part b w) (s + w .from) → Small c (2 ^ 40) → Reading lens l t a₀ n b s (plus sum c) (a + 1) (left - 1) (w .next)
-  reading-next c h k =
+  -- where the first field lies, what it counts, and what it gives if it is plain
+  pub reading-span : (w .from ≤ w .to) × (w .to ≤ length b) × (length (part b w) ≡ w .to - w .from)
+  reading-span =
+      let k = span-ok lens l t a left f b p (g .row) z e (g .ranges) w q in
+      (k .0, k .1, span-length lens l t a left f b p (g .row) z e (g .ranges) w q)
+
+  reading-item : (c : Counts) → s + length b < 2 ^ 32 → Accepted c ≡ readItem (treeOf l f) (part b w) (s + w .from) → Small c (2 ^ 40)
+  reading-item c h i =
+      item-small lens l f (part b w) (s + w .from) c (row-under lens l t a left f (g .row) z e) (omega (arith, reading-span)) i
+
+  pub reading-adds : (c : Counts) → n ≤ 64 → s + length b < 2 ^ 32 → Accepted c ≡ readItem (treeOf l f) (part b w) (s + w .from) → Small sum (2 ^ 50) × Small c (2 ^ 50)
+  reading-adds c k h i = (reading-small lens l t a₀ n b s sum a left p k g, small-more c (reading-item c h i))
+
+  pub reading-plain : (k : ℕ) → isPlain k ≡ true → k ≡ nodeOf l f .kind → one 0 (w .to - w .from) ≡ readItem (treeOf l f) (part b w) (s + w .from)
+  reading-plain k h i =
+      let m = nodeOf l f .second in
+      let x = plain-type l f (nodeOf l f) refl (sym (ap isPlain i) ∙ h) in
+      let y : w ≡ spanOf (Fixed m) (headsOf l t (a + 1) (left - 1)) b p = q ∙ ap (λ (d : Head). spanOf d (headsOf l t (a + 1) (left - 1)) b p) (x .0) in
+      let v : w .to - w .from ≡ p + m - p = ap (λ (d : Span). d .to - d .from) y in
+      exact-read m f (part b w) (s + w .from) (w .to - w .from) (reading-span .2) (omega (arith, v)) ∙ sym (x .1 (part b w) (s + w .from))
+
+  pub reading-next : (c : Counts) → s + length b < 2 ^ 32 → Accepted c ≡ readItem (treeOf l f) (part b w) (s + w .from) → Reading lens l t a₀ n b s (plus sum c) (a + 1) (left - 1) (w .next)
+  reading-next c k h =
+      let m = reading-item c k h in
       record {
         row = row-next lens l t a left f (g .row) z e;
         some = omega (arith, g .some);
         ranges = span-ok lens l t a left f b p (g .row) z e (g .ranges) w q .2;
-        records = omega (arith, g .records, k .records);
-        words = omega (arith, g .words, k .words);
-        bytes = omega (arith, g .bytes, k .bytes);
+        records = omega (arith, g .records, m .records);
+        words = omega (arith, g .words, m .words);
+        bytes = omega (arith, g .bytes, m .bytes);
         same = then-assoc (Accepted sum) (Accepted c) (readFields (rowOf l t (a + 1) (left - 1)) b (w .next) s) ∙ rw (← h) at reading-first;
       }
 
@@ -81,15 +143,6 @@ module _ (lens l : List ℕ) (t a₀ n : ℕ) (b : List ℕ) (s : ℕ) (sum : Co
 pub reading-end : (lens l : List ℕ) (t a₀ n : ℕ) (b : List ℕ) (s : ℕ) (sum : Counts) (a left p : ℕ) → Reading lens l t a₀ n b s sum a left p → left ≤ 0 → Accepted sum ≡ andThen (one 0 0) (readFields (rowOf l t a₀ n) b 0 s)
 unfolding readItem
 reading-end lens l t a₀ n b s sum a left p g h = sym (ap Accepted (plus-zero sum)) ∙ rw (fields-none l (trees l t) a left h) at (g .same)
-
--- What an item counts.
-pub item-small : (lens l : List ℕ) (f : ℕ) (b : List ℕ) (s : ℕ) (c : Counts) → Under lens l (f + 1) → length b < 2 ^ 32 → Accepted c ≡ readItem (treeOf l f) b s → Small c (2 ^ 40)
-item-small lens l f b s c g k e =
-    let q = counts-small l f b s c (g .legal) (omega (arith, g .few)) k (sym e) in
-    record { records = omega (arith, q .0); words = omega (arith, q .1); bytes = omega (arith, q .2) }
-
-pub small-more : (c : Counts) → Small c (2 ^ 40) → Small c (2 ^ 50)
-small-more c g = record { records = omega (arith, g .records); words = omega (arith, g .words); bytes = omega (arith, g .bytes) }
 
 -- A container.
 module _ (lens l : List ℕ) (t : ℕ) (n : Node) (e : n ≡ nodeOf l t) (g : Under lens l (t + 1)) where

@@ -2,6 +2,7 @@
 use Prim.Native.Nat.{ℕ, _+_, _-_, _≤_, _<_, _^_}
 use mathlib.Core.Path.{_≡_}
 use mathlib.Core.List.{List}
+use mathlib.Core.Bool.{Bool, true}
 use lib.ListN.{length, getD}
 use lib.Dec.{eqb, ltb}
 use Rattle.standard.specs.Choice.{pick}
@@ -52,6 +53,10 @@ choiceOf (SelectorResult.Selector k) l a n len = pick (ltb (k .0) n) (optionAt (
 -- What the selector chooses among the n options that the words from a on name
 unfoldable pub choose : List ℕ → ℕ → ℕ → List ℕ → Choice
 choose l a n b = choiceOf (splitUnion b) l a n (length b)
+
+-- Kind 0 is a number, kind 2 fixed bytes: "wrong length is 1", and no other rule
+unfoldable pub isPlain : ℕ → Bool
+isPlain kind = pick (eqb kind 0) true (eqb kind 2)
 
 -- Counts that add up without loss
 pub record Small (c : Counts) (k : ℕ) : Type 0 where

@@ -10,6 +10,7 @@ use decode::split_union_bytes;
 use decode::union_selector::SelectorResult;
 use layout::NO_BODY;
 use layout::Node;
+use layout::kind_of;
 use layout::look;
 use standard::Refusal;
 use standard::Told;
@@ -23,7 +24,7 @@ ghost use Rattle.layout.specs.Tree.{leafOf, treeOf};
 ghost use Rattle.message.specs.Read.{rawBytes, one, plus, andThen, readExact, readItem, readFields};
 ghost use Rattle.message.specs.declared.Counts.{Counts};
 ghost use Rattle.message.specs.declared.Answer.the-variants.{Accepted};
-ghost use Rattle.message.specs.Steps.{Under, Row, rowOf, headsOf, optionAt, choose, Small};
+ghost use Rattle.message.specs.Steps.{Under, Row, rowOf, headsOf, optionAt, choose, isPlain, Small};
 
 // What a union's selector chooses: an option without body, the type of a body, or a refusal.
 pub(crate) enum Choice {
@@ -210,6 +211,16 @@ fn with_selector(r: Answer) -> Answer
     }
 }
 
+// A number or fixed bytes: of their items only the length is asked.
+fn is_plain(kind: usize) -> bool
+    ensures { λ r. ⌜ r ≡ isPlain kind ⌝ }
+{
+    if kind == 0 {
+        return true;
+    }
+    kind == 2
+}
+
 // Checks the item b of the type t, which starts at start.
 pub(crate) fn item_check(lens: &[u32], layout: &[u8], t: usize, b: &[u8], start: usize) -> Answer
     requires { ⌜ Under (now lens) (now layout) (t + 1) × (start + length (now b) < 2 ^ 32) ⌝ }
@@ -265,6 +276,21 @@ fn field_check(
         let w = locate(lens, layout, t, a, left, f, b, p);
         let from = w.from;
         let to = w.to;
+        p = w.next;
+        a += 1;
+        left -= 1;
+        let kind = kind_of(layout, f);
+        let plain = is_plain(kind);
+        if plain {
+            let bytes = to - from;
+            let own = Counts {
+                records: 1,
+                words: 0,
+                bytes,
+            };
+            sum = add(sum, own);
+            continue;
+        }
         let at = start + from;
         let r = item_check(lens, layout, f, &b[from..to], at);
         match r {
@@ -275,9 +301,6 @@ fn field_check(
                 return Answer::Refused(x, u, v);
             }
         }
-        p = w.next;
-        a += 1;
-        left -= 1;
     }
     Answer::Accepted(sum)
 }

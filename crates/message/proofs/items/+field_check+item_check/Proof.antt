@@ -7,8 +7,8 @@ use lib.ListN.{length-take, length-drop}
 use Rattle.decode.proofs.Register.{layout-ranges}
 use Rattle.layout.proofs.Facts.{as-leaf, as-container}
 use Rattle.message.specs.Read.{one, andThen}
-use Rattle.message.proofs.Rows.{row-below, row-under, under-below, span-ok, span-length}
-use Rattle.message.proofs.Bodies.{Reading, reading-small, reading-next, reading-stop, reading-end, item-small, small-more, node-ok, container-row, container-on, container-stop, bare-read, wrong-read, body-below, body-read}
+use Rattle.message.proofs.Rows.{row-below, row-under, under-below}
+use Rattle.message.proofs.Bodies.{Reading, reading-span, reading-plain, reading-adds, reading-next, reading-stop, reading-end, item-small, small-more, node-ok, container-row, container-on, container-stop, bare-read, wrong-read, body-below, body-read}
 use Prim.Native.Nat.{ℕ, _<_}
 use borrow.Fn.Kinds.{In}
 use borrow.Fn.PlainCycle.{Measures, is, falls, and}
@@ -18,10 +18,12 @@ use Rattle.message.proofs.items.+field_check+item_check.Lts-field_check
 use Rattle.message.proofs.items.item_check.Reads as item-check
 use Rattle.message.proofs.items.item_check.Kinds as item-check-kinds
 use Rattle.message.proofs.items.+field_check+item_check.Lts-item_check as item-check-lts
+use Rattle.layout.proofs.kind_of.Reads as kind-of-reads
 use Rattle.layout.proofs.look.Reads as look-reads
 use Rattle.message.proofs.fields.container_told.Reads as container-told-reads
 use Rattle.message.proofs.fields.locate.Reads as locate-reads
 use Rattle.message.proofs.items.add.Reads as add-reads
+use Rattle.message.proofs.items.is_plain.Reads as is-plain-reads
 use Rattle.message.proofs.items.leaf.Reads as leaf-reads
 use Rattle.message.proofs.items.leaf_check.Reads as leaf-check-reads
 use Rattle.message.proofs.items.select.Reads as select-reads
@@ -60,7 +62,7 @@ field-check-μ-loop lens layout t a0 n b start sum₀ a₀ left₀ p₀ sum a le
 
 -- what `field_check` calls, at the measure t
 abbrev field-check-calls : ℕ → field-check-lts.Claims
-field-check-calls t = (word-at-reads.Asked, word-at-reads.Learnt, locate-reads.Asked, locate-reads.Learnt, item-check-below t, item-check.Post, add-reads.Asked, add-reads.Learnt)
+field-check-calls t = (word-at-reads.Asked, word-at-reads.Learnt, locate-reads.Asked, locate-reads.Learnt, kind-of-reads.Asked, kind-of-reads.Learnt, is-plain-reads.Asked, is-plain-reads.Learnt, add-reads.Asked, add-reads.Learnt, item-check-below t, item-check.Post)
 
 -- what `item_check` calls, at the measure t
 abbrev item-check-calls : ℕ → item-check-lts.Claims
@@ -88,128 +90,154 @@ field-check-locate-requires t c κs =
     let c2 = c .before .before in
     (c2 .loop .inv .row, c .before .loop-test .taken, c .word-at .ensures .0, c2 .loop .inv .ranges)
 
-field-check-add-at : (t : ℕ) → field-check-lts.Need-add-at (field-check-calls t) (field-check-at t) field-check.Post field-check-Inv-loop field-check-μ-loop
-field-check-add-at t c =
-    let c2 = c .before .before in
-    let c3 = c2 .before in
-    let c7 = c3 .before .before .before .before in
-    omega (
-      arith,
-      span-ok _ _ _ _ _ _ _ _ (c3 .loop .inv .row) (c2 .loop-test .taken) (c .before .word-at .ensures .0) (c3 .loop .inv .ranges) _ (c
-          .locate .ensures),
-      c7 .pre .1 .2,
-    )
-
-field-check-sub-item-check : (t : ℕ) → field-check-lts.Need-sub-item-check (field-check-calls t) (field-check-at t) field-check.Post field-check-Inv-loop field-check-μ-loop
-field-check-sub-item-check t c =
-    let c2 = c .before .before in
-    let c3 = c2 .before in
-    omega (
-      arith,
-      span-ok _ _ _ _ _ _ _ _ (c3 .loop .inv .row) (c2 .loop-test .taken) (c .before .word-at .ensures .0) (c3 .loop .inv .ranges) _ (c
-          .locate .ensures),
-    )
-
-field-check-part-item-check-start : (t : ℕ) → field-check-lts.Need-part-item-check-start (field-check-calls t) (field-check-at t) field-check.Post field-check-Inv-loop field-check-μ-loop
-field-check-part-item-check-start t c =
-    let c2 = c .before .before in
-    let c3 = c2 .before in
-    span-ok _ _ _ _ _ _ _ _ (c3 .loop .inv .row) (c2 .loop-test .taken) (c .before .word-at .ensures .0) (c3 .loop .inv .ranges) _ (c .locate
-    .ensures) .0
-
-field-check-part-item-check-end : (t : ℕ) → field-check-lts.Need-part-item-check-end (field-check-calls t) (field-check-at t) field-check.Post field-check-Inv-loop field-check-μ-loop
-field-check-part-item-check-end t c =
-    let c2 = c .before .before in
-    let c3 = c2 .before in
-    span-ok _ _ _ _ _ _ _ _ (c3 .loop .inv .row) (c2 .loop-test .taken) (c .before .word-at .ensures .0) (c3 .loop .inv .ranges) _ (c .locate
-    .ensures) .1
-
-field-check-item-check-requires : (t : ℕ) → field-check-lts.Need-item-check-requires (field-check-calls t) (field-check-at t) field-check.Post field-check-Inv-loop field-check-μ-loop
-field-check-item-check-requires t c κs =
-    let c2 = c .before .before in
-    let c3 = c2 .before in
-    let c4 = c3 .before in
-    let c8 = c4 .before .before .before .before in (
-      omega (arith, row-below _ _ _ _ _ _ (c4 .loop .inv .row) (c3 .loop-test .taken) (c2 .word-at .ensures .0), c8 .pre .0),
-      (
-        row-under _ _ _ _ _ _
-            (c4 .loop .inv .row) (c3 .loop-test .taken) (c2 .word-at .ensures .0),
-        omega (
-          arith,
-          span-ok _ _ _ _ _ _ _ _ (c4 .loop .inv .row) (c3 .loop-test
-              .taken) (c2 .word-at .ensures .0) (c4 .loop .inv .ranges) _ (c .before .locate .ensures),
-          span-length _ _ _ _ _ _ _ _ (c4 .loop .inv .row) (c3
-              .loop-test .taken) (c2 .word-at .ensures .0) (c4 .loop .inv .ranges) _ (c .before .locate .ensures),
-          c8 .pre .1 .2,
-        ),
-      ),
-    )
-
-field-check-enum-known-r : (t : ℕ) → field-check-lts.Need-enum-known-r (field-check-calls t) (field-check-at t) field-check.Post field-check-Inv-loop field-check-μ-loop
-field-check-enum-known-r t c = search needs
-
-field-check-add-requires : (t : ℕ) → field-check-lts.Need-add-requires (field-check-calls t) (field-check-at t) field-check.Post field-check-Inv-loop field-check-μ-loop
-field-check-add-requires t c κs =
-    let c3 = c .before .before .before in
-    let c5 = c3 .before .before in
-    let c6 = c5 .before in
-    let c7 = c6 .before in
-    let c8 = c7 .before in
-    let c12 = c8 .before .before .before .before in (
-      reading-small _ _ _ _ _ _ _ _ _ _ _ (c12 .pre .1 .1) (c8 .loop .inv),
-      small-more _ (item-small _ _ _ _ _ _ (row-under _ _ _ _ _ _ (c8 .loop .inv
-          .row) (c7 .loop-test .taken) (c6 .word-at .ensures .0)) (omega (
-            arith,
-            span-length _ _ _ _ _ _ _ _ (c8 .loop .inv .row) (c7 .loop-test .taken)
-                (c6 .word-at .ensures .0) (c8 .loop .inv .ranges) _ (c5 .locate .ensures),
-            span-ok _ _ _ _ _ _ _ _ (c8 .loop .inv .row) (c7 .loop-test .taken)
-                (c6 .word-at .ensures .0) (c8 .loop .inv .ranges) _ (c5 .locate .ensures),
-            c12 .pre .1 .2,
-          )) (sym (c .before .r .given .1) ∙ c3 .item-check
-          .ensures)),
-    )
-
-field-check-enum-known-r-2 : (t : ℕ) → field-check-lts.Need-enum-known-r-2 (field-check-calls t) (field-check-at t) field-check.Post field-check-Inv-loop field-check-μ-loop
-field-check-enum-known-r-2 t c = search needs
-
-field-check-returns : (t : ℕ) → field-check-lts.Need-returns (field-check-calls t) (field-check-at t) field-check.Post field-check-Inv-loop field-check-μ-loop
-field-check-returns t c =
-    let c3 = c .before .before .before in
-    let c5 = c3 .before .before in
-    let c6 = c5 .before in
-    let c7 = c6 .before in
-    let c8 = c7 .before in
-    reading-stop _ _ _ _ _ _ _ _ _ _ _ _ (c8 .loop .inv) (c7 .loop-test .taken) (c6 .word-at .ensures .0) _ (c5 .locate .ensures) _ _ _ (sym (c
-    .before .r2 .given .1) ∙ c3 .item-check .ensures)
-
 field-check-add-a : (t : ℕ) → field-check-lts.Need-add-a (field-check-calls t) (field-check-at t) field-check.Post field-check-Inv-loop field-check-μ-loop
-field-check-add-a t c = omega (arith, c .before .before .before .before .before .before .before .before .before .loop .inv .row .near)
+field-check-add-a t c =
+    let c3 = c .before .before .before in
+    omega (arith, c3 .loop .inv .row .near)
 
 field-check-sub-left : (t : ℕ) → field-check-lts.Need-sub-left (field-check-calls t) (field-check-at t) field-check.Post field-check-Inv-loop field-check-μ-loop
 field-check-sub-left t c = omega arith
+
+field-check-kind-of-requires : (t : ℕ) → field-check-lts.Need-kind-of-requires (field-check-calls t) (field-check-at t) field-check.Post field-check-Inv-loop field-check-μ-loop
+field-check-kind-of-requires t c κs = search needs
+
+field-check-is-plain-requires : (t : ℕ) → field-check-lts.Need-is-plain-requires (field-check-calls t) (field-check-at t) field-check.Post field-check-Inv-loop field-check-μ-loop
+field-check-is-plain-requires t c κs = search needs
+
+field-check-sub-bytes : (t : ℕ) → field-check-lts.Need-sub-bytes (field-check-calls t) (field-check-at t) field-check.Post field-check-Inv-loop field-check-μ-loop
+field-check-sub-bytes t c =
+    let c3 = c .before .before .before in
+    let c4 = c3 .before in
+    let c5 = c4 .before in
+    let c6 = c5 .before in
+    reading-span _ _ _ _ _ _ _ _ _ _ _ _ (c6 .loop .inv) (c5 .loop-test .taken) (c4 .word-at .ensures .0) _ (c3 .locate .ensures) .0
+
+field-check-add-requires : (t : ℕ) → field-check-lts.Need-add-requires (field-check-calls t) (field-check-at t) field-check.Post field-check-Inv-loop field-check-μ-loop
+field-check-add-requires t c κs =
+    let c1 = c .before in
+    let c2 = c1 .before in
+    let c3 = c2 .before in
+    let c4 = c3 .before in
+    let c5 = c4 .before in
+    let c6 = c5 .before in
+    let c10 = c6 .before .before .before .before in
+    let told =
+    reading-plain _ _ _ _ _ _ _ _ _ _ _ _ (c6 .loop .inv) (c5 .loop-test .taken) (c4 .word-at .ensures .0) _ (c3 .locate .ensures) _
+    (sym (c1 .is-plain .ensures) ∙ c .if1 .taken) (c2 .kind-of .ensures) in
+    reading-adds _ _ _ _ _ _ _ _ _ _ _ _ (c6 .loop .inv) (c5 .loop-test .taken) (c4 .word-at .ensures .0) _ (c3 .locate .ensures) _
+    (c10 .pre .1 .1) (c10 .pre .1 .2) told
 
 field-check-loop-less : (t : ℕ) → field-check-lts.Need-loop-less (field-check-calls t) (field-check-at t) field-check.Post field-check-Inv-loop field-check-μ-loop
 field-check-loop-less t c = omega arith
 
 field-check-loop-again : (t : ℕ) → field-check-lts.Need-loop-again (field-check-calls t) (field-check-at t) field-check.Post field-check-Inv-loop field-check-μ-loop
 field-check-loop-again t c =
+    let c1 = c .before in
+    let c2 = c1 .before in
+    let c3 = c2 .before in
+    let c4 = c3 .before in
+    let c5 = c4 .before in
+    let c6 = c5 .before in
+    let c7 = c6 .before in
+    let c11 = c7 .before .before .before .before in
+    let told =
+    reading-plain _ _ _ _ _ _ _ _ _ _ _ _ (c7 .loop .inv) (c6 .loop-test .taken) (c5 .word-at .ensures .0) _ (c4 .locate .ensures) _
+    (sym (c2 .is-plain .ensures) ∙ c1 .if1 .taken) (c3 .kind-of .ensures) in
+    rw (c .add .ensures)
+    (reading-next _ _ _ _ _ _ _ _ _ _ _ _ (c7 .loop .inv) (c6 .loop-test .taken) (c5 .word-at .ensures .0) _ (c4 .locate .ensures) _ (c11 .pre .1 .2) told)
+
+field-check-add-at : (t : ℕ) → field-check-lts.Need-add-at (field-check-calls t) (field-check-at t) field-check.Post field-check-Inv-loop field-check-μ-loop
+field-check-add-at t c =
+    let c3 = c .before .before .before in
+    let c4 = c3 .before in
+    let c5 = c4 .before in
+    let c6 = c5 .before in
+    let c10 = c6 .before .before .before .before in
+    omega (arith, reading-span _ _ _ _ _ _ _ _ _ _ _ _ (c6 .loop .inv) (c5 .loop-test .taken) (c4 .word-at .ensures .0) _ (c3 .locate .ensures), c10 .pre .1 .2)
+
+field-check-sub-item-check : (t : ℕ) → field-check-lts.Need-sub-item-check (field-check-calls t) (field-check-at t) field-check.Post field-check-Inv-loop field-check-μ-loop
+field-check-sub-item-check t c =
+    let c3 = c .before .before .before in
+    let c4 = c3 .before in
+    let c5 = c4 .before in
+    let c6 = c5 .before in
+    reading-span _ _ _ _ _ _ _ _ _ _ _ _ (c6 .loop .inv) (c5 .loop-test .taken) (c4 .word-at .ensures .0) _ (c3 .locate .ensures) .0
+
+field-check-part-item-check-start : (t : ℕ) → field-check-lts.Need-part-item-check-start (field-check-calls t) (field-check-at t) field-check.Post field-check-Inv-loop field-check-μ-loop
+field-check-part-item-check-start t c =
+    let c3 = c .before .before .before in
+    let c4 = c3 .before in
+    let c5 = c4 .before in
+    let c6 = c5 .before in
+    reading-span _ _ _ _ _ _ _ _ _ _ _ _ (c6 .loop .inv) (c5 .loop-test .taken) (c4 .word-at .ensures .0) _ (c3 .locate .ensures) .0
+
+field-check-part-item-check-end : (t : ℕ) → field-check-lts.Need-part-item-check-end (field-check-calls t) (field-check-at t) field-check.Post field-check-Inv-loop field-check-μ-loop
+field-check-part-item-check-end t c =
+    let c3 = c .before .before .before in
+    let c4 = c3 .before in
+    let c5 = c4 .before in
+    let c6 = c5 .before in
+    reading-span _ _ _ _ _ _ _ _ _ _ _ _ (c6 .loop .inv) (c5 .loop-test .taken) (c4 .word-at .ensures .0) _ (c3 .locate .ensures) .1
+
+field-check-item-check-requires : (t : ℕ) → field-check-lts.Need-item-check-requires (field-check-calls t) (field-check-at t) field-check.Post field-check-Inv-loop field-check-μ-loop
+field-check-item-check-requires t c κs =
+    let c4 = c .before .before .before .before in
+    let c5 = c4 .before in
+    let c6 = c5 .before in
+    let c7 = c6 .before in
+    let c11 = c7 .before .before .before .before in
+    let span = reading-span _ _ _ _ _ _ _ _ _ _ _ _ (c7 .loop .inv) (c6 .loop-test .taken) (c5 .word-at .ensures .0) _ (c4 .locate .ensures) in (
+      omega (arith, row-below _ _ _ _ _ _ (c7 .loop .inv .row) (c6 .loop-test .taken) (c5 .word-at .ensures .0), c11 .pre .0),
+      (
+        row-under _ _ _ _ _ _ (c7 .loop .inv .row) (c6 .loop-test .taken) (c5 .word-at .ensures .0),
+        omega (arith, span, c11 .pre .1 .2),
+      ),
+    )
+
+field-check-enum-known-r : (t : ℕ) → field-check-lts.Need-enum-known-r (field-check-calls t) (field-check-at t) field-check.Post field-check-Inv-loop field-check-μ-loop
+field-check-enum-known-r t c = search needs
+
+field-check-add-requires-2 : (t : ℕ) → field-check-lts.Need-add-requires-2 (field-check-calls t) (field-check-at t) field-check.Post field-check-Inv-loop field-check-μ-loop
+field-check-add-requires-2 t c κs =
+    let c1 = c .before in
+    let c3 = c1 .before .before in
+    let c8 = c3 .before .before .before .before .before in
+    let c9 = c8 .before in
+    let c10 = c9 .before in
+    let c11 = c10 .before in
+    let c15 = c11 .before .before .before .before in
+    reading-adds _ _ _ _ _ _ _ _ _ _ _ _ (c11 .loop .inv) (c10 .loop-test .taken) (c9 .word-at .ensures .0) _ (c8 .locate .ensures) _
+    (c15 .pre .1 .1) (c15 .pre .1 .2) (sym (c1 .r .given .1) ∙ c3 .item-check .ensures)
+
+field-check-loop-less-2 : (t : ℕ) → field-check-lts.Need-loop-less-2 (field-check-calls t) (field-check-at t) field-check.Post field-check-Inv-loop field-check-μ-loop
+field-check-loop-less-2 t c = omega arith
+
+field-check-loop-again-2 : (t : ℕ) → field-check-lts.Need-loop-again-2 (field-check-calls t) (field-check-at t) field-check.Post field-check-Inv-loop field-check-μ-loop
+field-check-loop-again-2 t c =
     let c2 = c .before .before in
     let c4 = c2 .before .before in
-    let c6 = c4 .before .before in
-    let c7 = c6 .before in
-    let c8 = c7 .before in
+    let c9 = c4 .before .before .before .before .before in
+    let c10 = c9 .before in
+    let c11 = c10 .before in
+    let c12 = c11 .before in
+    let c16 = c12 .before .before .before .before in
+    let told = sym (c2 .r .given .1) ∙ c4 .item-check .ensures in
+    rw (c .add2 .ensures)
+    (reading-next _ _ _ _ _ _ _ _ _ _ _ _ (c12 .loop .inv) (c11 .loop-test .taken) (c10 .word-at .ensures .0) _ (c9 .locate .ensures) _ (c16 .pre .1 .2) told)
+
+field-check-enum-known-r-2 : (t : ℕ) → field-check-lts.Need-enum-known-r-2 (field-check-calls t) (field-check-at t) field-check.Post field-check-Inv-loop field-check-μ-loop
+field-check-enum-known-r-2 t c = search needs
+
+field-check-returns : (t : ℕ) → field-check-lts.Need-returns (field-check-calls t) (field-check-at t) field-check.Post field-check-Inv-loop field-check-μ-loop
+field-check-returns t c =
+    let c1 = c .before in
+    let c3 = c1 .before .before in
+    let c8 = c3 .before .before .before .before .before in
     let c9 = c8 .before in
-    let c13 = c9 .before .before .before .before in
-    rw (c .add .ensures) (reading-next _ _ _ _ _ _ _ _ _ _ _ _ (c9 .loop .inv) (c8 .loop-test .taken) (c7 .word-at .ensures .0) _ (c6 .locate
-    .ensures) _ (sym (c2 .r .given .1) ∙ c4 .item-check .ensures) (item-small _ _ _ _ _ _ (row-under _ _ _ _ _ _ (c9 .loop .inv .row) (c8 .loop-test
-    .taken) (c7 .word-at .ensures .0)) (omega (
-      arith,
-      span-length _ _ _ _ _ _ _ _ (c9 .loop .inv .row) (c8 .loop-test .taken) (c7 .word-at .ensures
-          .0) (c9 .loop .inv .ranges) _ (c6 .locate .ensures),
-      span-ok _ _ _ _ _ _ _ _ (c9 .loop .inv .row) (c8 .loop-test .taken) (c7 .word-at .ensures
-          .0) (c9 .loop .inv .ranges) _ (c6 .locate .ensures),
-      c13 .pre .1 .2,
-    )) (sym (c2 .r .given .1) ∙ c4 .item-check .ensures)))
+    let c10 = c9 .before in
+    let c11 = c10 .before in
+    reading-stop _ _ _ _ _ _ _ _ _ _ _ _ (c11 .loop .inv) (c10 .loop-test .taken) (c9 .word-at .ensures .0) _ (c8 .locate .ensures) _ _ _
+    (sym (c1 .r2 .given .1) ∙ c3 .item-check .ensures)
 
 field-check-returns-2 : (t : ℕ) → field-check-lts.Need-returns-2 (field-check-calls t) (field-check-at t) field-check.Post field-check-Inv-loop field-check-μ-loop
 field-check-returns-2 t c = reading-end _ _ _ _ _ _ _ _ _ _ _ (c .before .loop .inv) (c .loop-test .left)
@@ -394,19 +422,25 @@ pub +field-check+item-check-spec : {M : Type 1} → statement M
     (field-check-loop-holds t)
     (field-check-word-at-requires t)
     (field-check-locate-requires t)
+    (field-check-add-a t)
+    (field-check-sub-left t)
+    (field-check-kind-of-requires t)
+    (field-check-is-plain-requires t)
+    (field-check-sub-bytes t)
+    (field-check-add-requires t)
+    (field-check-loop-less t)
+    (field-check-loop-again t)
     (field-check-add-at t)
     (field-check-sub-item-check t)
     (field-check-part-item-check-start t)
     (field-check-part-item-check-end t)
     (field-check-item-check-requires t)
     (field-check-enum-known-r t)
-    (field-check-add-requires t)
+    (field-check-add-requires-2 t)
+    (field-check-loop-less-2 t)
+    (field-check-loop-again-2 t)
     (field-check-enum-known-r-2 t)
     (field-check-returns t)
-    (field-check-add-a t)
-    (field-check-sub-left t)
-    (field-check-loop-less t)
-    (field-check-loop-again t)
     (field-check-returns-2 t))
     λ t. item-check-lts.spec (item-check-calls t)
     (item-check-at t)
