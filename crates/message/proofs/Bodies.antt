@@ -51,7 +51,7 @@ pub record Reading (lens l : List ℕ) (t a₀ n : ℕ) (b : List ℕ) (s : ℕ)
   pub bytes : sum .bytes + 2 ^ 40 * left ≤ 2 ^ 40 * n + 1
   pub same : andThen (Accepted sum) (readFields (rowOf l t a left) b p s) ≡ andThen (one 0 0) (readFields (rowOf l t a₀ n) b 0 s)
 
-reading-small : (lens l : List ℕ) (t a₀ n : ℕ) (b : List ℕ) (s : ℕ) (sum : Counts) (a left p : ℕ) → n ≤ 64 → Reading lens l t a₀ n b s sum a left p → Small sum (2 ^ 50)
+pub reading-small : (lens l : List ℕ) (t a₀ n : ℕ) (b : List ℕ) (s : ℕ) (sum : Counts) (a left p : ℕ) → n ≤ 64 → Reading lens l t a₀ n b s sum a left p → Small sum (2 ^ 50)
 reading-small lens l t a₀ n b s sum a left p h g =
     record { records = omega (arith, g .records); words = omega (arith, g .words); bytes = omega (arith, g .bytes) }
 
@@ -109,12 +109,9 @@ module _ (lens l : List ℕ) (t a₀ n : ℕ) (b : List ℕ) (s : ℕ) (sum : Co
       let k = span-ok lens l t a left f b p (g .row) z e (g .ranges) w q in
       (k .0, k .1, span-length lens l t a left f b p (g .row) z e (g .ranges) w q)
 
-  reading-item : (c : Counts) → s + length b < 2 ^ 32 → Accepted c ≡ readItem (treeOf l f) (part b w) (s + w .from) → Small c (2 ^ 40)
+  pub reading-item : (c : Counts) → s + length b < 2 ^ 32 → Accepted c ≡ readItem (treeOf l f) (part b w) (s + w .from) → Small c (2 ^ 40)
   reading-item c h i =
       item-small lens l f (part b w) (s + w .from) c (row-under lens l t a left f (g .row) z e) (omega (arith, reading-span)) i
-
-  pub reading-adds : (c : Counts) → n ≤ 64 → s + length b < 2 ^ 32 → Accepted c ≡ readItem (treeOf l f) (part b w) (s + w .from) → Small sum (2 ^ 50) × Small c (2 ^ 50)
-  reading-adds c k h i = (reading-small lens l t a₀ n b s sum a left p k g, small-more c (reading-item c h i))
 
   pub reading-plain : (k : ℕ) → isPlain k ≡ true → k ≡ nodeOf l f .kind → one 0 (w .to - w .from) ≡ readItem (treeOf l f) (part b w) (s + w .from)
   reading-plain k h i =

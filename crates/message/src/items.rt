@@ -192,6 +192,19 @@ fn add(c: Counts, d: Counts) -> Counts
     }
 }
 
+// Counts with one more item, which has so many body bytes and no contents words.
+fn one_more(c: Counts, bytes: usize) -> Counts
+    requires { ⌜ Small c (2 ^ 50) × (bytes < 2 ^ 32) ⌝ }
+    ensures { λ r. ⌜ r ≡ plus c (record { records = 1; words = 0; bytes = bytes }) ⌝ }
+{
+    let own = Counts {
+        records: 1,
+        words: 0,
+        bytes,
+    };
+    add(c, own)
+}
+
 // A union's own record and selector, with what its body has.
 fn with_selector(r: Answer) -> Answer
     requires { ⌜ ((c : Counts) → r ≡ Accepted c → Small c (2 ^ 50)) ⌝ }
@@ -279,16 +292,10 @@ fn field_check(
         p = w.next;
         a += 1;
         left -= 1;
-        let kind = kind_of(layout, f);
-        let plain = is_plain(kind);
+        let plain = is_plain(kind_of(layout, f));
         if plain {
             let bytes = to - from;
-            let own = Counts {
-                records: 1,
-                words: 0,
-                bytes,
-            };
-            sum = add(sum, own);
+            sum = one_more(sum, bytes);
             continue;
         }
         let at = start + from;

@@ -8,7 +8,8 @@ use Rattle.decode.proofs.Register.{layout-ranges}
 use Rattle.layout.proofs.Facts.{as-leaf, as-container}
 use Rattle.message.specs.Read.{one, andThen}
 use Rattle.message.proofs.Rows.{row-below, row-under, under-below}
-use Rattle.message.proofs.Bodies.{Reading, reading-span, reading-plain, reading-adds, reading-next, reading-stop, reading-end, item-small, small-more, node-ok, container-row, container-on, container-stop, bare-read, wrong-read, body-below, body-read}
+use Rattle.message.proofs.Bodies.{Reading, reading-small, reading-span, reading-item, reading-plain, reading-next, reading-stop, reading-end}
+use Rattle.message.proofs.Bodies.{item-small, small-more, node-ok, container-row, container-on, container-stop, bare-read, wrong-read, body-below, body-read}
 use Prim.Native.Nat.{ℕ, _<_}
 use borrow.Fn.Kinds.{In}
 use borrow.Fn.PlainCycle.{Measures, is, falls, and}
@@ -26,6 +27,7 @@ use Rattle.message.proofs.items.add.Reads as add-reads
 use Rattle.message.proofs.items.is_plain.Reads as is-plain-reads
 use Rattle.message.proofs.items.leaf.Reads as leaf-reads
 use Rattle.message.proofs.items.leaf_check.Reads as leaf-check-reads
+use Rattle.message.proofs.items.one_more.Reads as one-more-reads
 use Rattle.message.proofs.items.select.Reads as select-reads
 use Rattle.message.proofs.items.with_selector.Reads as with-selector-reads
 use Rattle.standard.proofs.words.word_at.Reads as word-at-reads
@@ -62,7 +64,22 @@ field-check-μ-loop lens layout t a0 n b start sum₀ a₀ left₀ p₀ sum a le
 
 -- what `field_check` calls, at the measure t
 abbrev field-check-calls : ℕ → field-check-lts.Claims
-field-check-calls t = (word-at-reads.Asked, word-at-reads.Learnt, locate-reads.Asked, locate-reads.Learnt, kind-of-reads.Asked, kind-of-reads.Learnt, is-plain-reads.Asked, is-plain-reads.Learnt, add-reads.Asked, add-reads.Learnt, item-check-below t, item-check.Post)
+field-check-calls t = (
+  word-at-reads.Asked,
+  word-at-reads.Learnt,
+  locate-reads.Asked,
+  locate-reads.Learnt,
+  kind-of-reads.Asked,
+  kind-of-reads.Learnt,
+  is-plain-reads.Asked,
+  is-plain-reads.Learnt,
+  one-more-reads.Asked,
+  one-more-reads.Learnt,
+  item-check-below t,
+  item-check.Post,
+  add-reads.Asked,
+  add-reads.Learnt,
+)
 
 -- what `item_check` calls, at the measure t
 abbrev item-check-calls : ℕ → item-check-lts.Claims
@@ -112,20 +129,15 @@ field-check-sub-bytes t c =
     let c6 = c5 .before in
     reading-span _ _ _ _ _ _ _ _ _ _ _ _ (c6 .loop .inv) (c5 .loop-test .taken) (c4 .word-at .ensures .0) _ (c3 .locate .ensures) .0
 
-field-check-add-requires : (t : ℕ) → field-check-lts.Need-add-requires (field-check-calls t) (field-check-at t) field-check.Post field-check-Inv-loop field-check-μ-loop
-field-check-add-requires t c κs =
-    let c1 = c .before in
-    let c2 = c1 .before in
-    let c3 = c2 .before in
+field-check-one-more-requires : (t : ℕ) → field-check-lts.Need-one-more-requires (field-check-calls t) (field-check-at t) field-check.Post field-check-Inv-loop field-check-μ-loop
+field-check-one-more-requires t c κs =
+    let c3 = c .before .before .before in
     let c4 = c3 .before in
     let c5 = c4 .before in
     let c6 = c5 .before in
     let c10 = c6 .before .before .before .before in
-    let told =
-    reading-plain _ _ _ _ _ _ _ _ _ _ _ _ (c6 .loop .inv) (c5 .loop-test .taken) (c4 .word-at .ensures .0) _ (c3 .locate .ensures) _
-    (sym (c1 .is-plain .ensures) ∙ c .if1 .taken) (c2 .kind-of .ensures) in
-    reading-adds _ _ _ _ _ _ _ _ _ _ _ _ (c6 .loop .inv) (c5 .loop-test .taken) (c4 .word-at .ensures .0) _ (c3 .locate .ensures) _
-    (c10 .pre .1 .1) (c10 .pre .1 .2) told
+    let span = reading-span _ _ _ _ _ _ _ _ _ _ _ _ (c6 .loop .inv) (c5 .loop-test .taken) (c4 .word-at .ensures .0) _ (c3 .locate .ensures) in
+    (reading-small _ _ _ _ _ _ _ _ _ _ _ (c10 .pre .1 .1) (c6 .loop .inv), omega (arith, span, c10 .pre .1 .2))
 
 field-check-loop-less : (t : ℕ) → field-check-lts.Need-loop-less (field-check-calls t) (field-check-at t) field-check.Post field-check-Inv-loop field-check-μ-loop
 field-check-loop-less t c = omega arith
@@ -143,7 +155,7 @@ field-check-loop-again t c =
     let told =
     reading-plain _ _ _ _ _ _ _ _ _ _ _ _ (c7 .loop .inv) (c6 .loop-test .taken) (c5 .word-at .ensures .0) _ (c4 .locate .ensures) _
     (sym (c2 .is-plain .ensures) ∙ c1 .if1 .taken) (c3 .kind-of .ensures) in
-    rw (c .add .ensures)
+    rw (c .one-more .ensures)
     (reading-next _ _ _ _ _ _ _ _ _ _ _ _ (c7 .loop .inv) (c6 .loop-test .taken) (c5 .word-at .ensures .0) _ (c4 .locate .ensures) _ (c11 .pre .1 .2) told)
 
 field-check-add-at : (t : ℕ) → field-check-lts.Need-add-at (field-check-calls t) (field-check-at t) field-check.Post field-check-Inv-loop field-check-μ-loop
@@ -197,8 +209,8 @@ field-check-item-check-requires t c κs =
 field-check-enum-known-r : (t : ℕ) → field-check-lts.Need-enum-known-r (field-check-calls t) (field-check-at t) field-check.Post field-check-Inv-loop field-check-μ-loop
 field-check-enum-known-r t c = search needs
 
-field-check-add-requires-2 : (t : ℕ) → field-check-lts.Need-add-requires-2 (field-check-calls t) (field-check-at t) field-check.Post field-check-Inv-loop field-check-μ-loop
-field-check-add-requires-2 t c κs =
+field-check-add-requires : (t : ℕ) → field-check-lts.Need-add-requires (field-check-calls t) (field-check-at t) field-check.Post field-check-Inv-loop field-check-μ-loop
+field-check-add-requires t c κs =
     let c1 = c .before in
     let c3 = c1 .before .before in
     let c8 = c3 .before .before .before .before .before in
@@ -206,8 +218,11 @@ field-check-add-requires-2 t c κs =
     let c10 = c9 .before in
     let c11 = c10 .before in
     let c15 = c11 .before .before .before .before in
-    reading-adds _ _ _ _ _ _ _ _ _ _ _ _ (c11 .loop .inv) (c10 .loop-test .taken) (c9 .word-at .ensures .0) _ (c8 .locate .ensures) _
-    (c15 .pre .1 .1) (c15 .pre .1 .2) (sym (c1 .r .given .1) ∙ c3 .item-check .ensures)
+    let told = sym (c1 .r .given .1) ∙ c3 .item-check .ensures in (
+      reading-small _ _ _ _ _ _ _ _ _ _ _ (c15 .pre .1 .1) (c11 .loop .inv),
+      small-more _ (reading-item
+          _ _ _ _ _ _ _ _ _ _ _ _ (c11 .loop .inv) (c10 .loop-test .taken) (c9 .word-at .ensures .0) _ (c8 .locate .ensures) _ (c15 .pre .1 .2) told),
+    )
 
 field-check-loop-less-2 : (t : ℕ) → field-check-lts.Need-loop-less-2 (field-check-calls t) (field-check-at t) field-check.Post field-check-Inv-loop field-check-μ-loop
 field-check-loop-less-2 t c = omega arith
@@ -222,7 +237,7 @@ field-check-loop-again-2 t c =
     let c12 = c11 .before in
     let c16 = c12 .before .before .before .before in
     let told = sym (c2 .r .given .1) ∙ c4 .item-check .ensures in
-    rw (c .add2 .ensures)
+    rw (c .add .ensures)
     (reading-next _ _ _ _ _ _ _ _ _ _ _ _ (c12 .loop .inv) (c11 .loop-test .taken) (c10 .word-at .ensures .0) _ (c9 .locate .ensures) _ (c16 .pre .1 .2) told)
 
 field-check-enum-known-r-2 : (t : ℕ) → field-check-lts.Need-enum-known-r-2 (field-check-calls t) (field-check-at t) field-check.Post field-check-Inv-loop field-check-μ-loop
@@ -427,7 +442,7 @@ pub +field-check+item-check-spec : {M : Type 1} → statement M
     (field-check-kind-of-requires t)
     (field-check-is-plain-requires t)
     (field-check-sub-bytes t)
-    (field-check-add-requires t)
+    (field-check-one-more-requires t)
     (field-check-loop-less t)
     (field-check-loop-again t)
     (field-check-add-at t)
@@ -436,7 +451,7 @@ pub +field-check+item-check-spec : {M : Type 1} → statement M
     (field-check-part-item-check-end t)
     (field-check-item-check-requires t)
     (field-check-enum-known-r t)
-    (field-check-add-requires-2 t)
+    (field-check-add-requires t)
     (field-check-loop-less-2 t)
     (field-check-loop-again-2 t)
     (field-check-enum-known-r-2 t)
