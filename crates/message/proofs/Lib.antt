@@ -2,6 +2,7 @@
 pub mod Answers
 pub mod Bounds
 pub mod Rows
+pub mod Numbers
 pub mod Bodies
 pub mod Records
 pub mod Entries

@@ -16,10 +16,10 @@ use Rattle.standard.specs.declared.Refusal.{Refusal}
 use Rattle.standard.proofs.Join.{range-weaken, span-ranges}
 use Rattle.standard.specs.declared.Maybe.the-variants.{Nothing}
 use Rattle.standard.proofs.Laws.{fixed-some, fixed-injective, joined-fixed}
-use Rattle.decode.specs.Builder.{fresh, step, registerHead, follow, register, build, ended, layOut}
+use Rattle.decode.specs.Builder.{fresh, step, follow, register, build, ended, layOut}
 use Rattle.decode.specs.declared.builder.Progress.{Progress}
 use Rattle.decode.specs.declared.builder.Step.{Step}
-use Rattle.decode.proofs.Register.{register-step, step-within}
+use Rattle.decode.proofs.Register.{step-within, beyond}
 use Rattle.layout.specs.Tree.{treeOf, fields, trees, lenOf, headOf}
 use Rattle.layout.specs.Legal.{Legal}
 use Rattle.layout.specs.Steps.{Known}
@@ -97,28 +97,17 @@ pub record Laying (lens l : List ℕ) (t a₀ n : ℕ) (b : List ℕ) (x : Progr
   pub within : x .pos ≤ length b
   pub same : register (headsOf l t a left) b x ≡ register (headsOf l t a₀ n) b fresh
 
-module _ (lens l : List ℕ) (t a₀ n : ℕ) (b : List ℕ) (x : Progress) (a left f : ℕ) (h : Head) (small : length b < 2 ^ 32) (g : Laying lens l t a₀ n b x a left) (p : 0 < left) (e : f ≡ wordAt l a) (q : h ≡ headOf (getD lens f 0)) where
-  laying-head : h ≡ head (treeOf l f)
-  laying-head = q ∙ row-head lens l t a left f (g .row) p e
-
-  laying-step : registerHead h b x ≡ step h b x
-  laying-step = register-step h b x (g .within) small
-
-  laying-same : follow (registerHead h b x) (register (headsOf l t (a + 1) (left - 1)) b) ≡ register (headsOf l t a₀ n) b fresh
+module _ (lens l : List ℕ) (t a₀ n : ℕ) (b : List ℕ) (x : Progress) (a left f : ℕ) (h : Head) (g : Laying lens l t a₀ n b x a left) (p : 0 < left) (e : f ≡ wordAt l a) (q : h ≡ head (treeOf l f)) where
+  laying-same : follow (step h b x) (register (headsOf l t (a + 1) (left - 1)) b) ≡ register (headsOf l t a₀ n) b fresh
   unfolding register
-  laying-same = ap (λ (s : Step). follow s (register (headsOf l t (a + 1) (left - 1)) b)) laying-step ∙ rw (row-heads lens l t a left f (g .row) p e h laying-head) at (g .same)
+  laying-same = rw (row-heads lens l t a left f (g .row) p e h q) at (g .same)
 
-  pub laying-next : (y : Progress) → Step.Next y ≡ registerHead h b x → Laying lens l t a₀ n b y (a + 1) (left - 1)
-  laying-next y s =
-      record {
-        row = row-next lens l t a left f (g .row) p e;
-        within = step-within h b x y (sym (s ∙ laying-step));
-        same = rw (← s) at laying-same;
-      }
+  pub laying-next : (y : Progress) → step h b x ≡ Step.Next y → Laying lens l t a₀ n b y (a + 1) (left - 1)
+  laying-next y s = record { row = row-next lens l t a left f (g .row) p e; within = step-within h b x y s; same = rw s at laying-same }
 
-  pub laying-bad : (r : Refusal) → Step.Refused r ≡ registerHead h b x → Told.Refused r ≡ layOut (headsOf l t a₀ n) b
+  pub laying-bad : (r : Refusal) → step h b x ≡ Step.Refused r → Told.Refused r ≡ layOut (headsOf l t a₀ n) b
   unfolding layOut
-  laying-bad r s = rw (← laying-same, ← s)
+  laying-bad r s = rw (← laying-same, s)
 
 pub laying-end : (lens l : List ℕ) (t a₀ n : ℕ) (b : List ℕ) (x : Progress) (a left : ℕ) → Laying lens l t a₀ n b x a left → left ≤ 0 → build (length b) x ≡ layOut (headsOf l t a₀ n) b
 unfolding layOut register
@@ -128,16 +117,16 @@ laying-end lens l t a₀ n b x a left g h = rw (← g .same, heads-none l t a le
 at-pos : ℕ → Progress
 at-pos p = record { pos = p; first = Nothing; previous = Nothing }
 
-fixed-step : (n : ℕ) (b : List ℕ) (p : ℕ) → p + n ≤ length b → length b < 2 ^ 32 → step (Fixed n) b (at-pos p) ≡ Step.Next (at-pos (p + n))
-unfolding step at-pos
-fixed-step n b p h k = rw (le-ltb 4294967295 n (omega arith), le-ltb (length b) (p + n) h)
+pub fixed-step : (n : ℕ) (b : List ℕ) (x : Progress) → x .pos + n ≤ length b → length b < 2 ^ 32 → step (Fixed n) b x ≡ Step.Next (beyond x n)
+unfolding step
+fixed-step n b x h k = rw (le-ltb 4294967295 n (omega arith), le-ltb (length b) (x .pos + n) h)
 
 fixed-registers : (ts : Tys) (b : List ℕ) (p m : ℕ) → headAll ts ≡ Fixed m → p + m ≤ length b → length b < 2 ^ 32 → register (heads ts) b (at-pos p) ≡ Step.Next (at-pos (p + m))
-unfolding register heads head
+unfolding register heads head at-pos
 fixed-registers end b p m e h k = let z : p + m ≡ p = let q : 0 ≡ m = fixed-injective 0 m e in omega arith in rw z
 fixed-registers (field t ts) b p m e h k =
     let j = joined-fixed (head t) (headAll ts) m e in
-    let i = fixed-step (j .0) b p (omega (arith, j .4)) k in
+    let i = fixed-step (j .0) b (at-pos p) (omega (arith, j .4)) k in
     let r = fixed-registers ts b (p + j .0) (j .1) (j .3) (omega (arith, j .4)) k in
     let z : p + j .0 + j .1 ≡ p + m = omega (arith, j .4) in
     rw (j .2, i) (rw z at r)

@@ -9,8 +9,11 @@ use Rattle.standard.specs.Choice.{pick}
 use Rattle.standard.specs.Bytes.{wordAt}
 use Rattle.standard.specs.Types.{Tys, head, heads}
 use Rattle.standard.specs.declared.Head.{Head}
+use Rattle.standard.specs.declared.Maybe.{Maybe}
+use Rattle.standard.specs.declared.Maybe.the-variants.{Just, Nothing}
 use Rattle.standard.specs.declared.Refusal.the-variants.{InvalidByteLength, UnionSelectorInvalid}
 use Rattle.decode.specs.Unions.{splitUnion}
+use Rattle.decode.specs.declared.builder.Progress.{Progress}
 use Rattle.decode.specs.declared.union_selector.SelectorResult.{SelectorResult}
 use Rattle.layout.specs.Tree.{treeOf, fields, trees, lenOf}
 use Rattle.layout.specs.Legal.{Lower, Legal}
@@ -38,6 +41,13 @@ rowOf l t at n = fields l (trees l t) at n
 
 abbrev pub headsOf : List ℕ → ℕ → ℕ → ℕ → List Head
 headsOf l t at n = heads (rowOf l t at n)
+
+-- Registration in plain numbers: an offset is known if there is a first one, and 2^64 - 1 stands for no first one.
+abbrev pub knownIf : ℕ → ℕ → Maybe
+knownIf first o = pick (eqb first 18446744073709551615) Nothing (Just o)
+
+abbrev pub progressOf : ℕ → ℕ → ℕ → Progress
+progressOf first previous p = record { pos = p; first = knownIf first first; previous = knownIf first previous }
 
 -- The word of an option, where the selector is behind its byte alone or not
 abbrev pub optionAt : ℕ → ℕ → Choice

@@ -1,10 +1,5 @@
 // The fields of a container: their registration, and where each of them lies.
-use decode::builder::Progress;
-use decode::builder::Step;
-use decode::builder::finalize;
-use decode::builder::register_head;
-use layout::head_of;
-use standard::Head;
+use standard::Refusal;
 use standard::Span;
 use standard::Told;
 use standard::words::four_at;
@@ -15,34 +10,71 @@ ghost use lib.ListN.{length};
 ghost use Rattle.standard.specs.Bytes.{wordAt};
 ghost use Rattle.standard.specs.Types.{head, container};
 ghost use Rattle.standard.specs.Parts.{next, spanOf, InRange};
-ghost use Rattle.decode.specs.Builder.{layOut};
+ghost use Rattle.decode.specs.Builder.{buildAt, layOut};
 ghost use Rattle.layout.specs.Tree.{treeOf};
-ghost use Rattle.message.specs.Steps.{Under, Row, rowOf, headsOf};
+ghost use Rattle.message.specs.Steps.{Under, Row, rowOf, headsOf, knownIf};
 
-// Registers the n fields that the words from a0 on name, and builds.
+// Stands for a first offset that is not there yet. An offset has 32 bits, so it is none.
+const NONE: usize = 18446744073709551615;
+
+// The end of a registration that has come to p, over len bytes.
+fn finish(first: usize, p: usize, len: usize) -> Told
+    ensures { λ r. ⌜ r ≡ buildAt (knownIf first first) p len ⌝ }
+{
+    if first == NONE {
+        if p == len {
+            return Told::Fine;
+        }
+        return Told::Refused(Refusal::InvalidByteLength(len, p));
+    }
+    if first < p {
+        return Told::Refused(Refusal::OffsetIntoFixedPortion(first));
+    }
+    if first > p {
+        return Told::Refused(Refusal::OffsetSkipsVariableBytes(first));
+    }
+    Told::Fine
+}
+
+// Registers the n fields that the words from a0 on name, and builds: as `register_head` and `finalize` do, in plain numbers.
 fn lay_out(lens: &[u32], layout: &[u8], t: usize, a0: usize, n: usize, b: &[u8]) -> Told
     requires { ⌜ Row (now lens) (now layout) t a0 n × (length (now b) < 2 ^ 32) ⌝ }
     ensures { λ r. ⌜ r ≡ layOut (headsOf (now (layout .entry)) t a0 n) (now (b .entry)) ⌝ }
 {
-    let mut x = Progress::new();
+    let len = b.len();
+    let mut p = 0;
+    let mut first = NONE;
+    let mut previous = 0;
     let mut a = a0;
     let mut left = n;
     while left > 0 {
         let f = word_at(layout, a);
-        let h = head_of(lens[f] as usize);
-        let s = register_head(x, h, b);
-        match s {
-            Step::Next(y) => {
-                x = y;
-            }
-            Step::Refused(r) => {
-                return Told::Refused(r);
-            }
-        }
+        let k = lens[f] as usize;
         a += 1;
         left -= 1;
+        if k > 0 {
+            p += k;
+            if p > len {
+                return Told::Refused(Refusal::InvalidByteLength(len, p));
+            }
+            continue;
+        }
+        let next = p + 4;
+        if next > len {
+            return Told::Refused(Refusal::InvalidLengthPrefix(len - p, 4));
+        }
+        let o = four_at(b, p);
+        if o > len {
+            return Told::Refused(Refusal::OffsetOutOfBounds(o));
+        }
+        if o < previous {
+            return Told::Refused(Refusal::OffsetsAreDecreasing(o));
+        }
+        first = if first == NONE { o } else { first };
+        previous = o;
+        p = next;
     }
-    finalize(x, b.len())
+    finish(first, p, len)
 }
 
 // What the registration of a container's fields finds. One of fixed size that has its length needs no look at them.

@@ -1,71 +1,170 @@
--- The loop keeps `Laying`. Assumes nothing.
+-- The loop keeps `Counting`; each way out is one of its laws. Assumes nothing.
 use mathlib.Core.Path.{_≡_, refl, sym, ap, _∙_}
 use native.Mathlib.Omega.{arith}
 use borrow.Author.Needs.{needs}
-use Rattle.message.proofs.Rows.{Laying, row-small, row-index, laying-next, laying-bad, laying-end}
+use Rattle.message.proofs.Rows.{row-small, row-index}
+use Rattle.message.proofs.Numbers.{Counting, counting-new, counting-fixed, counting-long, counting-cut, counting-past, counting-back, counting-first, counting-later, counting-end}
 use Rattle.message.proofs.fields.lay_out.Statement.{statement}
 use Rattle.message.proofs.fields.lay_out.Tie as tie
 
 abbrev Inv-loop : tie.InvT-loop
-Inv-loop lens layout t a0 n b x₀ a₀ left₀ x a left = Laying lens layout t a0 n b x a left
+Inv-loop lens layout t a0 n b len p₀ first₀ previous₀ a₀ left₀ p first previous a left = Counting lens layout t a0 n b first previous p a left
 
 abbrev μ-loop : tie.MeasureT-loop
-μ-loop lens layout t a0 n b x₀ a₀ left₀ x a left = left
-
-new-requires : tie.Need-new-requires Inv-loop μ-loop
-new-requires c κs = search needs
+μ-loop lens layout t a0 n b len p₀ first₀ previous₀ a₀ left₀ p first previous a left = left
 
 loop-holds : tie.Need-loop-holds Inv-loop μ-loop
-loop-holds c = record { row = c .before .before .before .before .pre .0; within = rw (c .new .ensures) (omega arith); same = rw (c .new .ensures) }
+loop-holds c =
+    let c3 = c .before .before .before in
+    counting-new _ _ _ _ _ _ (c3 .pre .0)
 
 word-at-requires : tie.Need-word-at-requires Inv-loop μ-loop
 word-at-requires c κs = search needs
 
-mul-head-of : tie.Need-mul-head-of Inv-loop μ-loop
-mul-head-of c = omega (arith, c .word-at .ensures .1)
+mul-k : tie.Need-mul-k Inv-loop μ-loop
+mul-k c = omega (arith, c .word-at .ensures .1)
 
-shared-slice-read-head-of : tie.Need-shared-slice-read-head-of Inv-loop μ-loop
-shared-slice-read-head-of c = row-index _ _ _ _ _ _ (c .before .before .before .loop .inv .row) (c .before .before .loop-test .taken) (c .before .word-at .ensures .0)
-
-cast-head-of : tie.Need-cast-head-of Inv-loop μ-loop
-cast-head-of c =
+shared-slice-read-k : tie.Need-shared-slice-read-k Inv-loop μ-loop
+shared-slice-read-k c =
     let c1 = c .before in
     let c2 = c1 .before in
     let c3 = c2 .before in
-    omega (arith, row-small _ _ _ _ _ _ (c3 .loop .inv .row) (c2 .loop-test .taken) (c1 .word-at .ensures .0))
+    row-index _ _ _ _ _ _ (c3 .loop .inv .laying .row) (c2 .loop-test .taken) (c1 .word-at .ensures .0)
 
-head-of-requires : tie.Need-head-of-requires Inv-loop μ-loop
-head-of-requires c κs = search needs
-
-register-head-requires : tie.Need-register-head-requires Inv-loop μ-loop
-register-head-requires c κs = search needs
-
-enum-known-s : tie.Need-enum-known-s Inv-loop μ-loop
-enum-known-s c = search needs
-
-enum-known-s-2 : tie.Need-enum-known-s-2 Inv-loop μ-loop
-enum-known-s-2 c = search needs
-
-returns : tie.Need-returns Inv-loop μ-loop
-returns c = laying-bad _ _ _ _ _ _ _ _ _ _ _ (c .before .before .before .before .before .before .before .before .before .before .before .before .before .pre .1) (c .before .before .before .before .before .before .before .before .loop .inv) (c .before .before .before .before .before .before .before .loop-test .taken) (c .before .before .before .before .before .before .word-at .ensures .0) (c .before .before .before .before .head-of .ensures) _ (sym (c .before .s2 .given .1) ∙ c .before .before .before .register-head .ensures)
+cast-k : tie.Need-cast-k Inv-loop μ-loop
+cast-k c =
+    let c1 = c .before in
+    let c2 = c1 .before in
+    let c3 = c2 .before in
+    omega (arith, row-small _ _ _ _ _ _ (c3 .loop .inv .laying .row) (c2 .loop-test .taken) (c1 .word-at .ensures .0))
 
 add-a : tie.Need-add-a Inv-loop μ-loop
-add-a c = omega (arith, c .before .before .before .before .before .before .before .before .loop .inv .row .near)
+add-a c =
+    let c3 = c .before .before .before in
+    omega (arith, c3 .loop .inv .laying .row .near)
 
 sub-left : tie.Need-sub-left Inv-loop μ-loop
-sub-left c = omega arith
+sub-left c =
+    let c2 = c .before .before in
+    omega (arith, c2 .loop-test .taken)
+
+add-p : tie.Need-add-p Inv-loop μ-loop
+add-p c =
+    let c2 = c .before .before in
+    let c3 = c2 .before in
+    let c4 = c3 .before in
+    let c8 = c4 .before .before .before .before in
+    let s = row-small _ _ _ _ _ _ (c4 .loop .inv .laying .row) (c3 .loop-test .taken) (c2 .word-at .ensures .0) in
+    omega (arith, s, c4 .loop .inv .laying .within, c8 .pre .1)
+
+returns : tie.Need-returns Inv-loop μ-loop
+returns c =
+    let c1 = c .before in
+    let c3 = c1 .before .before in
+    let c4 = c3 .before in
+    let c5 = c4 .before in
+    counting-long _ _ _ _ _ _ _ _ _ _ _ _ _ (c5 .loop .inv) (c4 .loop-test .taken) (c3 .word-at .ensures .0) refl (c1 .if1 .taken) (c .if2 .taken)
 
 loop-less : tie.Need-loop-less Inv-loop μ-loop
-loop-less c = omega arith
+loop-less c =
+    let c4 = c .before .before .before .before in
+    omega (arith, c4 .loop-test .taken)
 
 loop-again : tie.Need-loop-again Inv-loop μ-loop
-loop-again c = laying-next _ _ _ _ _ _ _ _ _ _ _ (c .before .before .before .before .before .before .before .before .before .before .before .before .before .pre .1) (c .before .before .before .before .before .before .before .before .loop .inv) (c .before .before .before .before .before .before .before .loop-test .taken) (c .before .before .before .before .before .before .word-at .ensures .0) (c .before .before .before .before .head-of .ensures) _ (sym (c .before .s .given .1) ∙ c .before .before .before .register-head .ensures)
+loop-again c =
+    let c1 = c .before in
+    let c3 = c1 .before .before in
+    let c4 = c3 .before in
+    let c5 = c4 .before in
+    let c9 = c5 .before .before .before .before in
+    counting-fixed _ _ _ _ _ _ _ _ _ _ _ _ _ (c5 .loop .inv) (c4 .loop-test .taken) (c3 .word-at .ensures .0) refl (c1 .if1 .taken) (c .if2 .left) (c9 .pre .1)
 
-finalize-requires : tie.Need-finalize-requires Inv-loop μ-loop
-finalize-requires c κs = search needs
+add-next : tie.Need-add-next Inv-loop μ-loop
+add-next c =
+    let c4 = c .before .before .before .before in
+    let c8 = c4 .before .before .before .before in
+    omega (arith, c4 .loop .inv .laying .within, c8 .pre .1)
+
+sub-t23 : tie.Need-sub-t23 Inv-loop μ-loop
+sub-t23 c =
+    let c5 = c .before .before .before .before .before in
+    c5 .loop .inv .laying .within
 
 returns-2 : tie.Need-returns-2 Inv-loop μ-loop
-returns-2 c = c .finalize .ensures ∙ laying-end _ _ _ _ _ _ _ _ _ (c .before .before .loop .inv) (c .before .loop-test .left)
+returns-2 c =
+    let c1 = c .before in
+    let c3 = c1 .before .before in
+    let c4 = c3 .before in
+    let c5 = c4 .before in
+    counting-cut _ _ _ _ _ _ _ _ _ _ _ _ _ (c5 .loop .inv) (c4 .loop-test .taken) (c3 .word-at .ensures .0) refl (c1 .if1 .left) (c .if3 .taken)
+
+four-at-requires : tie.Need-four-at-requires Inv-loop μ-loop
+four-at-requires c κs = search needs
+
+returns-3 : tie.Need-returns-3 Inv-loop μ-loop
+returns-3 c =
+    let c1 = c .before in
+    let c2 = c1 .before in
+    let c3 = c2 .before in
+    let c5 = c3 .before .before in
+    let c6 = c5 .before in
+    let c7 = c6 .before in
+    let law = counting-past _ _ _ _ _ _ _ _ _ _ _ _ _ (c7 .loop .inv) (c6 .loop-test .taken) (c5 .word-at .ensures .0) refl (c3 .if1 .left) in
+    law _ (c1 .four-at .ensures .0) (c2 .if3 .left) (c .if4 .taken)
+
+returns-4 : tie.Need-returns-4 Inv-loop μ-loop
+returns-4 c =
+    let c1 = c .before in
+    let c2 = c1 .before in
+    let c3 = c2 .before in
+    let c4 = c3 .before in
+    let c6 = c4 .before .before in
+    let c7 = c6 .before in
+    let c8 = c7 .before in
+    counting-back _ _ _ _ _ _ _ _ _ _ _ _ _ (c8 .loop .inv) (c7 .loop-test .taken) (c6 .word-at .ensures .0) refl (c4 .if1 .left) _ (c2 .four-at .ensures .0) (c3 .if3 .left) (c1 .if4 .left) (c .if5 .taken)
+
+loop-less-2 : tie.Need-loop-less-2 Inv-loop μ-loop
+loop-less-2 c =
+    let c8 = c .before .before .before .before .before .before .before .before in
+    omega (arith, c8 .loop-test .taken)
+
+loop-again-2 : tie.Need-loop-again-2 Inv-loop μ-loop
+loop-again-2 c =
+    let c1 = c .before in
+    let c2 = c1 .before in
+    let c3 = c2 .before in
+    let c4 = c3 .before in
+    let c5 = c4 .before in
+    let c7 = c5 .before .before in
+    let c8 = c7 .before in
+    let c9 = c8 .before in
+    counting-first _ _ _ _ _ _ _ _ _ _ _ _ _ (c9 .loop .inv) (c8 .loop-test .taken) (c7 .word-at .ensures .0) refl (c5 .if1 .left) _ (c3 .four-at .ensures .0) (c4 .if3 .left) (c2 .if4 .left) (c1 .if5 .left) (c .if6 .taken) (c3 .four-at .ensures .1)
+
+loop-less-3 : tie.Need-loop-less-3 Inv-loop μ-loop
+loop-less-3 c =
+    let c8 = c .before .before .before .before .before .before .before .before in
+    omega (arith, c8 .loop-test .taken)
+
+loop-again-3 : tie.Need-loop-again-3 Inv-loop μ-loop
+loop-again-3 c =
+    let c1 = c .before in
+    let c2 = c1 .before in
+    let c3 = c2 .before in
+    let c4 = c3 .before in
+    let c5 = c4 .before in
+    let c7 = c5 .before .before in
+    let c8 = c7 .before in
+    let c9 = c8 .before in
+    counting-later _ _ _ _ _ _ _ _ _ _ _ _ _ (c9 .loop .inv) (c8 .loop-test .taken) (c7 .word-at .ensures .0) refl (c5 .if1 .left) _ (c3 .four-at .ensures .0) (c4 .if3 .left) (c2 .if4 .left) (c1 .if5 .left) (c .if6 .left)
+
+finish-requires : tie.Need-finish-requires Inv-loop μ-loop
+finish-requires c κs = search needs
+
+returns-5 : tie.Need-returns-5 Inv-loop μ-loop
+returns-5 c =
+    let c1 = c .before in
+    let c2 = c1 .before in
+    c .finish .ensures ∙ counting-end _ _ _ _ _ _ _ _ _ _ _ (c2 .loop .inv) (c1 .loop-test .left)
 
 pub lay-out-spec : {M : Type 1} → statement M
 lay-out-spec =
@@ -73,20 +172,26 @@ lay-out-spec =
     (tie.spec
     Inv-loop
     μ-loop
-    new-requires
     loop-holds
     word-at-requires
-    mul-head-of
-    shared-slice-read-head-of
-    cast-head-of
-    head-of-requires
-    register-head-requires
-    enum-known-s
-    enum-known-s-2
-    returns
+    mul-k
+    shared-slice-read-k
+    cast-k
     add-a
     sub-left
+    add-p
+    returns
     loop-less
     loop-again
-    finalize-requires
-    returns-2)
+    add-next
+    sub-t23
+    returns-2
+    four-at-requires
+    returns-3
+    returns-4
+    loop-less-2
+    loop-again-2
+    loop-less-3
+    loop-again-3
+    finish-requires
+    returns-5)
