@@ -1,6 +1,6 @@
 -- The registration of a container's fields in plain numbers: what each test finds is what `step` says of the progress that the
 -- numbers stand for. Assumes nothing.
-use mathlib.Core.Path.{_≡_, refl, sym, ap, _∙_}
+use mathlib.Core.Path.{_≡_, refl, ap, _∙_}
 use mathlib.Core.List.{List}
 use mathlib.Core.Bool.{Bool, true, false}
 use Prim.Native.Nat.{ℕ, _+_, _-_, _≤_, _<_, _^_}
@@ -13,120 +13,125 @@ use Rattle.standard.specs.Bytes.{four, wordAt}
 use Rattle.standard.specs.Types.{head}
 use Rattle.standard.specs.declared.Head.{Head}
 use Rattle.standard.specs.declared.Head.the-variants.{Fixed, Variable}
-use Rattle.standard.specs.declared.Maybe.{Maybe}
 use Rattle.standard.specs.declared.Maybe.the-variants.{Just, Nothing}
 use Rattle.standard.specs.declared.Told.{Told}
 use Rattle.standard.specs.declared.Refusal.{Refusal}
 use Rattle.standard.specs.declared.Refusal.the-variants.{InvalidByteLength, InvalidLengthPrefix, OffsetsAreDecreasing, OffsetOutOfBounds}
 use Rattle.decode.specs.Offsets.{sanitizeOffset}
-use Rattle.decode.specs.Builder.{fresh, behindOffset, step, build, buildAt, layOut}
+use Rattle.decode.specs.Builder.{behindOffset, step, build, buildAt, layOut}
 use Rattle.decode.specs.declared.builder.Progress.{Progress}
 use Rattle.decode.specs.declared.builder.Step.{Step}
-use Rattle.decode.proofs.Register.{behind, beyond}
+use Rattle.decode.proofs.Register.{behind}
 use Rattle.layout.specs.Tree.{treeOf}
 use Rattle.message.specs.Steps.{Row, headsOf, knownIf, progressOf}
 use Rattle.message.proofs.Rows.{Laying, row-small, row-fixed, row-variable, laying-next, laying-bad, laying-end, fixed-step}
 
--- A field of fixed size that does not fit.
-fixed-long : (n : ℕ) (b : List ℕ) (x : Progress) → n < 2 ^ 32 → length b < x .pos + n → step (Fixed n) b x ≡ Step.Refused (InvalidByteLength (length b) (x .pos + n))
-unfolding step
-fixed-long n b x s h = rw (le-ltb 4294967295 n (omega arith), lt-ltb (length b) (x .pos + n) h)
+-- One field that is refused, or whose offset is there.
+module _ (b : List ℕ) (x : Progress) where
+  fixed-long : (n : ℕ) → n < 2 ^ 32 → length b < x .pos + n → step (Fixed n) b x ≡ Step.Refused (InvalidByteLength (length b) (x .pos + n))
+  unfolding step
+  fixed-long n s h = rw (le-ltb 4294967295 n (omega arith), lt-ltb (length b) (x .pos + n) h)
 
--- An offset that is cut, and one that is there.
-offset-cut : (b : List ℕ) (x : Progress) → x .pos ≤ length b → length b < x .pos + 4 → step Variable b x ≡ Step.Refused (InvalidLengthPrefix (length b - x .pos) 4)
-unfolding step
-offset-cut b x p h = rw (lt-ltb (length b - x .pos) 4 (omega arith))
+  offset-cut : length b < x .pos + 4 → step Variable b x ≡ Step.Refused (InvalidLengthPrefix (length b - x .pos) 4)
+  unfolding step
+  offset-cut h = rw (lt-ltb (length b - x .pos) 4 (omega arith))
 
-offset-there : (b : List ℕ) (x : Progress) → x .pos + 4 ≤ length b → step Variable b x ≡ behindOffset (sanitizeOffset (four b (x .pos)) (x .previous) (length b) Nothing) x
-unfolding step
-offset-there b x h = rw (le-ltb (length b - x .pos) 4 (omega arith))
+  offset-there : x .pos + 4 ≤ length b → step Variable b x ≡ behindOffset (sanitizeOffset (four b (x .pos)) (x .previous) (length b) Nothing) x
+  unfolding step
+  offset-there h = rw (le-ltb (length b - x .pos) 4 (omega arith))
 
--- The tests of an offset o behind the offset n, which is known if c is false. Without one n is 0, and no offset is below.
-offset-past : (c : Bool) (n o len : ℕ) (x : Progress) → len < o → behindOffset (sanitizeOffset o (pick c Nothing (Just n)) len Nothing) x ≡ Step.Refused (OffsetOutOfBounds o)
+-- There is no first offset yet.
+abbrev unset : ℕ → Bool
+unset first = eqb first 18446744073709551615
+
+-- What the tests of an offset o give, behind the offset n, which is known where c is false.
+abbrev tested : Bool → ℕ → ℕ → ℕ → Progress → Step
+tested c n o len x = behindOffset (sanitizeOffset o (pick c Nothing (Just n)) len Nothing) x
+
+offset-past : (c : Bool) (n o len : ℕ) (x : Progress) → len < o → tested c n o len x ≡ Step.Refused (OffsetOutOfBounds o)
 offset-past true n o len x h = rw (lt-ltb len o h)
 offset-past false n o len x h = rw (lt-ltb len o h)
 
-offset-back : (c : Bool) (n o len : ℕ) (x : Progress) → (c ≡ true → n ≡ 0) → o ≤ len → o < n → behindOffset (sanitizeOffset o (pick c Nothing (Just n)) len Nothing) x ≡ Step.Refused (OffsetsAreDecreasing o)
+-- Where none is known n is 0, and no offset is below.
+offset-back : (c : Bool) (n o len : ℕ) (x : Progress) → (c ≡ true → n ≡ 0) → o ≤ len → o < n → tested c n o len x ≡ Step.Refused (OffsetsAreDecreasing o)
 offset-back true n o len x z h k = absurd (omega (arith, z refl))
 offset-back false n o len x z h k = rw (le-ltb len o h, lt-ltb o n k)
 
-offset-taken : (c : Bool) (n o len : ℕ) (x : Progress) → o ≤ len → n ≤ o → behindOffset (sanitizeOffset o (pick c Nothing (Just n)) len Nothing) x ≡ Step.Next (behind x o)
+offset-taken : (c : Bool) (n o len : ℕ) (x : Progress) → o ≤ len → n ≤ o → tested c n o len x ≡ Step.Next (behind x o)
 offset-taken true n o len x h k = rw (le-ltb len o h)
 offset-taken false n o len x h k = rw (le-ltb len o h, le-ltb o n k)
 
--- The numbers behind an offset.
-behind-first : (first previous p o : ℕ) → first ≡ 18446744073709551615 → o < 2 ^ 32 → behind (progressOf first previous p) o ≡ progressOf o o (p + 4)
-behind-first first previous p o e s =
-    rw (eq-eqb first 18446744073709551615 e, ne-eqb o 18446744073709551615 (λ (q : o ≡ 18446744073709551615). omega arith))
+-- The numbers behind an offset, which is below 2^32 and so a known one.
+module _ (first previous p o : ℕ) where
+  behind-first : first ≡ 18446744073709551615 → o < 2 ^ 32 → behind (progressOf first previous p) o ≡ progressOf o o (p + 4)
+  behind-first e s =
+      let known : eqb o 18446744073709551615 ≡ false = ne-eqb o _ (λ (q : o ≡ 18446744073709551615). omega arith) in
+      rw (eq-eqb first 18446744073709551615 e, known)
 
-behind-later : (first previous p o : ℕ) → (first ≡ 18446744073709551615 → ⊥) → behind (progressOf first previous p) o ≡ progressOf first o (p + 4)
-behind-later first previous p o e = rw (ne-eqb first 18446744073709551615 e)
+  behind-later : (first ≡ 18446744073709551615 → ⊥) → behind (progressOf first previous p) o ≡ progressOf first o (p + 4)
+  behind-later e = rw (ne-eqb first 18446744073709551615 e)
 
 -- The loop of `lay_out`: `Laying` at the progress that the numbers stand for.
 pub record Counting (lens l : List ℕ) (t a₀ n : ℕ) (b : List ℕ) (first previous p a left : ℕ) : Type 0 where
   pub laying : Laying lens l t a₀ n b (progressOf first previous p) a left
   pub none : first ≡ 18446744073709551615 → previous ≡ 0
 
-pub counting-new : (lens l : List ℕ) (t a₀ n : ℕ) (b : List ℕ) → Row lens l t a₀ n → Counting lens l t a₀ n b 18446744073709551615 0 0 a₀ n
-counting-new lens l t a₀ n b g = record { laying = record { row = g; within = omega arith; same = refl }; none = λ e. refl }
+module _ {lens l : List ℕ} {t a₀ n : ℕ} {b : List ℕ} where
+  pub counting-new : Row lens l t a₀ n → Counting lens l t a₀ n b 18446744073709551615 0 0 a₀ n
+  counting-new g = record { laying = record { row = g; within = omega arith; same = refl }; none = λ e. refl }
 
-module _ (lens l : List ℕ) (t a₀ n : ℕ) (b : List ℕ) (first previous p a left f k : ℕ) (g : Counting lens l t a₀ n b first previous p a left) (z : 0 < left) (e : f ≡ wordAt l a) (q : k ≡ getD lens f 0) where
-  module _ (v : 0 < k) where
-    is-fixed : Fixed k ≡ head (treeOf l f)
-    is-fixed = row-fixed lens l t a left f (g .laying .row) z e k q (λ (u : k ≡ 0). omega arith)
+  module _ {first previous p a left : ℕ} (g : Counting lens l t a₀ n b first previous p a left) where
+    abbrev now : Progress
+    now = progressOf first previous p
 
-    pub counting-fixed : p + k ≤ length b → length b < 2 ^ 32 → Counting lens l t a₀ n b first previous (p + k) (a + 1) (left - 1)
-    counting-fixed h s =
-        let x = progressOf first previous p in
-        record {
-          laying = laying-next lens l t a₀ n b x a left f (Fixed k) (g .laying) z e is-fixed _ (fixed-step k b x h s);
-          none = g .none;
-        }
+    pub counting-end : left ≤ 0 → buildAt (knownIf first first) p (length b) ≡ layOut (headsOf l t a₀ n) b
+    unfolding build
+    counting-end h = laying-end lens l t a₀ n b now a left (g .laying) h
 
-    pub counting-long : length b < p + k → Told.Refused (InvalidByteLength (length b) (p + k)) ≡ layOut (headsOf l t a₀ n) b
-    counting-long h =
-        let x = progressOf first previous p in
-        let s : k < 2 ^ 32 = rw q (row-small lens l t a left f (g .laying .row) z e) in
-        laying-bad lens l t a₀ n b x a left f (Fixed k) (g .laying) z e is-fixed _ (fixed-long k b x s h)
+    module _ {f k : ℕ} (z : 0 < left) (e : f ≡ wordAt l a) (q : k ≡ getD lens f 0) where
+      bad : (h : Head) → h ≡ head (treeOf l f) → (r : Refusal) → step h b now ≡ Step.Refused r → Told.Refused r ≡ layOut (headsOf l t a₀ n) b
+      bad h i = laying-bad lens l t a₀ n b now a left f h (g .laying) z e i
 
-  module _ (v : k ≤ 0) where
-    is-variable : Variable ≡ head (treeOf l f)
-    is-variable = row-variable lens l t a left f (g .laying .row) z e k q (omega arith)
+      next : (h : Head) → h ≡ head (treeOf l f) → (y : Progress) → step h b now ≡ Step.Next y → Laying lens l t a₀ n b y (a + 1) (left - 1)
+      next h i = laying-next lens l t a₀ n b now a left f h (g .laying) z e i
 
-    bad : (r : Refusal) → step Variable b (progressOf first previous p) ≡ Step.Refused r → Told.Refused r ≡ layOut (headsOf l t a₀ n) b
-    bad r s = laying-bad lens l t a₀ n b (progressOf first previous p) a left f Variable (g .laying) z e is-variable r s
+      -- a field of fixed size
+      module _ (v : 0 < k) where
+        is-fixed : Fixed k ≡ head (treeOf l f)
+        is-fixed = row-fixed lens l t a left f (g .laying .row) z e k q (λ (u : k ≡ 0). omega arith)
 
-    pub counting-cut : length b < p + 4 → Told.Refused (InvalidLengthPrefix (length b - p) 4) ≡ layOut (headsOf l t a₀ n) b
-    counting-cut h = bad _ (offset-cut b (progressOf first previous p) (g .laying .within) h)
+        pub counting-long : length b < p + k → Told.Refused (InvalidByteLength (length b) (p + k)) ≡ layOut (headsOf l t a₀ n) b
+        counting-long h = bad (Fixed k) is-fixed _ (fixed-long b now k (rw q (row-small lens l t a left f (g .laying .row) z e)) h)
 
-    module _ (o : ℕ) (i : o ≡ four b p) (h : p + 4 ≤ length b) where
-      there : step Variable b (progressOf first previous p) ≡ behindOffset (sanitizeOffset o (knownIf first previous) (length b) Nothing) (progressOf first previous p)
-      there = rw i (offset-there b (progressOf first previous p) h)
+        pub counting-fixed : p + k ≤ length b → length b < 2 ^ 32 → Counting lens l t a₀ n b first previous (p + k) (a + 1) (left - 1)
+        counting-fixed h s = record { laying = next (Fixed k) is-fixed _ (fixed-step k b now h s); none = g .none }
 
-      pub counting-past : length b < o → Told.Refused (OffsetOutOfBounds o) ≡ layOut (headsOf l t a₀ n) b
-      counting-past j = bad _ (there ∙ offset-past (eqb first 18446744073709551615) previous o (length b) (progressOf first previous p) j)
+      -- one of variable size
+      module _ (v : k ≤ 0) where
+        is-variable : Variable ≡ head (treeOf l f)
+        is-variable = row-variable lens l t a left f (g .laying .row) z e k q (omega arith)
 
-      module _ (j : o ≤ length b) where
-        pub counting-back : o < previous → Told.Refused (OffsetsAreDecreasing o) ≡ layOut (headsOf l t a₀ n) b
-        counting-back d =
-            bad
-            _
-            (there ∙ offset-back (eqb first 18446744073709551615) previous o (length b) (progressOf first previous p) (λ c. g .none (eqb-true _ _ c)) j d)
+        pub counting-cut : length b < p + 4 → Told.Refused (InvalidLengthPrefix (length b - p) 4) ≡ layOut (headsOf l t a₀ n) b
+        counting-cut h = bad Variable is-variable _ (offset-cut b now h)
 
-        module _ (d : previous ≤ o) where
-          taken : (y : Progress) → behind (progressOf first previous p) o ≡ y → Laying lens l t a₀ n b y (a + 1) (left - 1)
-          taken y s =
-              let x = progressOf first previous p in
-              laying-next lens l t a₀ n b x a left f Variable (g .laying) z e is-variable y
-              (there ∙ offset-taken (eqb first 18446744073709551615) previous o (length b) x j d ∙ ap Step.Next s)
+        module _ {o : ℕ} (h : p + 4 ≤ length b) (i : o ≡ four b p) where
+          there : step Variable b now ≡ tested (unset first) previous o (length b) now
+          there = rw i (offset-there b now h)
 
-          pub counting-first : first ≡ 18446744073709551615 → o < 2 ^ 32 → Counting lens l t a₀ n b o o (p + 4) (a + 1) (left - 1)
-          counting-first c s =
-              record { laying = taken _ (behind-first first previous p o c s); none = λ (u : o ≡ 18446744073709551615). absurd (omega arith) }
+          pub counting-past : length b < o → Told.Refused (OffsetOutOfBounds o) ≡ layOut (headsOf l t a₀ n) b
+          counting-past j = bad Variable is-variable _ (there ∙ offset-past (unset first) previous o (length b) now j)
 
-          pub counting-later : (first ≡ 18446744073709551615 → ⊥) → Counting lens l t a₀ n b first o (p + 4) (a + 1) (left - 1)
-          counting-later c = record { laying = taken _ (behind-later first previous p o c); none = λ u. absurd (c u) }
+          module _ (j : o ≤ length b) where
+            pub counting-back : o < previous → Told.Refused (OffsetsAreDecreasing o) ≡ layOut (headsOf l t a₀ n) b
+            counting-back d = bad Variable is-variable _ (there ∙ offset-back (unset first) previous o (length b) now (λ c. g .none (eqb-true _ _ c)) j d)
 
-pub counting-end : (lens l : List ℕ) (t a₀ n : ℕ) (b : List ℕ) (first previous p a left : ℕ) → Counting lens l t a₀ n b first previous p a left → left ≤ 0 → buildAt (knownIf first first) p (length b) ≡ layOut (headsOf l t a₀ n) b
-unfolding build
-counting-end lens l t a₀ n b first previous p a left g h = laying-end lens l t a₀ n b (progressOf first previous p) a left (g .laying) h
+            module _ (d : previous ≤ o) where
+              taken : (y : Progress) → behind now o ≡ y → Laying lens l t a₀ n b y (a + 1) (left - 1)
+              taken y s = next Variable is-variable y (there ∙ offset-taken (unset first) previous o (length b) now j d ∙ ap Step.Next s)
+
+              pub counting-first : first ≡ 18446744073709551615 → o < 2 ^ 32 → Counting lens l t a₀ n b o o (p + 4) (a + 1) (left - 1)
+              counting-first c s =
+                  record { laying = taken _ (behind-first first previous p o c s); none = λ (u : o ≡ 18446744073709551615). absurd (omega arith) }
+
+              pub counting-later : (first ≡ 18446744073709551615 → ⊥) → Counting lens l t a₀ n b first o (p + 4) (a + 1) (left - 1)
+              counting-later c = record { laying = taken _ (behind-later first previous p o c); none = λ u. absurd (c u) }

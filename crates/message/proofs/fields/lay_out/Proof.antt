@@ -1,9 +1,10 @@
 -- The loop keeps `Counting`; each way out is one of its laws. Assumes nothing.
-use mathlib.Core.Path.{_≡_, refl, sym, ap, _∙_}
+use mathlib.Core.Path.{_≡_, refl, _∙_}
 use native.Mathlib.Omega.{arith}
 use borrow.Author.Needs.{needs}
 use Rattle.message.proofs.Rows.{row-small, row-index}
-use Rattle.message.proofs.Numbers.{Counting, counting-new, counting-fixed, counting-long, counting-cut, counting-past, counting-back, counting-first, counting-later, counting-end}
+use Rattle.message.proofs.Numbers.{Counting, counting-new, counting-fixed, counting-long, counting-cut, counting-end}
+use Rattle.message.proofs.Numbers.{counting-past, counting-back, counting-first, counting-later}
 use Rattle.message.proofs.fields.lay_out.Statement.{statement}
 use Rattle.message.proofs.fields.lay_out.Tie as tie
 
@@ -14,9 +15,7 @@ abbrev μ-loop : tie.MeasureT-loop
 μ-loop lens layout t a0 n b len p₀ first₀ previous₀ a₀ left₀ p first previous a left = left
 
 loop-holds : tie.Need-loop-holds Inv-loop μ-loop
-loop-holds c =
-    let c3 = c .before .before .before in
-    counting-new _ _ _ _ _ _ (c3 .pre .0)
+loop-holds c = counting-new (c .before .before .before .pre .0)
 
 word-at-requires : tie.Need-word-at-requires Inv-loop μ-loop
 word-at-requires c κs = search needs
@@ -63,7 +62,7 @@ returns c =
     let c3 = c1 .before .before in
     let c4 = c3 .before in
     let c5 = c4 .before in
-    counting-long _ _ _ _ _ _ _ _ _ _ _ _ _ (c5 .loop .inv) (c4 .loop-test .taken) (c3 .word-at .ensures .0) refl (c1 .if1 .taken) (c .if2 .taken)
+    counting-long (c5 .loop .inv) (c4 .loop-test .taken) (c3 .word-at .ensures .0) refl (c1 .if1 .taken) (c .if2 .taken)
 
 loop-less : tie.Need-loop-less Inv-loop μ-loop
 loop-less c =
@@ -77,7 +76,7 @@ loop-again c =
     let c4 = c3 .before in
     let c5 = c4 .before in
     let c9 = c5 .before .before .before .before in
-    counting-fixed _ _ _ _ _ _ _ _ _ _ _ _ _ (c5 .loop .inv) (c4 .loop-test .taken) (c3 .word-at .ensures .0) refl (c1 .if1 .taken) (c .if2 .left) (c9 .pre .1)
+    counting-fixed (c5 .loop .inv) (c4 .loop-test .taken) (c3 .word-at .ensures .0) refl (c1 .if1 .taken) (c .if2 .left) (c9 .pre .1)
 
 add-next : tie.Need-add-next Inv-loop μ-loop
 add-next c =
@@ -96,7 +95,7 @@ returns-2 c =
     let c3 = c1 .before .before in
     let c4 = c3 .before in
     let c5 = c4 .before in
-    counting-cut _ _ _ _ _ _ _ _ _ _ _ _ _ (c5 .loop .inv) (c4 .loop-test .taken) (c3 .word-at .ensures .0) refl (c1 .if1 .left) (c .if3 .taken)
+    counting-cut (c5 .loop .inv) (c4 .loop-test .taken) (c3 .word-at .ensures .0) refl (c1 .if1 .left) (c .if3 .taken)
 
 four-at-requires : tie.Need-four-at-requires Inv-loop μ-loop
 four-at-requires c κs = search needs
@@ -109,8 +108,8 @@ returns-3 c =
     let c5 = c3 .before .before in
     let c6 = c5 .before in
     let c7 = c6 .before in
-    let law = counting-past _ _ _ _ _ _ _ _ _ _ _ _ _ (c7 .loop .inv) (c6 .loop-test .taken) (c5 .word-at .ensures .0) refl (c3 .if1 .left) in
-    law _ (c1 .four-at .ensures .0) (c2 .if3 .left) (c .if4 .taken)
+    counting-past (c7 .loop .inv) (c6 .loop-test .taken) (c5 .word-at .ensures .0) refl (c3 .if1 .left)
+    (c2 .if3 .left) (c1 .four-at .ensures .0) (c .if4 .taken)
 
 returns-4 : tie.Need-returns-4 Inv-loop μ-loop
 returns-4 c =
@@ -121,7 +120,8 @@ returns-4 c =
     let c6 = c4 .before .before in
     let c7 = c6 .before in
     let c8 = c7 .before in
-    counting-back _ _ _ _ _ _ _ _ _ _ _ _ _ (c8 .loop .inv) (c7 .loop-test .taken) (c6 .word-at .ensures .0) refl (c4 .if1 .left) _ (c2 .four-at .ensures .0) (c3 .if3 .left) (c1 .if4 .left) (c .if5 .taken)
+    counting-back (c8 .loop .inv) (c7 .loop-test .taken) (c6 .word-at .ensures .0) refl (c4 .if1 .left)
+    (c3 .if3 .left) (c2 .four-at .ensures .0) (c1 .if4 .left) (c .if5 .taken)
 
 loop-less-2 : tie.Need-loop-less-2 Inv-loop μ-loop
 loop-less-2 c =
@@ -138,7 +138,8 @@ loop-again-2 c =
     let c7 = c5 .before .before in
     let c8 = c7 .before in
     let c9 = c8 .before in
-    counting-first _ _ _ _ _ _ _ _ _ _ _ _ _ (c9 .loop .inv) (c8 .loop-test .taken) (c7 .word-at .ensures .0) refl (c5 .if1 .left) _ (c3 .four-at .ensures .0) (c4 .if3 .left) (c2 .if4 .left) (c1 .if5 .left) (c .if6 .taken) (c3 .four-at .ensures .1)
+    counting-first (c9 .loop .inv) (c8 .loop-test .taken) (c7 .word-at .ensures .0) refl (c5 .if1 .left)
+    (c4 .if3 .left) (c3 .four-at .ensures .0) (c2 .if4 .left) (c1 .if5 .left) (c .if6 .taken) (c3 .four-at .ensures .1)
 
 loop-less-3 : tie.Need-loop-less-3 Inv-loop μ-loop
 loop-less-3 c =
@@ -155,7 +156,8 @@ loop-again-3 c =
     let c7 = c5 .before .before in
     let c8 = c7 .before in
     let c9 = c8 .before in
-    counting-later _ _ _ _ _ _ _ _ _ _ _ _ _ (c9 .loop .inv) (c8 .loop-test .taken) (c7 .word-at .ensures .0) refl (c5 .if1 .left) _ (c3 .four-at .ensures .0) (c4 .if3 .left) (c2 .if4 .left) (c1 .if5 .left) (c .if6 .left)
+    counting-later (c9 .loop .inv) (c8 .loop-test .taken) (c7 .word-at .ensures .0) refl (c5 .if1 .left)
+    (c4 .if3 .left) (c3 .four-at .ensures .0) (c2 .if4 .left) (c1 .if5 .left) (c .if6 .left)
 
 finish-requires : tie.Need-finish-requires Inv-loop μ-loop
 finish-requires c κs = search needs
@@ -164,7 +166,7 @@ returns-5 : tie.Need-returns-5 Inv-loop μ-loop
 returns-5 c =
     let c1 = c .before in
     let c2 = c1 .before in
-    c .finish .ensures ∙ counting-end _ _ _ _ _ _ _ _ _ _ _ (c2 .loop .inv) (c1 .loop-test .left)
+    c .finish .ensures ∙ counting-end (c2 .loop .inv) (c1 .loop-test .left)
 
 pub lay-out-spec : {M : Type 1} → statement M
 lay-out-spec =
