@@ -20,10 +20,10 @@ use Rattle.decode.specs.Builder.{fresh, step, follow, register, build, ended, l
 use Rattle.decode.specs.declared.builder.Progress.{Progress}
 use Rattle.decode.specs.declared.builder.Step.{Step}
 use Rattle.decode.proofs.Register.{step-within, beyond}
-use Rattle.layout.specs.Tree.{treeOf, fields, trees, lenOf}
+use Rattle.layout.specs.Tree.{treeOf, fields, trees, lenOf, headOf}
 use Rattle.layout.specs.Legal.{Legal}
 use Rattle.layout.specs.Steps.{Known}
-use Rattle.layout.proofs.Facts.{fields-none, heads-first, lower-here, lower-rest, legal-below}
+use Rattle.layout.proofs.Facts.{fields-none, heads-first, lower-here, lower-rest, head-len, legal-below}
 use Rattle.layout.proofs.Tables.{known-len, known-length}
 use Rattle.layout.proofs.Trees.{legal-tree, len-small}
 use Rattle.message.specs.Steps.{Under, Row, rowOf, headsOf}
@@ -37,6 +37,9 @@ under-below lens l t f h g =
     record { legal = legal-below l t f h (g .legal); few = omega (arith, g .few); room = g .room; found = λ u k. g .found u (omega arith) }
 
 module _ (lens l : List ℕ) (t : ℕ) (g : Under lens l t) (f : ℕ) (h : f < t) where
+  pub under-head : headOf (getD lens f 0) ≡ head (treeOf l f)
+  under-head = ap headOf (g .found f h) ∙ head-len (treeOf l f) (legal-tree l t f (g .legal) h)
+
   pub under-small : getD lens f 0 < 2 ^ 32
   unfolding Legal
   under-small = rw (g .found f h) (len-small l f (g .legal f h))
@@ -63,6 +66,9 @@ module _ (lens l : List ℕ) (t a left f : ℕ) (g : Row lens l t a left) (p : 0
 
   pub row-small : getD lens f 0 < 2 ^ 32
   row-small = under-small lens l t (g .under) f row-below
+
+  pub row-head : headOf (getD lens f 0) ≡ head (treeOf l f)
+  row-head = under-head lens l t (g .under) f row-below
 
   pub row-under : Under lens l (f + 1)
   row-under = let b = row-below in under-below lens l t (f + 1) (omega arith) (g .under)
