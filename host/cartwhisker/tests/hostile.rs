@@ -1,0 +1,348 @@
+//! Tables and messages made to cost as much as they can: answers by document 01, each of them at
+//! once, and time that grows with what is lent and no faster.
+//!
+//! A type that names the one below it 64 times has 64 times as many leaves. Who works a type out
+//! anew for each field that names it never ends here.
+
+use cartwhisker::{
+    check, check_layout, list_into, listing, Layout, Record, Refusal, Type, RECORD_BYTES,
+};
+use std::hint::black_box;
+use std::time::{Duration, Instant};
+
+/// The most types, fields and options of a table, and the greatest word.
+const TYPES: usize = 64;
+const FIELDS: usize = 64;
+const OPTIONS: usize = 128;
+const GREATEST: u32 = u32::MAX;
+
+/// No call here takes a tenth of this. Work that doubles with each type would take years.
+const AT_ONCE: Duration = Duration::from_millis(50);
+
+fn refused<T>(number: u32, a: u64, b: u64, type_number: u32, start: u64) -> Result<T, Refusal> {
+    Err(Refusal { number, a, b, type_number, start })
+}
+
+/// The shortest of some times is the one that other work on the machine lengthened least.
+fn shortest(tries: u32, mut call: impl FnMut()) -> Duration {
+    let timed = |call: &mut dyn FnMut()| {
+        let start = Instant::now();
+        call();
+        start.elapsed()
+    };
+    (0..tries).map(|_| timed(&mut call)).min().expect("at least one try")
+}
+
+/// A check whose answer is of no matter.
+fn ask(table: &[u8], message: &[u8]) {
+    let _ = black_box(check(black_box(table), black_box(message)));
+}
+
+/// What both calls say, which must be the same, and at once. A refusal is five calls each.
+fn told(table: &[u8], message: &[u8]) -> Result<Vec<Record>, Refusal> {
+    let listed = listing(table, message);
+    assert_eq!(check(table, message), listed.clone().map(|_| ()));
+    let checking = shortest(5, || ask(table, message));
+    let listing = shortest(5, || drop(black_box(listing(table, message))));
+    assert!(checking < AT_ONCE, "the check takes {checking:?}");
+    assert!(listing < AT_ONCE, "the listing takes {listing:?}");
+    listed
+}
+
+/// Types up to `types` in all, each a container of `fields` fields of the type below.
+fn containers(mut layout: Layout, types: usize, fields: usize) -> Layout {
+    while layout.kinds().len() < types {
+        let below = layout.message().expect("a type to start from");
+        layout.container(vec![below; fields]);
+    }
+    layout
+}
+
+/// Types up to `types` in all, each a union: the first half of the options have the type below as
+/// their body, the others have none.
+fn unions(mut layout: Layout, types: usize, options: usize) -> Layout {
+    while layout.kinds().len() < types {
+        let below = layout.message().expect("a type to start from");
+        layout.union((0..options).map(|selector| (selector < options / 2).then_some(below)));
+    }
+    layout
+}
+
+fn one(add: impl FnOnce(&mut Layout) -> Type) -> Layout {
+    let mut layout = Layout::new();
+    add(&mut layout);
+    layout
+}
+
+/// 64 types, free bytes and 63 containers of 64 fields each: legal, as an offset takes 4 bytes
+/// whatever it leads to.
+fn legal(types: usize) -> Layout {
+    containers(one(|layout| layout.free_bytes(GREATEST)), types, FIELDS)
+}
+
+/// Zero bytes that take no memory before they are touched, as many as the machine gives: `length`
+/// or, where that cannot be had, the greatest half, quarter and so on.
+fn zeros(length: usize) -> Vec<u8> {
+    let whole = std::alloc::Layout::array::<u8>(length).expect("a length above 0");
+    // SAFETY: the layout has a length above 0. The memory is zeroed, so `length` bytes are there,
+    // and a vector of bytes frees it with the very layout that it was allocated with.
+    unsafe {
+        let start = std::alloc::alloc_zeroed(whole);
+        if !start.is_null() {
+            return Vec::from_raw_parts(start, length, length);
+        }
+    }
+    zeros(length / 2)
+}
+
+#[test]
+fn a_legal_table_of_64_types_each_naming_the_one_below_64_times() {
+    let layout = legal(TYPES);
+    assert_eq!(layout.words().len(), 65 + 2 + 63 * 66);
+    let table = layout.bytes();
+    assert_eq!(check_layout(&table), Ok(()));
+    // The first offset is missing; offsets of 0 lead into the fixed portion of 256 bytes.
+    assert_eq!(told(&table, &[]), refused(2, 0, 4, 63, 0));
+    assert_eq!(told(&table, &[0; 256]), refused(4, 0, 0, 63, 0));
+    // Offsets of 256 are right for 64 empty fields, of which the first has no offset itself.
+    let offsets = 256_u32.to_le_bytes().repeat(FIELDS);
+    assert_eq!(told(&table, &offsets), refused(2, 0, 4, 62, 256));
+    // The first field has all the rest, the others nothing, and so on downwards. 63 containers are
+    // laid out before the second field of type 2 is found to be empty.
+    let deep: Vec<u8> = (1..TYPES as u32)
+        .rev()
+        .flat_map(|left| {
+            (0..FIELDS as u32).map(move |field| if field == 0 { 256 } else { 256 * left })
+        })
+        .flat_map(u32::to_le_bytes)
+        .collect();
+    assert_eq!(told(&table, &deep), refused(2, 0, 4, 1, 63 * 256));
+}
+
+#[test]
+fn an_illegal_table_of_64_types_each_naming_the_one_below_64_times() {
+    let layout = containers(one(|layout| layout.number(1)), TYPES, FIELDS);
+    let (words, table) = (layout.words(), layout.bytes());
+    // Type k has 64^k bytes: 2^30 at type 5, 2^36 at type 6.
+    let first = (0..).find(|k| 64_u64.pow(*k) > u64::from(GREATEST)).expect("a power that large");
+    assert_eq!(first, 6);
+    let kind_word = words[1 + first as usize];
+    assert_eq!((kind_word, words[kind_word as usize]), (397, 6));
+    for message in [&[][..], &[0; 256]] {
+        assert_eq!(told(&table, message), refused(20, u64::from(kind_word), 0, 0, 0));
+    }
+    let fits = layout.up_to(Type::from_number(first - 1)).bytes();
+    assert_eq!(told(&fits, &[]), refused(1, 0, 1 << 24, 5, 0));
+}
+
+#[test]
+fn a_fixed_length_of_a_thousand_million_leaves_that_64_types_share() {
+    let wide = containers(one(|layout| layout.number(1)), 6, FIELDS);
+    let table = containers(wide, TYPES, 1).bytes();
+    assert_eq!(told(&table, &[]), refused(1, 0, 1 << 30, 63, 0));
+    assert_eq!(told(&table, &[0; 256]), refused(1, 256, 1 << 30, 63, 0));
+}
+
+#[test]
+fn unions_of_128_options_in_64_types() {
+    let layout = unions(one(|layout| layout.boolean()), TYPES, OPTIONS);
+    assert_eq!(layout.words().len(), 65 + 1 + 63 * 130);
+    let table = layout.bytes();
+    assert_eq!(told(&table, &[]), refused(3, 0, 0, 63, 0));
+    assert_eq!(told(&table, &[128]), refused(8, 128, 0, 63, 0));
+    assert_eq!(told(&table, &[127]), Ok(vec![Record { type_number: 63, start: 0, end: 1 }]));
+    assert_eq!(told(&table, &[64, 0]), refused(1, 1, 0, 63, 0));
+    // 63 unions around a boolean by their last option with a body.
+    let mut message = [63; TYPES];
+    message[63] = 1;
+    assert_eq!(told(&table, &message).unwrap().len(), TYPES);
+    message[63] = 2;
+    assert_eq!(told(&table, &message), refused(13, 2, 0, 0, 63));
+    message[62] = 127;
+    assert_eq!(told(&table, &message), refused(1, 1, 0, 1, 62));
+    assert_eq!(told(&table, &message[..63]).unwrap().len(), 63);
+}
+
+#[test]
+fn the_longest_table() {
+    let bodiless = one(|layout| layout.union([None; OPTIONS]));
+    let layout = unions(bodiless, TYPES, OPTIONS);
+    let (words, table) = (layout.words().len(), layout.bytes());
+    assert_eq!(words, 65 + 64 * 130);
+    assert_eq!(told(&table, &[63; TYPES]).unwrap().len(), TYPES);
+    // What is behind it, before it or missing is found at once too.
+    let longer = [&table[..], &[0; 4]].concat();
+    assert_eq!(told(&longer, &[]), refused(20, words as u64, 0, 0, 0));
+    let cut = &table[..table.len() - 4];
+    assert_eq!(told(cut, &[]), refused(20, words as u64 - 1, 0, 0, 0));
+    let garbage = zeros(1 << 30);
+    assert_eq!(told(&garbage, &[]), refused(20, 0, 0, 0, 0));
+}
+
+#[test]
+fn the_greatest_counts_and_limits() {
+    let mut layout = Layout::new();
+    let leaves = [
+        layout.number(32),
+        layout.boolean(),
+        layout.fixed_bytes(GREATEST),
+        layout.free_bytes(GREATEST),
+        layout.bit_vector(GREATEST),
+        layout.bit_list(GREATEST),
+    ];
+    let [number, boolean, fixed, free, vector, list] = leaves;
+    assert_eq!(told(&layout.up_to(fixed).bytes(), &[]), refused(1, 0, u64::from(GREATEST), 2, 0));
+    assert_eq!(told(&layout.up_to(vector).bytes(), &[]), refused(12, 0, 1 << 29, 4, 0));
+    assert_eq!(told(&layout.up_to(list).bytes(), &[1]).unwrap().len(), 1);
+    // A fixed portion of 4,294,967,295 bytes is legal, and one more is not.
+    layout.container([fixed]);
+    let whole = layout.bytes();
+    assert_eq!(told(&whole, &[0; 32]), refused(1, 32, u64::from(GREATEST), 6, 0));
+    layout.container([fixed, boolean]);
+    let at = u64::from(layout.words()[8]);
+    assert_eq!(told(&layout.bytes(), &[]), refused(20, at, 0, 0, 0));
+    // Seven bit vectors of 2^29 bytes are below it, an eighth takes the portion to 2^32.
+    let legal = layout.up_to(Type::from_number(6));
+    let mut seven = legal.clone();
+    seven.container([vector; 7]);
+    assert_eq!(told(&seven.bytes(), &[]), refused(1, 0, 1 << 29, 7, 0));
+    let mut eight = legal.clone();
+    eight.container([vector; 8]);
+    assert_eq!(told(&eight.bytes(), &[]), refused(20, u64::from(eight.words()[8]), 0, 0, 0));
+    // Every count at its greatest, of fields and options alike, up to 64 types.
+    let mut full = legal.clone();
+    let row: Vec<Type> = [number, free, list, boolean].repeat(16);
+    while full.kinds().len() < TYPES - 1 {
+        full.container(row.clone());
+    }
+    full.union(vec![Some(Type::from_number(62)); OPTIONS]);
+    let portion = 16 * (32 + 4 + 4 + 1);
+    assert_eq!(told(&full.bytes(), &[127]), refused(1, 0, 32, 62, 1));
+    let mut message = vec![0; 1 + portion];
+    message[0] = 127;
+    assert_eq!(told(&full.bytes(), &message), refused(4, 0, 0, 62, 1));
+}
+
+#[test]
+fn a_container_of_64_fixed_fields_of_the_greatest_length() {
+    let length = GREATEST / FIELDS as u32;
+    let of = |length| containers(one(|layout| layout.fixed_bytes(length)), 2, FIELDS);
+    assert_eq!(length, 67_108_863);
+    assert_eq!(told(&of(length + 1).bytes(), &[]), refused(20, 5, 0, 0, 0));
+    let table = of(length).bytes();
+    assert_eq!(told(&table, &[]), refused(1, 0, u64::from(length), 1, 0));
+    // A message of that length where the machine has it; nothing of it is read.
+    let message = zeros(length as usize * FIELDS);
+    let length = message.len() / FIELDS;
+    let message = &message[..length * FIELDS];
+    let records = told(&of(length as u32).bytes(), message).unwrap();
+    let end = |field: usize| (field * length) as u32;
+    assert_eq!(records.len(), 1 + FIELDS);
+    assert_eq!(records[64], Record { type_number: 0, start: end(63), end: end(64) });
+}
+
+#[test]
+fn the_greatest_message() {
+    let message = zeros(1 << 32);
+    for add in [Layout::free_bytes, Layout::fixed_bytes] {
+        let fits = (message.len() - 1).min(GREATEST as usize);
+        let table = one(|layout| add(layout, fits as u32)).bytes();
+        let records = told(&table, &message[..fits]).unwrap();
+        assert_eq!(records, [Record { type_number: 0, start: 0, end: fits as u32 }]);
+        if message.len() > GREATEST as usize {
+            assert_eq!(told(&table, &message), refused(21, 0, 0, 0, 0));
+        }
+    }
+}
+
+/// The listing of items of the types 63 down to 0, each starting at `start` of its depth and ending
+/// with the message.
+fn nest(end: u32, start: impl Fn(u32) -> u32) -> Vec<Record> {
+    (0..64).map(|depth| Record { type_number: 63 - depth, start: start(depth), end }).collect()
+}
+
+#[test]
+fn the_deepest_nesting_is_listed() {
+    let fixed = containers(one(|layout| layout.number(1)), TYPES, 1).bytes();
+    assert_eq!(told(&fixed, &[7]), Ok(nest(1, |_| 0)));
+    assert_eq!(told(&fixed, &[]), refused(1, 0, 1, 63, 0));
+    let variable = containers(one(|layout| layout.bit_list(8)), TYPES, 1).bytes();
+    let mut message = [4, 0, 0, 0].repeat(63);
+    message.push(0x0d);
+    assert_eq!(told(&variable, &message), Ok(nest(253, |depth| 4 * depth)));
+    message[252] = 0;
+    assert_eq!(told(&variable, &message), refused(10, 0, 0, 0, 252));
+    let choices = unions(one(|layout| layout.number(2)), TYPES, 2).bytes();
+    assert_eq!(told(&choices, &[0; 65]), Ok(nest(65, |depth| depth)));
+    assert_eq!(told(&choices, &[0; 64]), refused(1, 1, 2, 0, 63));
+}
+
+/// How many times as long the second call takes, by the shortest of many times.
+fn growth(mut small: impl FnMut(), mut large: impl FnMut()) -> f64 {
+    let repeated = |call: &mut dyn FnMut()| shortest(60, || (0..10).for_each(|_| call()));
+    let (small, large) = (repeated(&mut small), repeated(&mut large));
+    large.as_nanos() as f64 / small.as_nanos().max(1) as f64
+}
+
+/// Work that grows with the square of what is lent would take 64 times as long on 8 times as much.
+const EIGHT_TIMES: f64 = 24.0;
+
+#[test]
+fn time_is_linear_in_the_table() {
+    let of = |make: &dyn Fn(usize) -> Layout| (make(TYPES / 8).bytes(), make(TYPES).bytes());
+    let tables = [
+        ("containers", of(&legal)),
+        ("one number", of(&|types| containers(one(|layout| layout.number(1)), types, 1))),
+        ("unions", of(&|types| unions(one(|layout| layout.boolean()), types, OPTIONS))),
+    ];
+    for (name, (small, large)) in tables {
+        let times = growth(|| ask(&small, &[]), || ask(&large, &[]));
+        assert!(times < EIGHT_TIMES, "{name}: {times} times as long on 8 times the types");
+    }
+}
+
+/// `each` fields in a container, in `levels` levels: `each` to that power booleans.
+fn booleans(each: usize, levels: usize) -> (Vec<u8>, Vec<u8>) {
+    let layout = containers(one(|layout| layout.boolean()), 1 + levels, each);
+    (layout.bytes(), vec![1; each.pow(levels as u32)])
+}
+
+#[test]
+fn time_is_linear_in_the_message() {
+    let ((small_table, small), (large_table, large)) = (booleans(8, 2), booleans(8, 3));
+    let mut room = vec![0; 585 * RECORD_BYTES];
+    assert_eq!(list_into(&small_table, &small, &mut room), Ok(1 + 8 + 64));
+    assert_eq!(list_into(&large_table, &large, &mut room), Ok(1 + 8 + 64 + 512));
+    let times = growth(|| ask(&small_table, &small), || ask(&large_table, &large));
+    assert!(times < EIGHT_TIMES, "check: {times} times as long on 8 times the booleans");
+    let list = |table: &[u8], message: &[u8]| drop(black_box(listing(table, message)));
+    let times = growth(|| list(&small_table, &small), || list(&large_table, &large));
+    assert!(times < EIGHT_TIMES, "listing: {times} times as long on 8 times the booleans");
+    // Zeros are no bit list: the set bit is looked for from the end, and there is none.
+    let table = one(|layout| layout.bit_list(GREATEST)).bytes();
+    let bytes = vec![0; 1 << 15];
+    assert_eq!(told(&table, &bytes), refused(10, 0, 0, 0, 0));
+    let times = growth(|| ask(&table, &bytes[..1 << 12]), || ask(&table, &bytes));
+    assert!(times < EIGHT_TIMES, "{times} times as long on 8 times the bits");
+}
+
+#[test]
+fn time_does_not_grow_with_what_is_not_read() {
+    let takes = |table: &[u8], message: &[u8]| assert!(check(table, message).is_ok());
+    let free = one(|layout| layout.free_bytes(GREATEST)).bytes();
+    let bytes = zeros(1 << 30);
+    let times = growth(|| takes(&free, &bytes[..1]), || takes(&free, &bytes));
+    assert!(times < EIGHT_TIMES, "{times} times as long on a thousand million free bytes");
+    // Of a bit list that has its set bit the last byte is read, and of a bit vector too.
+    let list = one(|layout| layout.bit_list(GREATEST)).bytes();
+    let mut bits = zeros(1 << 29);
+    let last = bits.len() - 1;
+    bits[last] = 0x80;
+    let times = growth(|| takes(&list, &[0x80]), || takes(&list, &bits));
+    assert!(times < EIGHT_TIMES, "{times} times as long on a long bit list");
+    let vector = |bytes: usize| one(|layout| layout.bit_vector((8 * bytes - 1) as u32)).bytes();
+    let (short, long) = (vector(1), vector(bits.len()));
+    bits[last] = 0x7f;
+    let times = growth(|| takes(&short, &[0x7f]), || takes(&long, &bits));
+    assert!(times < EIGHT_TIMES, "{times} times as long on a long bit vector");
+}
