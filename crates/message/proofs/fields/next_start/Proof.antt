@@ -13,9 +13,7 @@ abbrev μ-loop : tie.MeasureT-loop
 μ-loop lens layout t a0 n b p0 a₀ left₀ p₀ a left p = left
 
 loop-holds : tie.Need-loop-holds Inv-loop μ-loop
-loop-holds c =
-    let c3 = c .before .before .before in
-    record { row = c3 .pre .0; ranges = c3 .pre .1; same = refl }
+loop-holds c = record { row = c .before .before .before .pre .0; ranges = c .before .before .before .pre .1; same = refl }
 
 word-at-requires : tie.Need-word-at-requires Inv-loop μ-loop
 word-at-requires c κs = search needs
@@ -24,10 +22,7 @@ mul-k : tie.Need-mul-k Inv-loop μ-loop
 mul-k c = omega (arith, c .word-at .ensures .1)
 
 shared-slice-read-k : tie.Need-shared-slice-read-k Inv-loop μ-loop
-shared-slice-read-k c =
-    let c2 = c .before .before in
-    let c3 = c2 .before in
-    row-index _ _ _ _ _ _ (c3 .loop .inv .row) (c2 .loop-test .taken) (c .before .word-at .ensures .0)
+shared-slice-read-k c = row-index _ _ _ _ _ _ (c .before .before .before .loop .inv .row) (c .before .before .loop-test .taken) (c .before .word-at .ensures .0)
 
 cast-k : tie.Need-cast-k Inv-loop μ-loop
 cast-k c =
@@ -40,24 +35,13 @@ four-at-requires : tie.Need-four-at-requires Inv-loop μ-loop
 four-at-requires c κs = search needs
 
 returns : tie.Need-returns Inv-loop μ-loop
-returns c =
-    let c3 = c .before .before .before in
-    let c4 = c3 .before in
-    let c5 = c4 .before in
-    c .four-at .ensures .0 ∙ seeking-found _ _ _ _ _ _ _ _ _ _ _ _ (c5 .loop .inv) (c4 .loop-test .taken) (c3 .word-at .ensures .0) refl
-    (c .before .if1 .taken)
+returns c = c .four-at .ensures .0 ∙ seeking-found _ _ _ _ _ _ _ _ _ _ _ _ (c .before .before .before .before .before .loop .inv) (c .before .before .before .before .loop-test .taken) (c .before .before .before .word-at .ensures .0) refl (c .before .if1 .taken)
 
 add-p : tie.Need-add-p Inv-loop μ-loop
-add-p c =
-    let c2 = c .before .before in
-    let c3 = c2 .before in
-    let c4 = c3 .before in
-    omega (arith, seeking-fits _ _ _ _ _ _ _ _ _ _ _ _ (c4 .loop .inv) (c3 .loop-test .taken) (c2 .word-at .ensures .0) refl (c .if1 .left))
+add-p c = omega (arith, seeking-fits _ _ _ _ _ _ _ _ _ _ _ _ (c .before .before .before .before .loop .inv) (c .before .before .before .loop-test .taken) (c .before .before .word-at .ensures .0) refl (c .if1 .left))
 
 add-a : tie.Need-add-a Inv-loop μ-loop
-add-a c =
-    let c4 = c .before .before .before .before in
-    omega (arith, c4 .loop .inv .row .near)
+add-a c = omega (arith, c .before .before .before .before .loop .inv .row .near)
 
 sub-left : tie.Need-sub-left Inv-loop μ-loop
 sub-left c = omega arith
@@ -66,11 +50,7 @@ loop-less : tie.Need-loop-less Inv-loop μ-loop
 loop-less c = omega arith
 
 loop-again : tie.Need-loop-again Inv-loop μ-loop
-loop-again c =
-    let c2 = c .before .before in
-    let c3 = c2 .before in
-    let c4 = c3 .before in
-    seeking-next _ _ _ _ _ _ _ _ _ _ _ _ (c4 .loop .inv) (c3 .loop-test .taken) (c2 .word-at .ensures .0) refl (c .if1 .left)
+loop-again c = seeking-next _ _ _ _ _ _ _ _ _ _ _ _ (c .before .before .before .before .loop .inv) (c .before .before .before .loop-test .taken) (c .before .before .word-at .ensures .0) refl (c .if1 .left)
 
 returns-2 : tie.Need-returns-2 Inv-loop μ-loop
 returns-2 c = seeking-end _ _ _ _ _ _ _ _ _ _ (c .before .loop .inv) (c .loop-test .left)
