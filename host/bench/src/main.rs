@@ -10,6 +10,7 @@ mod measure;
 mod messages;
 mod ours;
 mod plot;
+mod worst;
 
 use std::process::ExitCode;
 
@@ -17,6 +18,7 @@ const USAGE: &str = "usage:
   bench               both tables
   bench messages      check, listing, unfolding and writing beside the crate's decoding and encoding
   bench bits          the bitfield operations beside the crate's
+  bench worst         hostile tables, deep nesting, the longest messages; stack
   bench plot FILE     time against the length of a message, as an SVG picture
 For a tool that counts instructions (./instructions):
   bench cases         the names of the messages
@@ -69,6 +71,7 @@ fn run(arguments: &[&str]) -> Result<(), String> {
         }
         ["messages"] => messages::print(),
         ["bits"] => bits::print(),
+        ["worst", rest @ ..] => worst::run(rest)?,
         ["cases"] => messages::cases().iter().for_each(|case| println!("{}", case.name)),
         ["bit-cases"] => bits::cases().iter().for_each(|case| println!("{}", case.name)),
         ["plot", file] => write(file, plot::svg(&messages::growth()))?,

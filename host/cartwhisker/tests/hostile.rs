@@ -135,6 +135,23 @@ fn an_illegal_table_of_64_types_each_naming_the_one_below_64_times() {
     assert_eq!(told(&fits, &[]), refused(1, 0, 1 << 24, 5, 0));
 }
 
+/// One type after another: work that grows 64 times with each is told by the fifth or sixth, where
+/// a table of 64 types would keep it busy for good.
+#[test]
+fn a_type_more_costs_no_more_than_its_words() {
+    for types in 2..=TYPES {
+        let last = types as u32 - 1;
+        assert_eq!(told(&legal(types).bytes(), &[]), refused(2, 0, 4, last, 0));
+        let number = containers(one(|layout| layout.number(1)), types, FIELDS).bytes();
+        if last < 6 {
+            assert_eq!(told(&number, &[]), refused(1, 0, 64_u64.pow(last - 1), last, 0));
+        } else {
+            let word = types as u64 + 1 + 2 + 66 * 5;
+            assert_eq!(told(&number, &[]), refused(20, word, 0, 0, 0));
+        }
+    }
+}
+
 #[test]
 fn a_fixed_length_of_a_thousand_million_leaves_that_64_types_share() {
     let wide = containers(one(|layout| layout.number(1)), 6, FIELDS);
