@@ -1,5 +1,4 @@
 // The check of a layout table, lent as its little-endian bytes, with the fixed length of each of its types.
-use standard::Head;
 use standard::Refusal;
 use standard::Told;
 use standard::words::word_at;
@@ -122,17 +121,6 @@ fn many_end(layout: &[u8], t: usize, at: usize, none: bool, most: usize) -> Chec
         return Checked::Bad(next);
     }
     refs_end(layout, t, none, at + 2, n)
-}
-
-// The head of a type with this length: 0 stands for variable size.
-pub fn head_of(len: usize) -> Head
-    ensures { λ r. ⌜ r ≡ headOf len ⌝ }
-{
-    if len == 0 {
-        Head::Variable
-    } else {
-        Head::Fixed(len)
-    }
 }
 
 // How much of a fixed portion a type with this length takes.

@@ -1,0 +1,2 @@
+-- What a host may lean on besides the promises of the two calls.
+pub mod Zero
