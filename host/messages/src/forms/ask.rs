@@ -1,4 +1,4 @@
-//! Records of operations 73 and 74, with buffers of any size.
+//! Records of operation 70, and of 73 and 74 with buffers of any size.
 
 use super::tables::checked;
 use super::value::Form;
@@ -55,6 +55,15 @@ pub fn bytes_of(words: &[u32]) -> Vec<u8> {
 /// The buffer with these bytes stored at its start and the rest kept.
 fn stored(buffer: &[u8], bytes: &[u8]) -> Vec<u8> {
     [bytes, &buffer[bytes.len()..]].concat()
+}
+
+/// Operation 70: the table alone.
+pub fn layout_check(about: About, table: &[u8]) -> Option<Case> {
+    let head = match checked(table) {
+        Ok(_) => [0; 5],
+        Err(word) => [20, word as u64, 0, 0, 0],
+    };
+    case(70, head, None, about, &[table, &row(&head)])
 }
 
 /// Operation 73 with so many words and bytes of room.

@@ -1,4 +1,4 @@
-//! The unfolding and the value writer: cases of operations 73 and 74.
+//! The check of a table, the unfolding and the value writer: cases of operations 70, 73 and 74.
 //!
 //! What is expected comes from a model in this folder, written from document 01 and its readings:
 //! values, their encoding and their form (`value`), a form's first fault (`writer`), the check of a

@@ -1,6 +1,6 @@
 //! What is asked about one value, or one table.
 
-use super::ask::{message_of, under, unfolding, writing, About, Case};
+use super::ask::{layout_check, message_of, under, unfolding, writing, About, Case};
 use super::tables::checked;
 use super::value::{Form, Value};
 use super::{by_crate, damage, tables, Take};
@@ -86,6 +86,7 @@ impl Run<'_> {
         form: &Form,
     ) {
         let table = layout.bytes();
+        self.give(layout_check(About { subject, what: "table" }, &table));
         let told = Ok(form.clone());
         for (what, room) in unfolding_rooms(form) {
             let about = About { subject, what };
@@ -101,10 +102,11 @@ impl Run<'_> {
         }
     }
 
-    /// A table that may be bad, asked of both calls. Where it is not, only the writer is asked: no
+    /// A table that may be bad, asked of its own check and of both calls. Where it is not, only the writer is asked: no
     /// type of the crate is read under it.
     pub fn bad_table(&mut self, subject: &'static str, table: &[u8]) {
         let about = About { subject, what: "damaged table" };
+        self.give(layout_check(about, table));
         let (words, bytes, room) = (self.up_to(3), self.up_to(11), self.up_to(19));
         let form = Form {
             contents: (0..words).map(|_| self.rng.below(6) as u32).collect(),
