@@ -5,3 +5,4 @@ pub mod Store
 pub mod Join
 pub mod Laws
 pub mod Pieces
+pub mod Published
