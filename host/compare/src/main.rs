@@ -9,6 +9,7 @@ mod forms;
 mod make;
 mod ops;
 mod oracle;
+mod published;
 mod rng;
 mod sample;
 mod tally;
@@ -28,6 +29,8 @@ const USAGE: &str = "usage:
       a part of them that takes at most B bytes (640000)
   compare document --out FILE [--seed S]
       cases whose answers are document 01's and not the crate's
+  compare published --out FILE
+      the public standard's examples and the shapes of its tests, answered by its rules
   compare pairs --replay PROGRAM [--most N]
       every bitfield and every pair of them of each N up to 10, lists of every length, in each
       operation, and every string of up to two bytes read with each N up to 17: the crate's
@@ -266,6 +269,7 @@ fn run(arguments: &[String]) -> Result<(), String> {
         }
         "document" => write_document(&Options::parse(rest)?),
         "forms" => forms::write(&Options::parse(rest)?),
+        "published" => published::write(&Options::parse(rest)?.out),
         _ => return Err(USAGE.to_string()),
     };
     written.map_err(|error| error.to_string())
