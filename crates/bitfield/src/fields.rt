@@ -18,7 +18,7 @@ ghost use Prim.Native.Nat.{_+_, _/_, _%_, _^_, _<_, _≤_};
 ghost use lib.ListN.{length, set, drop};
 ghost use Rattle.standard.specs.Bits.{marked};
 ghost use Rattle.standard.specs.Bytes.{Bytes, num};
-ghost use Rattle.standard.proofs.Bits.{bitsOf};
+ghost use Rattle.standard.specs.Bits.{bitsOf};
 ghost use Rattle.bitfield.specs.Body.{bytesFor, highest};
 ghost use Rattle.bitfield.specs.Bools.{noBits, moved, widened, count};
 ghost use Rattle.bitfield.specs.Facts.{Kept};

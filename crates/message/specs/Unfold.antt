@@ -7,11 +7,10 @@ use lib.Seq.{sets}
 use lib.Dec.{eqb, ltb}
 use Rattle.standard.specs.Choice.{pick}
 use Rattle.standard.specs.Bytes.{num, Stored, Room}
-use Rattle.standard.specs.Bits.{packs}
+use Rattle.standard.specs.Bits.{packs, bitsOf}
 use Rattle.standard.specs.Types.{Ty, Tys, Opts, number, boolean, fixedBytes, freeBytes, bitVector, bitList, container, union, end, field, over, bare, body, head, heads}
 use Rattle.standard.specs.Parts.{spanOf, part}
 use Rattle.standard.specs.declared.Refusal.the-variants.{NoRoom}
-use Rattle.standard.proofs.Bits.{bitsOf}
 use Rattle.bitfield.specs.Body.{bitListBody}
 use Rattle.bitfield.specs.declared.BodyBits.{BodyBits}
 use Rattle.layout.specs.Table.{tableOf}

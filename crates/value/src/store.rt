@@ -200,6 +200,7 @@ pub(crate) fn write_item(
 {
     let n = look(layout, t);
     let first = n.at + 2;
+    let count = n.second;
     if n.kind == 6 {
         write_fields(
             out,
@@ -208,14 +209,14 @@ pub(crate) fn write_item(
             layout,
             t,
             first,
-            n.second,
+            count,
             contents,
             bodies,
             i,
             j,
         )
     } else if n.kind == 7 {
-        let c = select(layout, first, n.second, contents, i);
+        let c = select(layout, first, count, contents, i);
         match c {
             Choice::Bare => {
                 put_selector(out, at, contents, i);
