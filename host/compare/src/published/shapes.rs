@@ -158,19 +158,20 @@ fn containers() -> Vec<Asked> {
     let of = |(name, types, records, fields): (&str, Types, usize, &[usize])| {
         let length: usize = fields.iter().sum();
         let of_type = types.len() as u64 - 1;
-        let name = |what: &str| format!("ssz_generic/{name}_{what}");
-        let wrong = |what: &str, given: usize, needed: usize| {
+        let shape = |what: &str| format!("ssz_generic/{name}_{what}");
+        let rule = |what: &str| format!("rule/{name} {what}");
+        let wrong = |name: String, given: usize, needed: usize| {
             let head = [1, given as u64, needed as u64, of_type, 0];
-            refused(name(what), types, vec![0xff; given], head)
+            refused(name, types, vec![0xff; given], head)
         };
         let rising: Vec<u8> = (1..=length as u8).collect();
         [
-            plain(name("zero"), types, vec![0; length], records),
-            plain(name("max"), types, vec![0xff; length], records),
-            plain(name("random"), types, rising, records),
-            wrong("extra_byte", length + 1, length),
-            wrong("one byte short", length - 1, length),
-            wrong("no byte", 0, fields[0]),
+            plain(shape("zero"), types, vec![0; length], records),
+            plain(shape("max"), types, vec![0xff; length], records),
+            plain(shape("random"), types, rising, records),
+            wrong(shape("extra_byte"), length + 1, length),
+            wrong(rule("one byte short"), length - 1, length),
+            wrong(rule("of no byte"), 0, fields[0]),
         ]
     };
     FIXED_SIZES.into_iter().flat_map(of).collect()
