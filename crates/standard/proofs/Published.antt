@@ -1,6 +1,5 @@
--- Examples of the public standard in one table under one statement: each value is within its bounds and has the bytes that the standard's
--- own tests give for it. All by computation; assumes nothing. The last row has its value from
--- ssz_generic (the zero of BitsStruct) and its bytes from the standard's rule.
+-- Well-known examples of the public standard's tests in one table under one statement: each value is within its bounds and has these bytes as
+-- its serialization. All by computation; assumes nothing. The last row is the zero of ssz_generic's BitsStruct, its bytes by the standard's rule.
 use mathlib.Core.Path.{_≡_, refl}
 use mathlib.Core.Logic.{inl, inr}
 use mathlib.Core.List.{List, [], _∷_, _++_}
