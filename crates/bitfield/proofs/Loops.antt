@@ -195,7 +195,8 @@ module _ (a : List ℕ) (s p : ℕ) (out : List ℕ) (carry i t : ℕ) (r : Raw 
       let n = stored in
       let o = g .number in
       rw (q, m, add-one i, pow-succ' 256 i, w)
-      (turn (num out) _ (256 ^ s) (256 ^ (i - s)) (2 ^ p) carry t (getD a (i - s) 0) (num (take (i - s) a)) (t % 256) (t / 256) e (omega arith) (rw w at n) (rw w at o))
+      (turn (num out) _ (256 ^ s) (256 ^ (i - s)) (2 ^ p) carry t (getD a (i - s) 0) (num (take (i - s) a)) (t % 256) (t / 256) e (omega arith)
+      (rw w at n) (rw w at o))
 
   pub shifting-next : Shifting a s p (set out i (t % 256)) (t / 256) (i + 1)
   shifting-next =

@@ -114,7 +114,12 @@ unfolding bitVectorBody
 vector-complete bs h =
     let b = bitNum-bound bs in
     let e = num-pack bs in
-    rw (ne-eqb (length bs) 0 (omega arith), eq-eqb (length (pack bs)) (bytesFor (length bs)) (length-pack bs), lt-ltb (num (pack bs)) (2 ^ length bs) (omega arith))
+    rw (
+      ne-eqb (length bs) 0 (omega arith),
+      eq-eqb (length (pack bs)) (bytesFor (length bs)) (length-pack bs),
+      lt-ltb (num (pack bs)) (2 ^ length bs)
+          (omega arith),
+    )
 
 -- bs is written as l: a bit vector of n bits
 pub record VectorBits (l : List ℕ) (n : ℕ) (bs : List Bool) : Type 0 where

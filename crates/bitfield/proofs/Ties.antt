@@ -316,7 +316,8 @@ pub highest-none-held : (a : List ℕ) (len : ℕ) → Used a 0 → Nothing ≡ 
 unfolding bitsIn
 highest-none-held a len u = let z = u .zeros in sym (rw z (highest-none len))
 
-pub highest-held : (a : List ℕ) (len i h : ℕ) → Kept a len → i < length a → num (drop (suc i) a) ≡ 0 → TopOf (getD a i 0) h → At (8 * i + h) ≡ highest (bitsIn a len)
+pub highest-held : (a : List ℕ) (len i h : ℕ) → Kept a len → i < length a → num (drop (suc i) a) ≡ 0 → TopOf (getD a i 0) h →
+    At (8 * i + h) ≡ highest (bitsIn a len)
 unfolding bitsIn
 highest-held a len i h k b z t =
     let q = top-number a i h (k .raw .bytes) b z t in

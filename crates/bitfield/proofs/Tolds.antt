@@ -73,7 +73,8 @@ lists-kept a b la na lb nb r s e =
     let g = both-good (listGood a la na) (listGood b lb nb) na nb e in
     (kept a la r (both-true (leb la na) (clean a la) (g .0) .1), kept b lb s (both-true (leb lb nb) (clean b lb) (g .1) .1))
 
-pub vectors-kept : (a b : List ℕ) (la na lb nb : ℕ) → Raw a → Raw b → twoTold (andAlso (vectorGood a la na) (vectorGood b lb nb)) na nb ≡ Fine → Kept a la × Kept b lb
+pub vectors-kept : (a b : List ℕ) (la na lb nb : ℕ) → Raw a → Raw b → twoTold (andAlso (vectorGood a la na) (vectorGood b lb nb)) na nb ≡ Fine →
+    Kept a la × Kept b lb
 vectors-kept a b la na lb nb r s e =
     let g = both-good (vectorGood a la na) (vectorGood b lb nb) na nb e in
     (kept a la r (both-true (eqb la na) (clean a la) (g .0) .1), kept b lb s (both-true (eqb lb nb) (clean b lb) (g .1) .1))

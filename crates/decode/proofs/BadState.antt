@@ -48,7 +48,8 @@ fair-pick false u v h k = k
 
 -- The rules of reading and of building.
 tests-sound : (c d : Bool) (o : ℕ) (p : Progress)
-    → Sound (behindOffset (pick c (OffsetResult.Refused (OffsetOutOfBounds o)) (pick d (OffsetResult.Refused (OffsetsAreDecreasing o)) (OffsetResult.Offset o))) p)
+    → Sound (behindOffset (pick c (OffsetResult.Refused (OffsetOutOfBounds o))
+    (pick d (OffsetResult.Refused (OffsetsAreDecreasing o)) (OffsetResult.Offset o))) p)
 tests-sound true d o p = omega arith
 tests-sound false true o p = omega arith
 tests-sound false false o p = tt

@@ -193,7 +193,8 @@ run-of : (b : List ℕ) (n pos : ℕ) (ss es : List ℕ) (p : Progress) → leng
 run-of b zero pos ss es p ls le t = run-none b pos ss es p ls le t
 run-of b (suc n) pos ss es p ls le t =
     let q = follow-next _ _ _ (parted b pos ss es p ls le n t) in
-    let r = run-of b n (q .0 .pos) (set ss n 0) (set es n 0) (q .0) (length-set ss n 0 ∙ ls) (length-set es n 0 ∙ le) (tested-before b pos ss es p ls le n t (q .0) (q .1)) in
+    let r = run-of b n (q .0 .pos) (set ss n 0) (set es n 0) (q .0) (length-set ss n 0 ∙ ls) (length-set es n 0 ∙ le)
+    (tested-before b pos ss es p ls le n t (q .0) (q .1)) in
     run-more b pos ss es p ls le n t (q .0) r (q .2)
 
 -- The test of a state passes, with this progress, just if a run reaches it.

@@ -62,12 +62,15 @@ floor Nothing = 0
 abbrev pub behind : Progress → ℕ → Progress
 behind x o = record { pos = x .pos + 4; first = orElseJust (x .first) o; previous = Just o }
 
-tests-next : (c d : Bool) (o : ℕ) (x y : Progress) → behindOffset (pick c (OffsetResult.Refused (OffsetOutOfBounds o)) (pick d (OffsetResult.Refused (OffsetsAreDecreasing o)) (OffsetResult.Offset o))) x ≡ Step.Next y → (c ≡ false) × (d ≡ false) × (y ≡ behind x o)
+tests-next : (c d : Bool) (o : ℕ) (x y : Progress) → behindOffset
+    (pick c (OffsetResult.Refused (OffsetOutOfBounds o)) (pick d (OffsetResult.Refused (OffsetsAreDecreasing o)) (OffsetResult.Offset o))) x ≡
+    Step.Next y → (c ≡ false) × (d ≡ false) × (y ≡ behind x o)
 tests-next true d o x y e = refused-next (OffsetOutOfBounds o) y e
 tests-next false true o x y e = refused-next (OffsetsAreDecreasing o) y e
 tests-next false false o x y e = (refl, refl, cc)
 
-offset-next : (m : Maybe) (o len : ℕ) (x y : Progress) → behindOffset (sanitizeOffset o m len Nothing) x ≡ Step.Next y → (o ≤ len) × (floor m ≤ o) × (y ≡ behind x o)
+offset-next : (m : Maybe) (o len : ℕ) (x y : Progress) → behindOffset (sanitizeOffset o m len Nothing) x ≡ Step.Next y →
+    (o ≤ len) × (floor m ≤ o) × (y ≡ behind x o)
 offset-next (Just n) o len x y e = let q = tests-next (ltb len o) (ltb o n) o x y e in (ltb-false _ _ (q .0), ltb-false _ _ (q .1), q .2)
 offset-next Nothing o len x y e = let q = tests-next (ltb len o) false o x y e in (ltb-false _ _ (q .0), omega arith, q .2)
 
@@ -88,7 +91,8 @@ module _ (b : List ℕ) (x y : Progress) where
       let l : n ≤ 4294967295 = ltb-false _ _ (p .0) in
       (omega arith, ltb-false _ _ (q .0), cc (q .1))
 
-  pub step-variable : step Variable b x ≡ Step.Next y → (x .pos + 4 ≤ length b) × (four b (x .pos) ≤ length b) × (floor (x .previous) ≤ four b (x .pos)) × (y ≡ behind x (four b (x .pos)))
+  pub step-variable : step Variable b x ≡ Step.Next y → (x .pos + 4 ≤ length b) × (four b (x .pos) ≤ length b) ×
+      (floor (x .previous) ≤ four b (x .pos)) × (y ≡ behind x (four b (x .pos)))
   unfolding step
   step-variable e =
       let p = past (ltb (length b - x .pos) 4) _ _ y e in
@@ -101,7 +105,8 @@ step-within (Fixed n) b x y e = rw (step-fixed b x y n e .2) (step-fixed b x y n
 step-within Variable b x y e = rw (step-variable b x y e .3) (step-variable b x y e .0)
 
 -- From acceptance to ranges.
-register-ranges : (hs : List Head) (b : List ℕ) (x y : Progress) → register hs b x ≡ Step.Next y → floor (x .previous) ≤ length b → InRange hs b (x .pos) (floor (x .previous))
+register-ranges : (hs : List Head) (b : List ℕ) (x y : Progress) → register hs b x ≡ Step.Next y → floor (x .previous) ≤ length b →
+    InRange hs b (x .pos) (floor (x .previous))
 unfolding register InRange
 register-ranges [] b x y e h = h
 register-ranges (Fixed n ∷ hs) b x y e h =
@@ -189,7 +194,8 @@ module _ (hs : List Head) (b : List ℕ) where
       build-says (q .0 .first) (q .0 .pos) (next hs b 0) (length b) (q .2) s ∙ omega arith
 
 -- From ranges to acceptance.
-register-passes : (hs : List Head) (b : List ℕ) (x : Progress) → length b < 2 ^ 32 → InRange hs b (x .pos) (floor (x .previous)) → (y : Progress) × (register hs b x ≡ Step.Next y)
+register-passes : (hs : List Head) (b : List ℕ) (x : Progress) → length b < 2 ^ 32 → InRange hs b (x .pos) (floor (x .previous)) →
+    (y : Progress) × (register hs b x ≡ Step.Next y)
 unfolding InRange register step
 register-passes [] b x k r = (x, refl)
 register-passes (Fixed n ∷ hs) b x k r =

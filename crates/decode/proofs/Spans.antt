@@ -168,7 +168,8 @@ pub record Reads (hs : List Head) (b : List ℕ) : Type 0 where
   pub registered : registerAll hs b new ≡ record { state = stateOf hs b; told = Told.Fine }
   pub built : buildItems b (stateOf hs b) ≡ record { told = Told.Fine; decoder = ranges (stateOf hs b) (length b) }
   pub items : (i : ℕ) → i < length hs
-      → (itemTold (ranges (stateOf hs b) (length b)) i (length b) ≡ Told.Fine) × (itemOf (ranges (stateOf hs b) (length b)) i b ≡ getD (pieces (split hs b 0)) i [])
+      → (itemTold (ranges (stateOf hs b) (length b)) i (length b) ≡ Told.Fine) ×
+      (itemOf (ranges (stateOf hs b) (length b)) i b ≡ getD (pieces (split hs b 0)) i [])
   pub past-last : (i : ℕ) → length hs ≤ i → itemTold (ranges (stateOf hs b) (length b)) i (length b) ≡ Told.Refused BadState
 
 no-item : (d : SszDecoder) (i len : ℕ) → d .count ≤ i → itemTold d i len ≡ Told.Refused BadState

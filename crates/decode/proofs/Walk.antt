@@ -112,7 +112,8 @@ module _ (b : List ℕ) (x y : Progress) where
   recall-says s e h = go (eqb e openEnd) refl h
     where
       go : (c : Bool) → eqb e openEnd ≡ c
-          → pick c (pick (eqb s (four b (x .pos))) (registerHead Variable b x) bad) (pick (eqb s (x .pos)) (pick (ltb e s) bad (registerHead (Fixed (e - s)) b x)) bad) ≡ Step.Next y
+          → pick c (pick (eqb s (four b (x .pos))) (registerHead Variable b x) bad)
+          (pick (eqb s (x .pos)) (pick (ltb e s) bad (registerHead (Fixed (e - s)) b x)) bad) ≡ Step.Next y
           → Recalled s e b x y
       go true q k = rw (eqb-true e openEnd q) (recall-open s k)
       go false q k = recall-shut s e k

@@ -90,7 +90,8 @@ module _ (xs : List Part) (f v : List ℕ) (g : Fitting xs f v) where
   unfolding last filled
   all-appended =
       let l = length-join xs in
-      let a : Ahead xs (empty (fixedLengths xs)) f v = record { front = omega (arith, g .front); back = omega (arith, g .back); small = omega (arith, g .small) } in
+      let a : Ahead xs (empty (fixedLengths xs)) f v = record
+      { front = omega (arith, g .front); back = omega (arith, g .back); small = omega (arith, g .small) } in
       simp (zero-add, add-zero) at (appends xs (empty (fixedLengths xs)) f v a)
 
   finalized : finalize last (sets f 0 (fronts xs (fixedLengths xs))) (sets v 0 (backs xs)) ≡ Length (length (join xs))
@@ -121,6 +122,7 @@ module _ (xs : List Part) (f v : List ℕ) (g : Fitting xs f v) where
 
 -- Encoding the parts of a container's value writes its serialization.
 pub encodes : (t : ℕ) (ts : Tys) (vs : Vals ts) (f v : List ℕ) → Fitting (parts ts vs) f v
-    → (closed (encoded (parts ts vs) f v) ≡ Length (length (serialize (container t ts) vs))) × (ending (encoded (parts ts vs) f v) ≡ sets f 0 (serialize (container t ts) vs))
+    → (closed (encoded (parts ts vs) f v) ≡ Length (length (serialize (container t ts) vs))) ×
+    (ending (encoded (parts ts vs) f v) ≡ sets f 0 (serialize (container t ts) vs))
 unfolding serialize
 encodes t ts vs f v g = (encoded-length (parts ts vs) f v g, encoded-buffer (parts ts vs) f v g)

@@ -110,7 +110,8 @@ pub legal-more : (l : List ℕ) (t : ℕ) → Legal l t → LegalNode l t (nodeO
 unfolding Legal
 legal-more l t g h u k = below-suc (λ (v : ℕ). LegalNode l v (nodeOf l v)) t u g h (omega arith)
 
-fields-cons : (l : List ℕ) (lower : List Ty) (a left : ℕ) → 0 < left → fields l lower a left ≡ field (getD lower (wordAt l a) (boolean 0)) (fields l lower (a + 1) (left - 1))
+fields-cons : (l : List ℕ) (lower : List Ty) (a left : ℕ) → 0 < left →
+    fields l lower a left ≡ field (getD lower (wordAt l a) (boolean 0)) (fields l lower (a + 1) (left - 1))
 unfolding fields
 fields-cons l lower a zero h = absurd (omega arith)
 fields-cons l lower a (suc n) h = let e : suc n - 1 ≡ n = omega arith in rw e

@@ -67,7 +67,8 @@ pub taking-start : (l : List ℕ) (t known a₀ n : ℕ) (lens : List ℕ) → l
 taking-start l t known a₀ n lens f h =
     record { found = f; adding = record { lower = h; some = omega arith; place = refl; bound = omega arith; same = omega arith }; same = joined-zero _ }
 
-module _ (l : List ℕ) (t known a₀ n : ℕ) (lens : List ℕ) (a left sum : ℕ) (fixed : Bool) (f k : ℕ) (s : Taking l t known a₀ n lens a left sum fixed) (p : 0 < left) (e : f ≡ wordAt l a) (i : t ≤ known) where
+module _ (l : List ℕ) (t known a₀ n : ℕ) (lens : List ℕ) (a left sum : ℕ) (fixed : Bool) (f k : ℕ) (s : Taking l t known a₀ n lens a left sum fixed)
+    (p : 0 < left) (e : f ≡ wordAt l a) (i : t ≤ known) where
   pub taking-lower : f < t
   taking-lower = adding-below l t a₀ n a left sum f (s .adding) p e
 
@@ -89,7 +90,8 @@ module _ (l : List ℕ) (t known a₀ n : ℕ) (lens : List ℕ) (a left sum : �
     unfolding Legal
     taking-small = rw h (len-small l f (g f taking-below))
 
-    taking-first : (x : Head) → head (treeOf l f) ≡ x → withRest fixed sum (joined x (headAll (fields l (trees l t) (a + 1) (left - 1)))) ≡ headAll (fields l (trees l t) a₀ n)
+    taking-first : (x : Head) → head (treeOf l f) ≡ x → withRest fixed sum (joined x (headAll (fields l (trees l t) (a + 1) (left - 1)))) ≡
+        headAll (fields l (trees l t) a₀ n)
     unfolding head
     taking-first x q = rw (← q, e) (rw (fields-first l t a left (s .adding .lower) p) at (s .same))
 
@@ -100,17 +102,25 @@ module _ (l : List ℕ) (t known a₀ n : ℕ) (lens : List ℕ) (a left sum : �
       taking-adding : Adding l t a₀ n (a + 1) (left - 1) (sum + w)
       taking-adding = adding-next l t a₀ n a left sum f (s .adding) p e w (rw taking-head v) taking-width
 
-      pub taking-fixed : (lens′ : List ℕ) → lens′ ≡ filled l (pick (ltb f known) known (known + 1)) → (k ≡ 0 → ⊥) → Taking l t known a₀ n lens′ (a + 1) (left - 1) (sum + w) fixed
+      pub taking-fixed : (lens′ : List ℕ) → lens′ ≡ filled l (pick (ltb f known) known (known + 1)) → (k ≡ 0 → ⊥) →
+          Taking l t known a₀ n lens′ (a + 1) (left - 1) (sum + w) fixed
       unfolding width
       taking-fixed lens′ q z =
           let y : w ≡ k = rw (ne-eqb k 0 z) at v in
-          record { found = taking-kept lens′ q; adding = taking-adding; same = rw y (sym (with-next fixed sum k _) ∙ taking-first (Fixed k) (rw (ne-eqb k 0 z) at taking-head)) }
+          record {
+            found = taking-kept lens′ q;
+            adding = taking-adding;
+            same =
+                rw y (sym (with-next fixed sum k _) ∙ taking-first (Fixed k) (rw (ne-eqb k 0 z) at taking-head));
+          }
 
-      pub taking-variable : (lens′ : List ℕ) → lens′ ≡ filled l (pick (ltb f known) known (known + 1)) → k ≡ 0 → Taking l t known a₀ n lens′ (a + 1) (left - 1) (sum + w) false
+      pub taking-variable : (lens′ : List ℕ) → lens′ ≡ filled l (pick (ltb f known) known (known + 1)) → k ≡ 0 →
+          Taking l t known a₀ n lens′ (a + 1) (left - 1) (sum + w) false
       taking-variable lens′ q z =
           record { found = taking-kept lens′ q; adding = taking-adding; same = sym (with-variable fixed sum _) ∙ taking-first Variable (rw z at taking-head) }
 
-pub taking-end : (l : List ℕ) (t known a₀ n : ℕ) (lens : List ℕ) (a left sum : ℕ) (fixed : Bool) → Taking l t known a₀ n lens a left sum fixed → left ≤ 0 → record { portion = sum; length = pick fixed sum 0 } ≡ sizesOf (fields l (trees l t) a₀ n)
+pub taking-end : (l : List ℕ) (t known a₀ n : ℕ) (lens : List ℕ) (a left sum : ℕ) (fixed : Bool) → Taking l t known a₀ n lens a left sum fixed →
+    left ≤ 0 → record { portion = sum; length = pick fixed sum 0 } ≡ sizesOf (fields l (trees l t) a₀ n)
 unfolding head
 taking-end l t known a₀ n lens a left sum fixed s h =
     let q = rw (fields-none l (trees l t) a left h) at (s .same) in
@@ -118,12 +128,14 @@ taking-end l t known a₀ n lens a left sum fixed s h =
     rw (← adding-end l t a₀ n a left sum (s .adding) h, y)
 
 -- The length of a container is that of its fields.
-pub sizes-len : (l : List ℕ) (t : ℕ) (r : Node) (s : Sizes) → r ≡ nodeOf l t → r .kind ≡ 6 → s ≡ sizesOf (fields l (trees l t) (r .at + 2) (r .second)) → s .length ≡ lenOf (head (treeOf l t))
+pub sizes-len : (l : List ℕ) (t : ℕ) (r : Node) (s : Sizes) → r ≡ nodeOf l t → r .kind ≡ 6 →
+    s ≡ sizesOf (fields l (trees l t) (r .at + 2) (r .second)) → s .length ≡ lenOf (head (treeOf l t))
 unfolding head
 sizes-len l t r s e h q = rw (as-container l t r e h) (ap (λ (x : Sizes). x .length) q)
 
 -- A length that is found is remembered.
-pub lengthened : (l : List ℕ) (known t r : ℕ) (lens : List ℕ) → lens ≡ filled l known → t ≤ known → known ≤ t → t < 64 → r ≡ lenOf (head (treeOf l t)) → Lengthened l known t r (set lens t r)
+pub lengthened : (l : List ℕ) (known t r : ℕ) (lens : List ℕ) → lens ≡ filled l known → t ≤ known → known ≤ t → t < 64 →
+    r ≡ lenOf (head (treeOf l t)) → Lengthened l known t r (set lens t r)
 lengthened l known t r lens f i j b h =
     let q : t ≡ known = omega arith in
     record {
@@ -157,10 +169,12 @@ module _ (l : List ℕ) (t at : ℕ) (w : at ≡ wordAt l (1 + t)) where
   unfolding nodeOf
   node-here k m p q = rw (p, q, w)
 
-  pub container-len : (n : ℕ) (s : Sizes) → wordAt l at ≡ 6 → n ≡ wordAt l (at + 1) → s ≡ sizesOf (fields l (trees l t) (at + 2) n) → s .length ≡ lenOf (head (treeOf l t))
+  pub container-len : (n : ℕ) (s : Sizes) → wordAt l at ≡ 6 → n ≡ wordAt l (at + 1) → s ≡ sizesOf (fields l (trees l t) (at + 2) n) →
+      s .length ≡ lenOf (head (treeOf l t))
   container-len n s k m q = sizes-len l t (record { kind = wordAt l at; at = at; second = n }) s (node-here _ n refl m) k q
 
-  pub leaf-found : (k m v : ℕ) (lens : List ℕ) → k ≡ wordAt l at → m ≡ wordAt l (at + 1) → (k ≡ 6 → ⊥) → v ≡ leafLen (record { kind = k; at = at; second = m }) → lens ≡ filled l t → t < 64 → set lens t v ≡ filled l (t + 1)
+  pub leaf-found : (k m v : ℕ) (lens : List ℕ) → k ≡ wordAt l at → m ≡ wordAt l (at + 1) → (k ≡ 6 → ⊥) →
+      v ≡ leafLen (record { kind = k; at = at; second = m }) → lens ≡ filled l t → t < 64 → set lens t v ≡ filled l (t + 1)
   leaf-found k m v lens p q z h f b = found-set l t v lens f b (h ∙ leaf-length l t _ (node-here k m p q) z)
 
 -- A body that does not end leaves nothing found.

@@ -40,7 +40,8 @@ pub known-length : (lens l : List ℕ) (k : ℕ) → Known lens l k → length l
 known-length lens l k g = ap length (g .found) ∙ length-filled l k (g .few)
 
 -- The loop of `refs_end`.
-pub refs-cons : (l : List ℕ) (t : ℕ) (none : Bool) (a left : ℕ) → 0 < left → refs l t none a left ≡ pick (ltb a (count l)) (pick (mayName (wordAt l a) t none) (refs l t none (a + 1) (left - 1)) (Bad a)) (Bad (count l))
+pub refs-cons : (l : List ℕ) (t : ℕ) (none : Bool) (a left : ℕ) → 0 < left →
+    refs l t none a left ≡ pick (ltb a (count l)) (pick (mayName (wordAt l a) t none) (refs l t none (a + 1) (left - 1)) (Bad a)) (Bad (count l))
 unfolding refs
 refs-cons l t none a zero h = absurd (omega arith)
 refs-cons l t none a (suc n) h = let e : suc n - 1 ≡ n = omega arith in rw e
@@ -118,7 +119,8 @@ may-bare w t none h q = go (ltb w t) none refl (rw (ne-eqb _ _ q) at h)
     go false false p r = let z : _≡_ {A = ℕ} 0 1 = cc in absurd (omega arith)
 
 -- Accepted references are within the table, and each may stand there.
-refs-say : (l : List ℕ) (t : ℕ) (none : Bool) (n a e : ℕ) → a ≤ count l → refs l t none a n ≡ Upto e → (e ≤ count l) × ((i : ℕ) → i < n → mayName (wordAt l (a + i)) t none ≡ true)
+refs-say : (l : List ℕ) (t : ℕ) (none : Bool) (n a e : ℕ) → a ≤ count l → refs l t none a n ≡ Upto e →
+    (e ≤ count l) × ((i : ℕ) → i < n → mayName (wordAt l (a + i)) t none ≡ true)
 unfolding refs
 refs-say l t none zero a e k h = (omega (arith, upto-inj a e h), λ i q. absurd (omega arith))
 refs-say l t none (suc n) a e k h =
@@ -127,7 +129,8 @@ refs-say l t none (suc n) a e k h =
     let r = refs-say l t none n (a + 1) e (omega (arith, ltb-true a (count l) (p .0))) (q .1) in
     (r .0, all (q .0) (r .1))
   where
-    all : mayName (wordAt l a) t none ≡ true → ((i : ℕ) → i < n → mayName (wordAt l (a + 1 + i)) t none ≡ true) → (i : ℕ) → i < suc n → mayName (wordAt l (a + i)) t none ≡ true
+    all : mayName (wordAt l a) t none ≡ true → ((i : ℕ) → i < n → mayName (wordAt l (a + 1 + i)) t none ≡ true) → (i : ℕ) → i < suc n →
+        mayName (wordAt l (a + i)) t none ≡ true
     all x f zero j = rw add-zero x
     all x f (suc i) j = let s : a + suc i ≡ a + 1 + i = omega arith in rw s (f i (omega arith))
 
@@ -155,7 +158,8 @@ unfolding LowerOrBare
 many-bare l t at most e m = λ i h q. may-bare _ t true (m .each i h) q
 
 -- An accepted body, by its kind.
-container-says : (l : List ℕ) (t at e : ℕ) → containerEnd l t at ≡ Upto e → Many l t at 64 false e × (portion (heads (fields l (trees l t) (at + 2) (wordAt l (at + 1)))) < 2 ^ 32)
+container-says : (l : List ℕ) (t at e : ℕ) → containerEnd l t at ≡ Upto e →
+    Many l t at 64 false e × (portion (heads (fields l (trees l t) (at + 2) (wordAt l (at + 1)))) < 2 ^ 32)
 unfolding containerEnd
 container-says l t at e h =
     let p = upto-onward (many l t at false 64) _ e h in
@@ -180,7 +184,8 @@ module _ (l : List ℕ) (t at e : ℕ) (h : bodyEnd l t at ≡ Upto e) where
   abbrev by-kind : Bool → Bool → Bool → Bool → Checked
   by-kind c d f g = pick c (containerEnd l t at) (pick d (many l t at true 128) (pick f (Upto (at + 1)) (pick g (leafEnd l at) (Bad at))))
 
-  body-kind : (c d f g : Bool) → eqb (wordAt l at) 6 ≡ c → eqb (wordAt l at) 7 ≡ d → eqb (wordAt l at) 1 ≡ f → ltb (wordAt l at) 6 ≡ g → by-kind c d f g ≡ Upto e
+  body-kind : (c d f g : Bool) → eqb (wordAt l at) 6 ≡ c → eqb (wordAt l at) 7 ≡ d → eqb (wordAt l at) 1 ≡ f → ltb (wordAt l at) 6 ≡ g →
+      by-kind c d f g ≡ Upto e
   unfolding bodyEnd
   body-kind c d f g p q r s = rw (p, q, r, s) at (upto-left (ltb at (count l)) _ (count l) e h .1)
 
@@ -191,7 +196,8 @@ module _ (l : List ℕ) (t at e : ℕ) (h : bodyEnd l t at ≡ Upto e) where
   seven k = body-kind false true _ _ (ne-eqb _ _ (λ (q : wordAt l at ≡ 6). omega arith)) (eq-eqb _ _ k) refl refl
 
   leaf : wordAt l at < 6 → (wordAt l at ≡ 1 → ⊥) → leafEnd l at ≡ Upto e
-  leaf k n = body-kind false false false true (ne-eqb _ _ (λ (q : wordAt l at ≡ 6). omega arith)) (ne-eqb _ _ (λ (q : wordAt l at ≡ 7). omega arith)) (ne-eqb _ _ n) (lt-ltb _ _ k)
+  leaf k n = body-kind false false false true (ne-eqb _ _
+      (λ (q : wordAt l at ≡ 6). omega arith)) (ne-eqb _ _ (λ (q : wordAt l at ≡ 7). omega arith)) (ne-eqb _ _ n) (lt-ltb _ _ k)
 
   body-known : wordAt l at ≤ 7
   body-known = go (eqb (wordAt l at) 6) (eqb (wordAt l at) 7) (eqb (wordAt l at) 1) (ltb (wordAt l at) 6) refl refl refl refl
@@ -246,7 +252,8 @@ pub record Checking (l lens : List ℕ) (n t at : ℕ) : Type 0 where
   pub known : Known lens l t
   pub same : typesEnd l (n - t) t at ≡ typesEnd l n 0 (n + 1)
 
-types-cons : (l : List ℕ) (k t at : ℕ) → 0 < k → typesEnd l k t at ≡ pick (eqb (wordAt l (1 + t)) at) (onward (bodyEnd l t at) (λ e. typesEnd l (k - 1) (t + 1) e)) (Bad (1 + t))
+types-cons : (l : List ℕ) (k t at : ℕ) → 0 < k → typesEnd l k t at ≡
+    pick (eqb (wordAt l (1 + t)) at) (onward (bodyEnd l t at) (λ e. typesEnd l (k - 1) (t + 1) e)) (Bad (1 + t))
 unfolding typesEnd
 types-cons l zero t at h = absurd (omega arith)
 types-cons l (suc k) t at h = let e : suc k - 1 ≡ k = omega arith in rw e
@@ -313,8 +320,12 @@ table-legal l n b h =
     let w = both-true (ltb 0 (wordAt l 0)) (leb (wordAt l 0) 64) (r .0) in
     let e : wordAt l 0 ≡ n = upto-inj (wordAt l 0) n (v .1) in
     let none : Legal l 0 = no-types l in
-    let z : 0 + wordAt l 0 ≡ n = omega arith in
-    (rw z at (types-legal l (wordAt l 0) 0 (wordAt l 0 + 1) (u .0) b none (u .1)), omega (arith, ltb-true 0 (wordAt l 0) (w .0)), omega (arith, leb-true (wordAt l 0) 64 (w .1)))
+    let z : 0 + wordAt l 0 ≡ n = omega arith in (
+      rw z at (types-legal l (wordAt l 0) 0 (wordAt l 0 + 1) (u .0) b none (u .1)),
+      omega (arith, ltb-true 0 (wordAt l 0) (w .0)),
+      omega
+          (arith, leb-true (wordAt l 0) 64 (w .1)),
+    )
 
 -- What `table_of` gives.
 with-checked : (x : Checked) (l : List ℕ) → withLengths x l .checked ≡ x

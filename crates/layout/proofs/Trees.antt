@@ -23,11 +23,15 @@ use Rattle.layout.proofs.Facts.{trees-get, as-container, as-union, as-l
 
 -- A leaf, by its kind.
 module _ (t : ℕ) (n : Node) where
-  leaf-cases : (P : Ty → Type 0) → (n .kind ≡ 0 → P (number t (n .second))) → (n .kind ≡ 1 → P (boolean t)) → (n .kind ≡ 2 → P (fixedBytes t (n .second))) → P (freeBytes t (n .second)) → (n .kind ≡ 4 → P (bitVector t (n .second))) → P (bitList t (n .second)) → P (leafOf t n)
+  leaf-cases : (P : Ty → Type 0) → (n .kind ≡ 0 → P (number t (n .second))) → (n .kind ≡ 1 → P (boolean t)) →
+      (n .kind ≡ 2 → P (fixedBytes t (n .second))) → P (freeBytes t (n .second)) → (n .kind ≡ 4 → P (bitVector t (n .second))) →
+      P (bitList t (n .second)) → P (leafOf t n)
   unfolding leafOf
   leaf-cases P p0 p1 p2 p3 p4 p5 = go (eqb (n .kind) 0) (eqb (n .kind) 1) (eqb (n .kind) 2) (eqb (n .kind) 3) (eqb (n .kind) 4) refl refl refl refl
     where
-      go : (a b c d e : Bool) → eqb (n .kind) 0 ≡ a → eqb (n .kind) 1 ≡ b → eqb (n .kind) 2 ≡ c → eqb (n .kind) 4 ≡ e → P (pick a (number t (n .second)) (pick b (boolean t) (pick c (fixedBytes t (n .second)) (pick d (freeBytes t (n .second)) (pick e (bitVector t (n .second)) (bitList t (n .second)))))))
+      go : (a b c d e : Bool) → eqb (n .kind) 0 ≡ a → eqb (n .kind) 1 ≡ b → eqb (n .kind) 2 ≡ c → eqb (n .kind) 4 ≡ e →
+          P (pick a (number t (n .second)) (pick b (boolean t)
+          (pick c (fixedBytes t (n .second)) (pick d (freeBytes t (n .second)) (pick e (bitVector t (n .second)) (bitList t (n .second)))))))
       go true b c d e f g h i = p0 (eqb-true _ _ f)
       go false true c d e f g h i = p1 (eqb-true _ _ g)
       go false false true d e f g h i = p2 (eqb-true _ _ h)
@@ -70,7 +74,9 @@ module _ (l : List ℕ) (t : ℕ) (f : (u : ℕ) → u < t → LegalTy (treeOf l
   options-rising at k zero h = tt
   options-rising at k (suc n) h = go (eqb (wordAt l at) 4294967295) (options-rising (at + 1) (k + 1) n (omega arith))
     where
-      go : (c : Bool) → Rising (k + 1) (options l (trees l t) (at + 1) (k + 1) n) → Rising k (pick c (bare k (options l (trees l t) (at + 1) (k + 1) n)) (body k (getD (trees l t) (wordAt l at) (boolean 0)) (options l (trees l t) (at + 1) (k + 1) n)))
+      go : (c : Bool) → Rising (k + 1) (options l (trees l t) (at + 1) (k + 1) n) →
+          Rising k (pick c (bare k (options l (trees l t) (at + 1) (k + 1) n))
+          (body k (getD (trees l t) (wordAt l at) (boolean 0)) (options l (trees l t) (at + 1) (k + 1) n)))
       go true r = (omega arith, omega arith, r)
       go false r = (omega arith, omega arith, r)
 
@@ -81,7 +87,9 @@ module _ (l : List ℕ) (t : ℕ) (f : (u : ℕ) → u < t → LegalTy (treeOf l
       go (eqb (wordAt l at) 4294967295) refl
       (options-legal (at + 1) (k + 1) n (λ i h. let e : at + suc i ≡ at + 1 + i = omega arith in rw e at (g (suc i) (omega arith))))
     where
-      go : (c : Bool) → eqb (wordAt l at) 4294967295 ≡ c → LegalOptions (options l (trees l t) (at + 1) (k + 1) n) → LegalOptions (pick c (bare k (options l (trees l t) (at + 1) (k + 1) n)) (body k (getD (trees l t) (wordAt l at) (boolean 0)) (options l (trees l t) (at + 1) (k + 1) n)))
+      go : (c : Bool) → eqb (wordAt l at) 4294967295 ≡ c → LegalOptions (options l (trees l t) (at + 1) (k + 1) n) →
+          LegalOptions (pick c (bare k (options l (trees l t) (at + 1) (k + 1) n))
+          (body k (getD (trees l t) (wordAt l at) (boolean 0)) (options l (trees l t) (at + 1) (k + 1) n)))
       go true q r = r
       go false q r =
           let h : wordAt l at < t = (rw add-zero at (g 0 (omega arith))) (eqb-false _ _ q) in
@@ -97,7 +105,8 @@ module _ (l : List ℕ) (t : ℕ) (f : (u : ℕ) → u < t → LegalTy (treeOf l
   options-some at k zero h q = omega arith
   options-some at k (suc n) h q = go (eqb (wordAt l at) 4294967295) q
     where
-      go : (c : Bool) → NoOptions (pick c (bare k (options l (trees l t) (at + 1) (k + 1) n)) (body k (getD (trees l t) (wordAt l at) (boolean 0)) (options l (trees l t) (at + 1) (k + 1) n))) → ⊥
+      go : (c : Bool) → NoOptions (pick c (bare k (options l (trees l t) (at + 1) (k + 1) n))
+          (body k (getD (trees l t) (wordAt l at) (boolean 0)) (options l (trees l t) (at + 1) (k + 1) n))) → ⊥
       go true r = r
       go false r = r
 
@@ -111,7 +120,11 @@ module _ (l : List ℕ) (t : ℕ) (f : (u : ℕ) → u < t → LegalTy (treeOf l
           rw (as-container l t (nodeOf l t) refl k) (fields-some _ _ (g .some (omega arith)), fields-legal _ _ (g .lower k))
       go false true p q =
           let k = eqb-true _ _ q in
-          rw (as-union l t (nodeOf l t) refl k) (options-some _ 0 _ (g .some (omega arith)), options-rising _ 0 _ (omega (arith, g .most k)), options-legal _ 0 _ (g .optional k))
+          rw (as-union l t (nodeOf l t) refl k) (
+            options-some _ 0 _ (g .some (omega arith)),
+            options-rising _ 0 _ (omega (arith, g .most k)),
+            options-legal _ 0 _ (g .optional k),
+          )
       go false false p q = rw (as-leaf l t (nodeOf l t) refl (eqb-false _ _ p) (eqb-false _ _ q)) (leaf-legal t (nodeOf l t) (g .leaf))
 
 -- The types of a legal table are legal.
@@ -148,7 +161,11 @@ leaf-number : (t : ℕ) (n : Node) → leafLen n ≡ lenOf (head (leafOf t n))
 unfolding leafOf head
 leaf-number t n = go (eqb (n .kind) 0) (eqb (n .kind) 1) (eqb (n .kind) 2) (eqb (n .kind) 3) (eqb (n .kind) 4)
   where
-    go : (a b c d e : Bool) → lenOf (head (pick a (number 0 (n .second)) (pick b (boolean 0) (pick c (fixedBytes 0 (n .second)) (pick d (freeBytes 0 (n .second)) (pick e (bitVector 0 (n .second)) (bitList 0 (n .second)))))))) ≡ lenOf (head (pick a (number t (n .second)) (pick b (boolean t) (pick c (fixedBytes t (n .second)) (pick d (freeBytes t (n .second)) (pick e (bitVector t (n .second)) (bitList t (n .second))))))))
+    go : (a b c d e : Bool) → lenOf (head (pick a (number 0 (n .second))
+        (pick b (boolean 0) (pick c (fixedBytes 0 (n .second))
+        (pick d (freeBytes 0 (n .second)) (pick e (bitVector 0 (n .second)) (bitList 0 (n .second)))))))) ≡
+        lenOf (head (pick a (number t (n .second)) (pick b (boolean t)
+        (pick c (fixedBytes t (n .second)) (pick d (freeBytes t (n .second)) (pick e (bitVector t (n .second)) (bitList t (n .second))))))))
     go true b c d e = refl
     go false true c d e = refl
     go false false true d e = refl

@@ -36,7 +36,8 @@ listed-within : (a : Answer) (o : List ℕ) → Within (length o) (listedOf a o)
 listed-within (Refused r t s) o = tt
 listed-within (Accepted c) o = go (ltb (length o / 12) (c .records)) refl
   where
-    go : (b : Bool) → ltb (length o / 12) (c .records) ≡ b → Within (length o) (pick b (Listed.Refused (NoRoom (c .records) (length o / 12)) 0 0) (Listed.Records (c .records)))
+    go : (b : Bool) → ltb (length o / 12) (c .records) ≡ b → Within (length o)
+        (pick b (Listed.Refused (NoRoom (c .records) (length o / 12)) 0 0) (Listed.Records (c .records)))
     go true p = tt
     go false p = let h : c .records ≤ length o / 12 = ltb-false _ _ p in omega arith
 

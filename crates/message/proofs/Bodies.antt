@@ -51,12 +51,14 @@ pub record Reading (lens l : List ℕ) (t a₀ n : ℕ) (b : List ℕ) (s : ℕ)
   pub bytes : sum .bytes + 2 ^ 40 * left ≤ 2 ^ 40 * n + 1
   pub same : andThen (Accepted sum) (readFields (rowOf l t a left) b p s) ≡ andThen (one 0 0) (readFields (rowOf l t a₀ n) b 0 s)
 
-pub reading-small : (lens l : List ℕ) (t a₀ n : ℕ) (b : List ℕ) (s : ℕ) (sum : Counts) (a left p : ℕ) → n ≤ 64 → Reading lens l t a₀ n b s sum a left p → Small sum (2 ^ 50)
+pub reading-small : (lens l : List ℕ) (t a₀ n : ℕ) (b : List ℕ) (s : ℕ) (sum : Counts) (a left p : ℕ) → n ≤ 64 →
+    Reading lens l t a₀ n b s sum a left p → Small sum (2 ^ 50)
 reading-small lens l t a₀ n b s sum a left p h g =
     record { records = omega (arith, g .records); words = omega (arith, g .words); bytes = omega (arith, g .bytes) }
 
 -- What an item counts.
-pub item-small : (lens l : List ℕ) (f : ℕ) (b : List ℕ) (s : ℕ) (c : Counts) → Under lens l (f + 1) → length b < 2 ^ 32 → Accepted c ≡ readItem (treeOf l f) b s → Small c (2 ^ 40)
+pub item-small : (lens l : List ℕ) (f : ℕ) (b : List ℕ) (s : ℕ) (c : Counts) → Under lens l (f + 1) → length b < 2 ^ 32 →
+    Accepted c ≡ readItem (treeOf l f) b s → Small c (2 ^ 40)
 item-small lens l f b s c g k e =
     let q = counts-small l f b s c (g .legal) (omega (arith, g .few)) k (sym e) in
     record { records = omega (arith, q .0); words = omega (arith, q .1); bytes = omega (arith, q .2) }
@@ -85,7 +87,8 @@ module _ (l : List ℕ) (f : ℕ) (n : Node) (e : n ≡ nodeOf l f) where
   unfolding leafOf
   as-fixed-bytes h = as-leaf l f n e (λ (q : n .kind ≡ 6). omega arith) (λ (q : n .kind ≡ 7). omega arith) ∙ rw h
 
-  plain-type : isPlain (n .kind) ≡ true → (head (treeOf l f) ≡ Fixed (n .second)) × ((b : List ℕ) (s : ℕ) → readItem (treeOf l f) b s ≡ readExact (n .second) f b s)
+  plain-type : isPlain (n .kind) ≡ true → (head (treeOf l f) ≡ Fixed (n .second)) ×
+      ((b : List ℕ) (s : ℕ) → readItem (treeOf l f) b s ≡ readExact (n .second) f b s)
   unfolding head readItem
   plain-type h =
       ⊎-elim
@@ -94,13 +97,17 @@ module _ (l : List ℕ) (f : ℕ) (n : Node) (e : n ≡ nodeOf l f) where
       (plain-kind (n .kind) h)
 
 -- The first field's answer, and that of the rest.
-module _ (lens l : List ℕ) (t a left f : ℕ) (b : List ℕ) (p : ℕ) (g : Row lens l t a left) (z : 0 < left) (e : f ≡ wordAt l a) (w : Span) (q : w ≡ spanOf (head (treeOf l f)) (headsOf l t (a + 1) (left - 1)) b p) (s : ℕ) where
-  pub fields-read : readFields (rowOf l t a left) b p s ≡ andThen (readItem (treeOf l f) (part b w) (s + w .from)) (readFields (rowOf l t (a + 1) (left - 1)) b (w .next) s)
+module _ (lens l : List ℕ) (t a left f : ℕ) (b : List ℕ) (p : ℕ) (g : Row lens l t a left) (z : 0 < left) (e : f ≡ wordAt l a) (w : Span)
+    (q : w ≡ spanOf (head (treeOf l f)) (headsOf l t (a + 1) (left - 1)) b p) (s : ℕ) where
+  pub fields-read : readFields (rowOf l t a left) b p s ≡ andThen (readItem (treeOf l f) (part b w) (s + w .from))
+      (readFields (rowOf l t (a + 1) (left - 1)) b (w .next) s)
   unfolding readItem
   fields-read = rw (fields-first l t a left (g .lower) z, q, e)
 
-module _ (lens l : List ℕ) (t a₀ n : ℕ) (b : List ℕ) (s : ℕ) (sum : Counts) (a left p f : ℕ) (g : Reading lens l t a₀ n b s sum a left p) (z : 0 < left) (e : f ≡ wordAt l a) (w : Span) (q : w ≡ spanOf (head (treeOf l f)) (headsOf l t (a + 1) (left - 1)) b p) where
-  reading-first : andThen (Accepted sum) (andThen (readItem (treeOf l f) (part b w) (s + w .from)) (readFields (rowOf l t (a + 1) (left - 1)) b (w .next) s)) ≡ andThen (one 0 0) (readFields (rowOf l t a₀ n) b 0 s)
+module _ (lens l : List ℕ) (t a₀ n : ℕ) (b : List ℕ) (s : ℕ) (sum : Counts) (a left p f : ℕ) (g : Reading lens l t a₀ n b s sum a left p)
+    (z : 0 < left) (e : f ≡ wordAt l a) (w : Span) (q : w ≡ spanOf (head (treeOf l f)) (headsOf l t (a + 1) (left - 1)) b p) where
+  reading-first : andThen (Accepted sum) (andThen (readItem (treeOf l f) (part b w) (s + w .from))
+      (readFields (rowOf l t (a + 1) (left - 1)) b (w .next) s)) ≡ andThen (one 0 0) (readFields (rowOf l t a₀ n) b 0 s)
   reading-first = rw (fields-read lens l t a left f b p (g .row) z e w q s) at (g .same)
 
   -- where the first field lies, what it counts, and what it gives if it is plain
@@ -121,7 +128,8 @@ module _ (lens l : List ℕ) (t a₀ n : ℕ) (b : List ℕ) (s : ℕ) (sum : Co
       let v : w .to - w .from ≡ p + m - p = ap (λ (d : Span). d .to - d .from) y in
       exact-read m f (part b w) (s + w .from) (w .to - w .from) (reading-span .2) (omega (arith, v)) ∙ sym (x .1 (part b w) (s + w .from))
 
-  pub reading-next : (c : Counts) → s + length b < 2 ^ 32 → Accepted c ≡ readItem (treeOf l f) (part b w) (s + w .from) → Reading lens l t a₀ n b s (plus sum c) (a + 1) (left - 1) (w .next)
+  pub reading-next : (c : Counts) → s + length b < 2 ^ 32 → Accepted c ≡ readItem (treeOf l f) (part b w) (s + w .from) →
+      Reading lens l t a₀ n b s (plus sum c) (a + 1) (left - 1) (w .next)
   reading-next c k h =
       let m = reading-item c k h in
       record {
@@ -134,10 +142,12 @@ module _ (lens l : List ℕ) (t a₀ n : ℕ) (b : List ℕ) (s : ℕ) (sum : Co
         same = then-assoc (Accepted sum) (Accepted c) (readFields (rowOf l t (a + 1) (left - 1)) b (w .next) s) ∙ rw (← h) at reading-first;
       }
 
-  pub reading-stop : (r : Refusal) (u v : ℕ) → Refused r u v ≡ readItem (treeOf l f) (part b w) (s + w .from) → Refused r u v ≡ andThen (one 0 0) (readFields (rowOf l t a₀ n) b 0 s)
+  pub reading-stop : (r : Refusal) (u v : ℕ) → Refused r u v ≡ readItem (treeOf l f) (part b w) (s + w .from) →
+      Refused r u v ≡ andThen (one 0 0) (readFields (rowOf l t a₀ n) b 0 s)
   reading-stop r u v h = rw (← h) at reading-first
 
-pub reading-end : (lens l : List ℕ) (t a₀ n : ℕ) (b : List ℕ) (s : ℕ) (sum : Counts) (a left p : ℕ) → Reading lens l t a₀ n b s sum a left p → left ≤ 0 → Accepted sum ≡ andThen (one 0 0) (readFields (rowOf l t a₀ n) b 0 s)
+pub reading-end : (lens l : List ℕ) (t a₀ n : ℕ) (b : List ℕ) (s : ℕ) (sum : Counts) (a left p : ℕ) → Reading lens l t a₀ n b s sum a left p →
+    left ≤ 0 → Accepted sum ≡ andThen (one 0 0) (readFields (rowOf l t a₀ n) b 0 s)
 unfolding readItem
 reading-end lens l t a₀ n b s sum a left p g h = sym (ap Accepted (plus-zero sum)) ∙ rw (fields-none l (trees l t) a left h) at (g .same)
 
@@ -152,11 +162,13 @@ module _ (lens l : List ℕ) (t : ℕ) (n : Node) (e : n ≡ nodeOf l t) (g : Un
       record { under = under-below lens l (t + 1) t (omega arith) g; near = omega (arith, m .near, m .few k); lower = m .lower k }
 
   module _ (k : n .kind ≡ 6) (b : List ℕ) (s : ℕ) where
-    pub container-read : readItem (treeOf l t) b s ≡ built (layOut (headsOf l t (n .at + 2) (n .second)) b) t s (andThen (one 0 0) (readFields (rowOf l t (n .at + 2) (n .second)) b 0 s))
+    pub container-read : readItem (treeOf l t) b s ≡ built (layOut (headsOf l t (n .at + 2) (n .second)) b) t s
+        (andThen (one 0 0) (readFields (rowOf l t (n .at + 2) (n .second)) b 0 s))
     unfolding readItem
     container-read = rw (as-container l t n e k)
 
-    pub container-on : Told.Fine ≡ layOut (headsOf l t (n .at + 2) (n .second)) b → andThen (one 0 0) (readFields (rowOf l t (n .at + 2) (n .second)) b 0 s) ≡ readItem (treeOf l t) b s
+    pub container-on : Told.Fine ≡ layOut (headsOf l t (n .at + 2) (n .second)) b →
+        andThen (one 0 0) (readFields (rowOf l t (n .at + 2) (n .second)) b 0 s) ≡ readItem (treeOf l t) b s
     container-on h = rw (container-read, ← h)
 
     pub container-stop : (r : Refusal) → Told.Refused r ≡ layOut (headsOf l t (n .at + 2) (n .second)) b → Refused r t s ≡ readItem (treeOf l t) b s
@@ -170,15 +182,18 @@ chosen (Choice.Wrong r) lower b t s = Refused r t s
 
 module _ (l : List ℕ) (lower : List Ty) (b : List ℕ) (t s : ℕ) where
   -- the option that is asked for
-  option-here : (w : ℕ) (os : Opts) (k : ℕ) → readOption (pick (eqb w 4294967295) (bare k os) (body k (getD lower w (boolean 0)) os)) k b t s ≡ chosen (optionAt w (length b)) lower b t s
+  option-here : (w : ℕ) (os : Opts) (k : ℕ) → readOption (pick (eqb w 4294967295) (bare k os) (body k (getD lower w (boolean 0)) os)) k b t s ≡
+      chosen (optionAt w (length b)) lower b t s
   unfolding readItem chosen
   option-here w os k = go (eqb w 4294967295) (eqb (length b) 1)
     where
-      alone : (d : Bool) → pick d (one 1 0) (Refused (InvalidByteLength (length b - 1) 0) t s) ≡ chosen (pick d Choice.Bare (Choice.Wrong (InvalidByteLength (length b - 1) 0))) lower b t s
+      alone : (d : Bool) → pick d (one 1 0) (Refused (InvalidByteLength (length b - 1) 0) t s) ≡
+          chosen (pick d Choice.Bare (Choice.Wrong (InvalidByteLength (length b - 1) 0))) lower b t s
       alone true = refl
       alone false = refl
 
-      go : (c d : Bool) → readOption (pick c (bare k os) (body k (getD lower w (boolean 0)) os)) k b t s ≡ chosen (pick c (pick (eqb (length b) 1) Choice.Bare (Choice.Wrong (InvalidByteLength (length b - 1) 0))) (Choice.Body w)) lower b t s
+      go : (c d : Bool) → readOption (pick c (bare k os) (body k (getD lower w (boolean 0)) os)) k b t s ≡
+          chosen (pick c (pick (eqb (length b) 1) Choice.Bare (Choice.Wrong (InvalidByteLength (length b - 1) 0))) (Choice.Body w)) lower b t s
       go true d = rw (eq-eqb k k refl) (alone (eqb (length b) 1))
       go false d = rw (eq-eqb k k refl)
 
@@ -188,18 +203,21 @@ module _ (l : List ℕ) (lower : List Ty) (b : List ℕ) (t s : ℕ) where
   option-skip true x os j k h = rw (ne-eqb k j h)
   option-skip false x os j k h = rw (ne-eqb k j h)
 
-  option-read : (n a j k : ℕ) → j ≤ k → readOption (options l lower a j n) k b t s ≡ pick (ltb k (j + n)) (chosen (optionAt (wordAt l (a + (k - j))) (length b)) lower b t s) (Refused (UnionSelectorInvalid k) t s)
+  option-read : (n a j k : ℕ) → j ≤ k → readOption (options l lower a j n) k b t s ≡
+      pick (ltb k (j + n)) (chosen (optionAt (wordAt l (a + (k - j))) (length b)) lower b t s) (Refused (UnionSelectorInvalid k) t s)
   unfolding options
   option-read zero a j k h = rw (le-ltb k (j + 0) (omega arith)) (unfold readItem in refl)
   option-read (suc n) a j k h = go (eqb k j) refl (option-read n (a + 1) (j + 1) k)
     where
       whole : Opts
-      whole = pick (eqb (wordAt l a) 4294967295) (bare j (options l lower (a + 1) (j + 1) n)) (body j (getD lower (wordAt l a) (boolean 0)) (options l lower (a + 1) (j + 1) n))
+      whole = pick (eqb (wordAt l a) 4294967295) (bare j (options l lower (a + 1) (j + 1) n))
+          (body j (getD lower (wordAt l a) (boolean 0)) (options l lower (a + 1) (j + 1) n))
 
       wanted : ℕ → ℕ → Answer
       wanted m i = pick (ltb k m) (chosen (optionAt (wordAt l i) (length b)) lower b t s) (Refused (UnionSelectorInvalid k) t s)
 
-      go : (c : Bool) → eqb k j ≡ c → (j + 1 ≤ k → readOption (options l lower (a + 1) (j + 1) n) k b t s ≡ wanted (j + 1 + n) (a + 1 + (k - (j + 1)))) → readOption whole k b t s ≡ wanted (j + suc n) (a + (k - j))
+      go : (c : Bool) → eqb k j ≡ c → (j + 1 ≤ k → readOption (options l lower (a + 1) (j + 1) n) k b t s ≡
+          wanted (j + 1 + n) (a + 1 + (k - (j + 1)))) → readOption whole k b t s ≡ wanted (j + suc n) (a + (k - j))
       go true p f =
           let q : k ≡ j = eqb-true _ _ p in
           let i : a + (k - j) ≡ a = omega arith in
@@ -208,7 +226,8 @@ module _ (l : List ℕ) (lower : List Ty) (b : List ℕ) (t s : ℕ) where
           let q : k ≡ j → ⊥ = eqb-false _ _ p in
           let i : a + 1 + (k - (j + 1)) ≡ a + (k - j) = omega arith in
           let m : j + 1 + n ≡ j + suc n = omega arith in
-          option-skip (eqb (wordAt l a) 4294967295) (getD lower (wordAt l a) (boolean 0)) (options l lower (a + 1) (j + 1) n) j k q ∙ rw (i, m) at (f (omega arith))
+          option-skip (eqb (wordAt l a) 4294967295) (getD lower (wordAt l a) (boolean 0)) (options l lower (a + 1) (j + 1) n) j k q ∙
+          rw (i, m) at (f (omega arith))
 
   -- the whole union
   union-chosen : (a n : ℕ) → readItem (union t (options l lower a 0 n)) b s ≡ chosen (choose l a n b) lower b t s
@@ -218,17 +237,22 @@ module _ (l : List ℕ) (lower : List Ty) (b : List ℕ) (t s : ℕ) where
       x : ℕ
       x = getD b 0 0
 
-      either : (c : Bool) (u : Choice) → pick c (chosen u lower b t s) (Refused (UnionSelectorInvalid x) t s) ≡ chosen (pick c u (Choice.Wrong (UnionSelectorInvalid x))) lower b t s
+      either : (c : Bool) (u : Choice) → pick c (chosen u lower b t s) (Refused (UnionSelectorInvalid x) t s) ≡
+          chosen (pick c u (Choice.Wrong (UnionSelectorInvalid x))) lower b t s
       either true u = refl
       either false u = refl
 
-      inside : readOption (options l lower a 0 n) x b t s ≡ chosen (pick (ltb x n) (optionAt (wordAt l (a + x)) (length b)) (Choice.Wrong (UnionSelectorInvalid x))) lower b t s
+      inside : readOption (options l lower a 0 n) x b t s ≡ chosen
+          (pick (ltb x n) (optionAt (wordAt l (a + x)) (length b)) (Choice.Wrong (UnionSelectorInvalid x))) lower b t s
       inside =
           let i : 0 + n ≡ n = omega arith in
           let j : x - 0 ≡ x = omega arith in
           rw (i, j) at (option-read n a 0 x (omega arith)) ∙ either (ltb x n) (optionAt (wordAt l (a + x)) (length b))
 
-      go : (c d : Bool) → pick c (Refused (OutOfBoundsByte 0) t s) (pick d (readOption (options l lower a 0 n) x b t s) (Refused (UnionSelectorInvalid x) t s)) ≡ chosen (choiceOf (pick c (SelectorResult.Refused (OutOfBoundsByte 0)) (pick d (SelectorResult.Selector (record { 0 = x })) (SelectorResult.Refused (UnionSelectorInvalid x)))) l a n (length b)) lower b t s
+      go : (c d : Bool) → pick c (Refused (OutOfBoundsByte 0) t s)
+          (pick d (readOption (options l lower a 0 n) x b t s) (Refused (UnionSelectorInvalid x) t s)) ≡
+          chosen (choiceOf (pick c (SelectorResult.Refused (OutOfBoundsByte 0))
+          (pick d (SelectorResult.Selector (record { 0 = x })) (SelectorResult.Refused (UnionSelectorInvalid x)))) l a n (length b)) lower b t s
       go true d = refl
       go false true = inside
       go false false = refl
@@ -237,7 +261,8 @@ module _ (l : List ℕ) (lower : List Ty) (b : List ℕ) (t s : ℕ) where
 body-option : (w len o : ℕ) → optionAt w len ≡ Choice.Body o → (o ≡ w) × (w ≡ 4294967295 → ⊥)
 body-option w len o e = go (eqb w 4294967295) (eqb len 1) refl e
   where
-    go : (c d : Bool) → eqb w 4294967295 ≡ c → pick c (pick d Choice.Bare (Choice.Wrong (InvalidByteLength (len - 1) 0))) (Choice.Body w) ≡ Choice.Body o → (o ≡ w) × (w ≡ 4294967295 → ⊥)
+    go : (c d : Bool) → eqb w 4294967295 ≡ c → pick c (pick d Choice.Bare (Choice.Wrong (InvalidByteLength (len - 1) 0))) (Choice.Body w) ≡
+        Choice.Body o → (o ≡ w) × (w ≡ 4294967295 → ⊥)
     go true true p h = let z : _≡_ {A = ℕ} 0 1 = cc in absurd (omega arith)
     go true false p h = let z : _≡_ {A = ℕ} 0 1 = cc in absurd (omega arith)
     go false d p h = (cc, eqb-false _ _ p)
@@ -257,17 +282,22 @@ choose-by l a n b = go (eqb (length b) 0) (leb (getD b 0 0) 127)
     x : ℕ
     x = getD b 0 0
 
-    go : (c d : Bool) → choiceOf (pick c (SelectorResult.Refused (OutOfBoundsByte 0)) (pick d (SelectorResult.Selector (record { 0 = x })) (SelectorResult.Refused (UnionSelectorInvalid x)))) l a n (length b) ≡ pick c (Choice.Wrong (OutOfBoundsByte 0)) (pick d (pick (ltb x n) (optionAt (wordAt l (a + x)) (length b)) (Choice.Wrong (UnionSelectorInvalid x))) (Choice.Wrong (UnionSelectorInvalid x)))
+    go : (c d : Bool) → choiceOf (pick c (SelectorResult.Refused (OutOfBoundsByte 0))
+        (pick d (SelectorResult.Selector (record { 0 = x })) (SelectorResult.Refused (UnionSelectorInvalid x)))) l a n (length b) ≡
+        pick c (Choice.Wrong (OutOfBoundsByte 0)) (pick d (pick (ltb x n) (optionAt (wordAt l (a + x)) (length b))
+        (Choice.Wrong (UnionSelectorInvalid x))) (Choice.Wrong (UnionSelectorInvalid x)))
     go true d = refl
     go false true = refl
     go false false = refl
 
 -- A choice that is no refusal comes from a word of the table, and there is a selector.
-right-choice : (l : List ℕ) (a n : ℕ) (b : List ℕ) (u : Choice) → ((r : Refusal) → Choice.Wrong r ≡ u → ⊥) → choose l a n b ≡ u → (getD b 0 0 < n) × (optionAt (wordAt l (a + getD b 0 0)) (length b) ≡ u) × (1 ≤ length b)
+right-choice : (l : List ℕ) (a n : ℕ) (b : List ℕ) (u : Choice) → ((r : Refusal) → Choice.Wrong r ≡ u → ⊥) → choose l a n b ≡ u →
+    (getD b 0 0 < n) × (optionAt (wordAt l (a + getD b 0 0)) (length b) ≡ u) × (1 ≤ length b)
 unfolding choice-by
 right-choice l a n b u never e = go (eqb (length b) 0) (leb (getD b 0 0) 127) (ltb (getD b 0 0) n) refl refl (sym (choose-by l a n b) ∙ e)
   where
-    go : (c d f : Bool) → eqb (length b) 0 ≡ c → ltb (getD b 0 0) n ≡ f → choice-by l a n b c d f ≡ u → (getD b 0 0 < n) × (optionAt (wordAt l (a + getD b 0 0)) (length b) ≡ u) × (1 ≤ length b)
+    go : (c d f : Bool) → eqb (length b) 0 ≡ c → ltb (getD b 0 0) n ≡ f → choice-by l a n b c d f ≡ u →
+        (getD b 0 0 < n) × (optionAt (wordAt l (a + getD b 0 0)) (length b) ≡ u) × (1 ≤ length b)
     go true d f p q h = absurd (never _ h)
     go false false f p q h = absurd (never _ h)
     go false true false p q h = absurd (never _ h)
@@ -276,7 +306,8 @@ right-choice l a n b u never e = go (eqb (length b) 0) (leb (getD b 0 0) 127) (l
 bare-option : (w len : ℕ) → optionAt w len ≡ Choice.Bare → w ≡ 4294967295
 bare-option w len e = go (eqb w 4294967295) refl e
   where
-    go : (c : Bool) → eqb w 4294967295 ≡ c → pick c (pick (eqb len 1) Choice.Bare (Choice.Wrong (InvalidByteLength (len - 1) 0))) (Choice.Body w) ≡ Choice.Bare → w ≡ 4294967295
+    go : (c : Bool) → eqb w 4294967295 ≡ c → pick c (pick (eqb len 1) Choice.Bare (Choice.Wrong (InvalidByteLength (len - 1) 0))) (Choice.Body w) ≡
+        Choice.Bare → w ≡ 4294967295
     go true p h = eqb-true _ _ p
     go false p h = let z : _≡_ {A = ℕ} 0 1 = cc in absurd (omega arith)
 
@@ -285,7 +316,8 @@ bare-says l a n b e =
     let q = right-choice l a n b Choice.Bare (λ r h. let z : _≡_ {A = ℕ} 0 1 = cc in omega arith) e in
     (q .0, bare-option _ (length b) (q .1))
 
-pub body-says : (l : List ℕ) (a n : ℕ) (b : List ℕ) (o : ℕ) → choose l a n b ≡ Choice.Body o → (getD b 0 0 < n) × (o ≡ wordAt l (a + getD b 0 0)) × (wordAt l (a + getD b 0 0) ≡ 4294967295 → ⊥) × (1 ≤ length b)
+pub body-says : (l : List ℕ) (a n : ℕ) (b : List ℕ) (o : ℕ) → choose l a n b ≡ Choice.Body o →
+    (getD b 0 0 < n) × (o ≡ wordAt l (a + getD b 0 0)) × (wordAt l (a + getD b 0 0) ≡ 4294967295 → ⊥) × (1 ≤ length b)
 body-says l a n b o e =
     let q = right-choice l a n b (Choice.Body o) (λ r h. let z : _≡_ {A = ℕ} 0 1 = cc in omega arith) e in
     let r = body-option (wordAt l (a + getD b 0 0)) (length b) o (q .1) in
@@ -294,7 +326,8 @@ body-says l a n b o e =
 pub split-some : (b : List ℕ) (k : UnionSelector) → splitUnion b ≡ SelectorResult.Selector k → 1 ≤ length b
 split-some b k e = go (eqb (length b) 0) refl e
   where
-    go : (c : Bool) → eqb (length b) 0 ≡ c → pick c (SelectorResult.Refused (OutOfBoundsByte 0)) (selectorOf (getD b 0 0)) ≡ SelectorResult.Selector k → 1 ≤ length b
+    go : (c : Bool) → eqb (length b) 0 ≡ c → pick c (SelectorResult.Refused (OutOfBoundsByte 0)) (selectorOf (getD b 0 0)) ≡
+        SelectorResult.Selector k → 1 ≤ length b
     go true p h = let z : _≡_ {A = ℕ} 0 1 = cc in absurd (omega arith)
     go false p h = let y : length b ≡ 0 → ⊥ = eqb-false _ _ p in omega arith
 

@@ -72,12 +72,15 @@ Holds [] = Unit {0}
 Holds (x ∷ xs) = (checkMessage (x .layout) (x .message) ≡ x .answer) × Holds xs
 
 cases-hold : Holds cases
-unfolding Holds cases messageP offsets layoutL bits4 bytesOf le num numAt wordAt head heads joined width portion next nodeOf leafOf fromNode fields options trees treeOf step register build layOut bitsOf highest bitListBody readItem count refs many containerEnd leafEnd bodyEnd typesEnd tableOf checkMessage
+unfolding Holds cases messageP offsets layoutL bits4 bytesOf le num numAt wordAt head heads joined width portion next nodeOf leafOf fromNode fields
+    options trees treeOf step register build layOut bitsOf highest bitListBody readItem count refs many containerEnd leafEnd bodyEnd typesEnd tableOf
+    checkMessage
 cases-hold = (refl, (refl, (refl, (refl, (refl, (refl, (refl, (refl, (refl, (refl, (refl, (refl, tt))))))))))))
 
 -- "For L and P it prints only": type, start and end of each item
 listed : listItem (treeOf layoutL 3) messageP 0 ≡ bytesOf (3 ∷ 0 ∷ 20 ∷ 0 ∷ 0 ∷ 8 ∷ 1 ∷ 16 ∷ 19 ∷ 2 ∷ 19 ∷ 20 ∷ [])
-unfolding messageP offsets layoutL bytesOf le num numAt wordAt head heads joined width portion next nodeOf leafOf fromNode fields options trees treeOf entry listItem
+unfolding messageP offsets layoutL bytesOf le num numAt wordAt head heads joined width portion next nodeOf leafOf fromNode fields options trees
+    treeOf entry listItem
 listed = refl
 
 -- Case (9) is the serialization of four zeros, and by `message-one` of nothing else.
@@ -86,8 +89,10 @@ unfolding bits4 bytesOf le num numAt wordAt nodeOf leafOf fromNode trees treeOf 
 four-zeros = (refl, refl)
 
 -- The value form of P: three free bytes, three bits without their mark
-unfolded : (unfoldWords (treeOf layoutL 3) messageP ≡ 3 ∷ 3 ∷ []) × (unfoldBytes (treeOf layoutL 3) messageP ≡ 0x2a ∷ 0 ∷ 0 ∷ 0 ∷ 0 ∷ 0 ∷ 0 ∷ 0 ∷ 0x0a ∷ 0x0b ∷ 0x0c ∷ 0x05 ∷ [])
-unfolding messageP offsets layoutL bytesOf le num numAt wordAt head heads joined width portion next nodeOf leafOf fromNode fields options trees treeOf bitsOf bitNum packs highest bitListBody rawOf unfoldWords unfoldBytes
+unfolded : (unfoldWords (treeOf layoutL 3) messageP ≡ 3 ∷ 3 ∷ []) ×
+    (unfoldBytes (treeOf layoutL 3) messageP ≡ 0x2a ∷ 0 ∷ 0 ∷ 0 ∷ 0 ∷ 0 ∷ 0 ∷ 0 ∷ 0x0a ∷ 0x0b ∷ 0x0c ∷ 0x05 ∷ [])
+unfolding messageP offsets layoutL bytesOf le num numAt wordAt head heads joined width portion next nodeOf leafOf fromNode fields options trees
+    treeOf bitsOf bitNum packs highest bitListBody rawOf unfoldWords unfoldBytes
 unfolded = (refl, refl)
 
 -- The value of P, and its pieces: the number's body, the two offsets, each with the field that it says behind it
@@ -99,7 +104,8 @@ unfolding typeP
 valueP = (42, (0x0a ∷ 0x0b ∷ 0x0c ∷ [], (true ∷ false ∷ true ∷ [], tt)))
 
 of-P : (messageType layoutL 4 ≡ typeP) × (serialize typeP valueP ≡ messageP)
-unfolding messageP offsets layoutL typeP valueP bytesOf le num numAt wordAt head heads joined nodeOf leafOf fromNode fields options trees treeOf bitNum packs pack marked fixedLengths fronts backs join serialize
+unfolding messageP offsets layoutL typeP valueP bytesOf le num numAt wordAt head heads joined nodeOf leafOf fromNode fields options trees treeOf
+    bitNum packs pack marked fixedLengths fronts backs join serialize
 of-P = (refl, refl)
 
 pieces-P :

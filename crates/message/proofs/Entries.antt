@@ -48,7 +48,8 @@ built-both Told.Fine t s x h = (refl, h)
 built-both (Told.Refused r) t s x h = absurd h
 
 -- One record.
-pub entry-stored : (o o₁ o₂ o₃ : List ℕ) (at t : ℕ) (b : List ℕ) (s : ℕ) → o₁ ≡ sets o at (le 4 t) → o₂ ≡ sets o₁ (at + 4) (le 4 s) → o₃ ≡ sets o₂ (at + 8) (le 4 (s + length b)) → Stored o at (entry t b s) (at + 12) o₃
+pub entry-stored : (o o₁ o₂ o₃ : List ℕ) (at t : ℕ) (b : List ℕ) (s : ℕ) → o₁ ≡ sets o at (le 4 t) → o₂ ≡ sets o₁ (at + 4) (le 4 s) →
+    o₃ ≡ sets o₂ (at + 8) (le 4 (s + length b)) → Stored o at (entry t b s) (at + 12) o₃
 unfolding entry le
 entry-stored o o₁ o₂ o₃ at t b s p q r =
     let put : (x : List ℕ) (i n : ℕ) → Stored x i (le 4 n) (i + 4) (sets x i (le 4 n)) = λ x i n. record { list = refl; ends = simp length-le } in
@@ -61,7 +62,8 @@ entry-stored o o₁ o₂ o₃ at t b s p q r =
     stored-then o at (le 4 t ++ le 4 s) (at + 8) o₂ (le 4 (s + length b)) (at + 12) o₃ _ u h (sym (append-assoc (le 4 t) (le 4 s) (le 4 (s + length b))))
 
 -- The first field's listing, and that of the rest.
-module _ (lens l : List ℕ) (t a left f : ℕ) (b : List ℕ) (p : ℕ) (g : Row lens l t a left) (z : 0 < left) (e : f ≡ wordAt l a) (w : Span) (q : w ≡ spanOf (head (treeOf l f)) (headsOf l t (a + 1) (left - 1)) b p) (s : ℕ) where
+module _ (lens l : List ℕ) (t a left f : ℕ) (b : List ℕ) (p : ℕ) (g : Row lens l t a left) (z : 0 < left) (e : f ≡ wordAt l a) (w : Span)
+    (q : w ≡ spanOf (head (treeOf l f)) (headsOf l t (a + 1) (left - 1)) b p) (s : ℕ) where
   fields-list : listFields (rowOf l t a left) b p s ≡ listItem (treeOf l f) (part b w) (s + w .from) ++ listFields (rowOf l t (a + 1) (left - 1)) b (w .next) s
   unfolding listItem
   fields-list = rw (fields-first l t a left (g .lower) z, q, e)
@@ -76,9 +78,12 @@ pub record Storing (lens l : List ℕ) (t a₀ n : ℕ) (b : List ℕ) (s : ℕ)
   pub stored : Stored o₀ at₀ done at o
   pub whole : listFields (rowOf l t a₀ n) b 0 s ≡ done ++ listFields (rowOf l t a left) b p s
 
-module _ (lens l : List ℕ) (t a₀ n : ℕ) (b : List ℕ) (s : ℕ) (o₀ : List ℕ) (at₀ : ℕ) (o : List ℕ) (at a left p f : ℕ) (g : Storing lens l t a₀ n b s o₀ at₀ o at a left p) (z : 0 < left) (e : f ≡ wordAt l a) (w : Span) (q : w ≡ spanOf (head (treeOf l f)) (headsOf l t (a + 1) (left - 1)) b p) where
+module _ (lens l : List ℕ) (t a₀ n : ℕ) (b : List ℕ) (s : ℕ) (o₀ : List ℕ) (at₀ : ℕ) (o : List ℕ) (at a left p f : ℕ)
+    (g : Storing lens l t a₀ n b s o₀ at₀ o at a left p) (z : 0 < left) (e : f ≡ wordAt l a) (w : Span)
+    (q : w ≡ spanOf (head (treeOf l f)) (headsOf l t (a + 1) (left - 1)) b p) where
   storing-both : IsAccepted (readItem (treeOf l f) (part b w) (s + w .from)) × IsAccepted (readFields (rowOf l t (a + 1) (left - 1)) b (w .next) s)
-  storing-both = then-both (readItem (treeOf l f) (part b w) (s + w .from)) (readFields (rowOf l t (a + 1) (left - 1)) b (w .next) s) (rw (fields-read lens l t a left f b p (g .row) z e w q s) at (g .accepted))
+  storing-both = then-both (readItem (treeOf l f) (part b w) (s + w .from)) (readFields (rowOf l t (a + 1) (left - 1)) b (w .next) s)
+      (rw (fields-read lens l t a left f b p (g .row) z e w q s) at (g .accepted))
 
   pub storing-accepted : IsAccepted (readItem (treeOf l f) (part b w) (s + w .from))
   storing-accepted = storing-both .0
@@ -86,7 +91,8 @@ module _ (lens l : List ℕ) (t a₀ n : ℕ) (b : List ℕ) (s : ℕ) (o₀ : L
   pub storing-room : Room o at (listItem (treeOf l f) (part b w) (s + w .from))
   storing-room = room-first o at _ _ _ (g .room) (fields-list lens l t a left f b p (g .row) z e w q s)
 
-  pub storing-next : (r : ℕ) (o′ : List ℕ) → Stored o at (listItem (treeOf l f) (part b w) (s + w .from)) r o′ → Storing lens l t a₀ n b s o₀ at₀ o′ r (a + 1) (left - 1) (w .next)
+  pub storing-next : (r : ℕ) (o′ : List ℕ) → Stored o at (listItem (treeOf l f) (part b w) (s + w .from)) r o′ →
+      Storing lens l t a₀ n b s o₀ at₀ o′ r (a + 1) (left - 1) (w .next)
   storing-next r o′ h =
       let i = fields-list lens l t a left f b p (g .row) z e w q s in
       record {
@@ -99,7 +105,8 @@ module _ (lens l : List ℕ) (t a₀ n : ℕ) (b : List ℕ) (s : ℕ) (o₀ : L
         whole = g .whole ∙ rw (i, ← append-assoc);
       }
 
-pub storing-end : (lens l : List ℕ) (t a₀ n : ℕ) (b : List ℕ) (s : ℕ) (o₀ : List ℕ) (at₀ : ℕ) (o : List ℕ) (at a left p : ℕ) → Storing lens l t a₀ n b s o₀ at₀ o at a left p → left ≤ 0 → Stored o₀ at₀ (listFields (rowOf l t a₀ n) b 0 s) at o
+pub storing-end : (lens l : List ℕ) (t a₀ n : ℕ) (b : List ℕ) (s : ℕ) (o₀ : List ℕ) (at₀ : ℕ) (o : List ℕ) (at a left p : ℕ) →
+    Storing lens l t a₀ n b s o₀ at₀ o at a left p → left ≤ 0 → Stored o₀ at₀ (listFields (rowOf l t a₀ n) b 0 s) at o
 unfolding listItem
 storing-end lens l t a₀ n b s o₀ at₀ o at a left p g h =
     let e : listFields (rowOf l t a₀ n) b 0 s ≡ g .done = g .whole ∙ rw (fields-none l (trees l t) a left h, append-nil) in
@@ -118,7 +125,9 @@ module _ (l : List ℕ) (t : ℕ) (n : Node) (e : n ≡ nodeOf l t) (b : List �
   unfolding leafOf listItem
   leaf-list t n b s = go (eqb (n .kind) 0) (eqb (n .kind) 1) (eqb (n .kind) 2) (eqb (n .kind) 3) (eqb (n .kind) 4)
     where
-      go : (a c d f g : Bool) → listItem (pick a (number t (n .second)) (pick c (boolean t) (pick d (fixedBytes t (n .second)) (pick f (freeBytes t (n .second)) (pick g (bitVector t (n .second)) (bitList t (n .second))))))) b s ≡ entry t b s
+      go : (a c d f g : Bool) → listItem (pick a (number t (n .second))
+          (pick c (boolean t) (pick d (fixedBytes t (n .second))
+          (pick f (freeBytes t (n .second)) (pick g (bitVector t (n .second)) (bitList t (n .second))))))) b s ≡ entry t b s
       go true c d f g = refl
       go false true d f g = refl
       go false false true f g = refl
@@ -138,7 +147,8 @@ module _ (l : List ℕ) (lower : List Ty) (b : List ℕ) (s : ℕ) where
   unfolding listItem listed
   list-here w os k = go (eqb w 4294967295)
     where
-      go : (c : Bool) → listOption (pick c (bare k os) (body k (getD lower w (boolean 0)) os)) k b s ≡ pick c [] (listItem (getD lower w (boolean 0)) (drop 1 b) (s + 1))
+      go : (c : Bool) → listOption (pick c (bare k os) (body k (getD lower w (boolean 0)) os)) k b s ≡
+          pick c [] (listItem (getD lower w (boolean 0)) (drop 1 b) (s + 1))
       go true = rw (eq-eqb k k refl)
       go false = rw (eq-eqb k k refl)
 
@@ -152,7 +162,10 @@ module _ (l : List ℕ) (lower : List Ty) (b : List ℕ) (s : ℕ) where
   list-option zero a j k h i = absurd (omega arith)
   list-option (suc n) a j k h i = go (eqb k j) refl (list-option n (a + 1) (j + 1) k)
     where
-      go : (c : Bool) → eqb k j ≡ c → (j + 1 ≤ k → k < j + 1 + n → listOption (options l lower (a + 1) (j + 1) n) k b s ≡ listed (wordAt l (a + 1 + (k - (j + 1))))) → listOption (pick (eqb (wordAt l a) 4294967295) (bare j (options l lower (a + 1) (j + 1) n)) (body j (getD lower (wordAt l a) (boolean 0)) (options l lower (a + 1) (j + 1) n))) k b s ≡ listed (wordAt l (a + (k - j)))
+      go : (c : Bool) → eqb k j ≡ c → (j + 1 ≤ k → k < j + 1 + n →
+          listOption (options l lower (a + 1) (j + 1) n) k b s ≡ listed (wordAt l (a + 1 + (k - (j + 1))))) →
+          listOption (pick (eqb (wordAt l a) 4294967295) (bare j (options l lower (a + 1) (j + 1) n))
+          (body j (getD lower (wordAt l a) (boolean 0)) (options l lower (a + 1) (j + 1) n))) k b s ≡ listed (wordAt l (a + (k - j)))
       go true p f =
           let q : k ≡ j = eqb-true _ _ p in
           let m : a + (k - j) ≡ a = omega arith in
@@ -160,19 +173,26 @@ module _ (l : List ℕ) (lower : List Ty) (b : List ℕ) (s : ℕ) where
       go false p f =
           let q : k ≡ j → ⊥ = eqb-false _ _ p in
           let m : a + 1 + (k - (j + 1)) ≡ a + (k - j) = omega arith in
-          list-skip (eqb (wordAt l a) 4294967295) (getD lower (wordAt l a) (boolean 0)) (options l lower (a + 1) (j + 1) n) j k q ∙ rw m at (f (omega arith) (omega arith))
+          list-skip (eqb (wordAt l a) 4294967295) (getD lower (wordAt l a) (boolean 0)) (options l lower (a + 1) (j + 1) n) j k q ∙
+          rw m at (f (omega arith) (omega arith))
 
   list-chosen : (a n : ℕ) → getD b 0 0 < n → listOption (options l lower a 0 n) (getD b 0 0) b s ≡ listed (wordAt l (a + getD b 0 0))
   list-chosen a n h = let j : getD b 0 0 - 0 ≡ getD b 0 0 = omega arith in rw j at (list-option n a 0 (getD b 0 0) (omega arith) (omega arith))
 
 -- A container's and a union's parts are accepted, and stored behind their own record.
-module _ (lens l : List ℕ) (t : ℕ) (n : Node) (e : n ≡ nodeOf l t) (g : Under lens l (t + 1)) (b : List ℕ) (s : ℕ) (h : IsAccepted (readItem (treeOf l t) b s)) where
+module _ (lens l : List ℕ) (t : ℕ) (n : Node) (e : n ≡ nodeOf l t) (g : Under lens l (t + 1)) (b : List ℕ) (s : ℕ)
+    (h : IsAccepted (readItem (treeOf l t) b s)) where
   module _ (k : n .kind ≡ 6) where
-    container-both : (layOut (headsOf l t (n .at + 2) (n .second)) b ≡ Told.Fine) × IsAccepted (andThen (one 0 0) (readFields (rowOf l t (n .at + 2) (n .second)) b 0 s))
+    container-both : (layOut (headsOf l t (n .at + 2) (n .second)) b ≡ Told.Fine) ×
+        IsAccepted (andThen (one 0 0) (readFields (rowOf l t (n .at + 2) (n .second)) b 0 s))
     container-both = built-both _ t s _ (rw (container-read lens l t n e g k b s) at h)
 
     pub container-accepted : InRange (headsOf l t (n .at + 2) (n .second)) b 0 0 × IsAccepted (readFields (rowOf l t (n .at + 2) (n .second)) b 0 s)
-    container-accepted = (layout-ranges _ b (container-both .0), then-both (one 0 0) (readFields (rowOf l t (n .at + 2) (n .second)) b 0 s) (container-both .1) .1)
+    container-accepted = (
+      layout-ranges _ b (container-both .0),
+      then-both (one 0 0) (readFields (rowOf l t (n .at + 2) (n .second)) b 0 s)
+          (container-both .1) .1,
+    )
 
   module _ (k : n .kind ≡ 7) where
     union-list : getD b 0 0 < n .second → listItem (treeOf l t) b s ≡ entry t b s ++ listed l (trees l t) b s (wordAt l (n .at + 2 + getD b 0 0))
@@ -194,7 +214,13 @@ module _ (lens l : List ℕ) (t : ℕ) (n : Node) (e : n ≡ nodeOf l t) (g : Un
       union-body =
           let r = body-says l (n .at + 2) (n .second) b o (sym q) in
           let z = body-below lens l t n e g k b o q in
-          union-list (r .0) ∙ rw (← r .1, ne-eqb o 4294967295 (rw (← r .1) at (r .2)), trees-get l t o (boolean 0) (z .0), take-all (length b - 1) (drop 1 b) (simp length-drop (omega arith)))
+          union-list (r .0) ∙ rw (
+            ← r .1,
+            ne-eqb o 4294967295 (rw (← r .1) at (r .2)),
+            trees-get l t o (boolean 0) (z .0),
+            take-all (length b - 1)
+                (drop 1 b) (simp length-drop (omega arith)),
+          )
 
       pub body-accepted : IsAccepted (readItem (treeOf l o) (take (length b - 1) (drop 1 b)) (s + 1))
       body-accepted = then-both (one 1 0) (readItem (treeOf l o) (take (length b - 1) (drop 1 b)) (s + 1)) (rw (← body-read lens l t n e g k b o q s) at h) .1
@@ -215,7 +241,8 @@ pub room-long : (o : List ℕ) (at : ℕ) (x : Ty) (b : List ℕ) (s : ℕ) → 
 room-long o at x b s g = omega (arith, g .room, list-long x b s)
 
 -- An accepted message under a legal table: it is below 2^32 bytes, and there is room for as many records as it counts.
-pub under-accepted : (l m : List ℕ) (n : ℕ) (c : Counts) → underTable (Upto n) l m ≡ Accepted c → (readItem (messageType l n) m 0 ≡ Accepted c) × (length m < 2 ^ 32)
+pub under-accepted : (l m : List ℕ) (n : ℕ) (c : Counts) → underTable (Upto n) l m ≡ Accepted c →
+    (readItem (messageType l n) m 0 ≡ Accepted c) × (length m < 2 ^ 32)
 under-accepted l m n c e =
     let q = right-accepted (ltb 4294967295 (length m)) (readItem (messageType l n) m 0) TooLarge 0 0 c e in
     let k : length m ≤ 4294967295 = ltb-false _ _ (q .0) in

@@ -97,7 +97,8 @@ pub record Laying (lens l : List ℕ) (t a₀ n : ℕ) (b : List ℕ) (x : Progr
   pub within : x .pos ≤ length b
   pub same : register (headsOf l t a left) b x ≡ register (headsOf l t a₀ n) b fresh
 
-module _ (lens l : List ℕ) (t a₀ n : ℕ) (b : List ℕ) (x : Progress) (a left f : ℕ) (h : Head) (g : Laying lens l t a₀ n b x a left) (p : 0 < left) (e : f ≡ wordAt l a) (q : h ≡ head (treeOf l f)) where
+module _ (lens l : List ℕ) (t a₀ n : ℕ) (b : List ℕ) (x : Progress) (a left f : ℕ) (h : Head) (g : Laying lens l t a₀ n b x a left) (p : 0 < left)
+    (e : f ≡ wordAt l a) (q : h ≡ head (treeOf l f)) where
   laying-same : follow (step h b x) (register (headsOf l t (a + 1) (left - 1)) b) ≡ register (headsOf l t a₀ n) b fresh
   unfolding register
   laying-same = rw (row-heads lens l t a left f (g .row) p e h q) at (g .same)
@@ -109,7 +110,8 @@ module _ (lens l : List ℕ) (t a₀ n : ℕ) (b : List ℕ) (x : Progress) (a l
   unfolding layOut
   laying-bad r s = rw (← laying-same, s)
 
-pub laying-end : (lens l : List ℕ) (t a₀ n : ℕ) (b : List ℕ) (x : Progress) (a left : ℕ) → Laying lens l t a₀ n b x a left → left ≤ 0 → build (length b) x ≡ layOut (headsOf l t a₀ n) b
+pub laying-end : (lens l : List ℕ) (t a₀ n : ℕ) (b : List ℕ) (x : Progress) (a left : ℕ) → Laying lens l t a₀ n b x a left → left ≤ 0 →
+    build (length b) x ≡ layOut (headsOf l t a₀ n) b
 unfolding layOut register
 laying-end lens l t a₀ n b x a left g h = rw (← g .same, heads-none l t a left h)
 
@@ -121,7 +123,8 @@ pub fixed-step : (n : ℕ) (b : List ℕ) (x : Progress) → x .pos + n ≤ leng
 unfolding step
 fixed-step n b x h k = rw (le-ltb 4294967295 n (omega arith), le-ltb (length b) (x .pos + n) h)
 
-fixed-registers : (ts : Tys) (b : List ℕ) (p m : ℕ) → headAll ts ≡ Fixed m → p + m ≤ length b → length b < 2 ^ 32 → register (heads ts) b (at-pos p) ≡ Step.Next (at-pos (p + m))
+fixed-registers : (ts : Tys) (b : List ℕ) (p m : ℕ) → headAll ts ≡ Fixed m → p + m ≤ length b → length b < 2 ^ 32 →
+    register (heads ts) b (at-pos p) ≡ Step.Next (at-pos (p + m))
 unfolding register heads head at-pos
 fixed-registers end b p m e h k = let z : p + m ≡ p = let q : 0 ≡ m = fixed-injective 0 m e in omega arith in rw z
 fixed-registers (field t ts) b p m e h k =
@@ -139,7 +142,8 @@ fixed-laid ts b e k =
     let f : build (length b) (at-pos (length b)) ≡ Told.Fine = rw (eq-eqb (length b) (length b) refl) in
     sym (ap (λ (x : Step). ended x (build (length b))) r ∙ f)
 
-pub container-fixed : (lens l : List ℕ) (t : ℕ) (ts : Tys) (b : List ℕ) (k : ℕ) → Under lens l (t + 1) → treeOf l t ≡ container t ts → k ≡ getD lens t 0 → 0 < k → k ≡ length b → length b < 2 ^ 32 → Told.Fine ≡ layOut (heads ts) b
+pub container-fixed : (lens l : List ℕ) (t : ℕ) (ts : Tys) (b : List ℕ) (k : ℕ) → Under lens l (t + 1) → treeOf l t ≡ container t ts →
+    k ≡ getD lens t 0 → 0 < k → k ≡ length b → length b < 2 ^ 32 → Told.Fine ≡ layOut (heads ts) b
 unfolding head
 container-fixed lens l t ts b k g e q z h s =
     let f = len-head (head (treeOf l t)) k (q ∙ g .found t (omega arith)) (λ (v : k ≡ 0). omega arith) in
@@ -151,7 +155,8 @@ pub record Seeking (lens l : List ℕ) (t a₀ n : ℕ) (b : List ℕ) (p₀ a l
   pub ranges : InRange (headsOf l t a left) b p 0
   pub same : next (headsOf l t a left) b p ≡ next (headsOf l t a₀ n) b p₀
 
-module _ (lens l : List ℕ) (t a₀ n : ℕ) (b : List ℕ) (p₀ a left p f k : ℕ) (g : Seeking lens l t a₀ n b p₀ a left p) (z : 0 < left) (e : f ≡ wordAt l a) (q : k ≡ getD lens f 0) where
+module _ (lens l : List ℕ) (t a₀ n : ℕ) (b : List ℕ) (p₀ a left p f k : ℕ) (g : Seeking lens l t a₀ n b p₀ a left p) (z : 0 < left)
+    (e : f ≡ wordAt l a) (q : k ≡ getD lens f 0) where
   pub seeking-found : k ≡ 0 → four b p ≡ next (headsOf l t a₀ n) b p₀
   unfolding next
   seeking-found v = rw (row-heads lens l t a left f (g .row) z e Variable (row-variable lens l t a left f (g .row) z e k q v)) at (g .same)
@@ -173,12 +178,14 @@ module _ (lens l : List ℕ) (t a₀ n : ℕ) (b : List ℕ) (p₀ a left p f k 
           same = rw seeking-heads at (g .same);
         }
 
-pub seeking-end : (lens l : List ℕ) (t a₀ n : ℕ) (b : List ℕ) (p₀ a left p : ℕ) → Seeking lens l t a₀ n b p₀ a left p → left ≤ 0 → length b ≡ next (headsOf l t a₀ n) b p₀
+pub seeking-end : (lens l : List ℕ) (t a₀ n : ℕ) (b : List ℕ) (p₀ a left p : ℕ) → Seeking lens l t a₀ n b p₀ a left p → left ≤ 0 →
+    length b ≡ next (headsOf l t a₀ n) b p₀
 unfolding next
 seeking-end lens l t a₀ n b p₀ a left p g h = rw (heads-none l t a left h) at (g .same)
 
 -- Where the first field lies.
-module _ (lens l : List ℕ) (t a left f : ℕ) (b : List ℕ) (p : ℕ) (g : Row lens l t a left) (z : 0 < left) (e : f ≡ wordAt l a) (r : InRange (headsOf l t a left) b p 0) where
+module _ (lens l : List ℕ) (t a left f : ℕ) (b : List ℕ) (p : ℕ) (g : Row lens l t a left) (z : 0 < left) (e : f ≡ wordAt l a)
+    (r : InRange (headsOf l t a left) b p 0) where
   first-ranges : (h : Head) → h ≡ head (treeOf l f) → InRange (h ∷ headsOf l t (a + 1) (left - 1)) b p 0
   first-ranges h q = rw (row-heads lens l t a left f g z e h q) at r
 

@@ -27,7 +27,8 @@ bits-counted b limit k c e f = rw (e, f) (refl, length-raw b k)
 mutual
   unfolding readItem unfoldWords unfoldBytes
 
-  pub form-counted : (t : Ty) (b : List ℕ) (s : ℕ) (c : Counts) → readItem t b s ≡ Accepted c → (length (unfoldWords t b) ≡ c .words) × (length (unfoldBytes t b) ≡ c .bytes)
+  pub form-counted : (t : Ty) (b : List ℕ) (s : ℕ) (c : Counts) → readItem t b s ≡ Accepted c →
+      (length (unfoldWords t b) ≡ c .words) × (length (unfoldBytes t b) ≡ c .bytes)
   form-counted (number t w) b s c e = let q = leaf-accepted (eqb (length b) w) 0 (length b) _ t s c e in (rw (q .1), rw (q .1))
   form-counted (boolean t) b s c e =
       let p = left-accepted (eqb (length b) 1) _ _ t s c e in

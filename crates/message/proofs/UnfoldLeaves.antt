@@ -48,7 +48,8 @@ copying-next o at s o′ i g h =
     let q : take (i + 1) s ≡ take i s ++ (getD s i 0 ∷ []) = rw (add-one i, take-suc s i 0) in
     record {
       within = omega arith;
-      stored = stored-then o at (take i s) (at + i) o′ (getD s i 0 ∷ []) (at + (i + 1)) _ (take (i + 1) s) (g .stored) (rw e at (stored-one o′ (at + i) (getD s i 0))) q;
+      stored = stored-then o at (take i s) (at + i) o′ (getD s i 0 ∷ []) (at + (i + 1)) _ (take (i + 1) s) (g .stored)
+          (rw e at (stored-one o′ (at + i) (getD s i 0))) q;
     }
 
 pub copying-end : (o : List ℕ) (at : ℕ) (s o′ : List ℕ) (i : ℕ) → Copying o at s o′ i → length s ≤ i → Stored o at s (at + i) o′
@@ -185,13 +186,21 @@ pub leaf-bits : (t : ℕ) (n : Node) → 5 ≤ n .kind → leafOf t n ≡ bitLis
 unfolding leafOf
 leaf-bits t n h =
     let no : (i : ℕ) → i < 5 → n .kind ≡ i → ⊥ = λ (i : ℕ) (k : i < 5) (e : n .kind ≡ i). omega arith in
-    rw (ne-eqb _ 0 (no 0 (omega arith)), ne-eqb _ 1 (no 1 (omega arith)), ne-eqb _ 2 (no 2 (omega arith)), ne-eqb _ 3 (no 3 (omega arith)), ne-eqb _ 4 (no 4 (omega arith)))
+    rw (
+      ne-eqb _ 0 (no 0 (omega arith)),
+      ne-eqb _ 1 (no 1 (omega arith)),
+      ne-eqb _ 2 (no 2 (omega arith)),
+      ne-eqb _ 3 (no 3 (omega arith)),
+      ne-eqb _
+          4 (no 4 (omega arith)),
+    )
 
 pub leaf-plain : (t : ℕ) (n : Node) (b : List ℕ) → (n .kind ≡ 3 → ⊥) → n .kind < 5 → (unfoldWords (leafOf t n) b ≡ []) × (unfoldBytes (leafOf t n) b ≡ b)
 unfolding leafOf unfoldWords unfoldBytes
 leaf-plain t n b f h = go (n .kind) f h
   where
-    go : (i : ℕ) → (i ≡ 3 → ⊥) → i < 5 → (unfoldWords (leafOf t (record { kind = i; at = n .at; second = n .second })) b ≡ []) × (unfoldBytes (leafOf t (record { kind = i; at = n .at; second = n .second })) b ≡ b)
+    go : (i : ℕ) → (i ≡ 3 → ⊥) → i < 5 → (unfoldWords (leafOf t (record { kind = i; at = n .at; second = n .second })) b ≡ []) ×
+        (unfoldBytes (leafOf t (record { kind = i; at = n .at; second = n .second })) b ≡ b)
     go zero f h = (refl, refl)
     go (suc zero) f h = (refl, refl)
     go (suc (suc zero)) f h = (refl, refl)
@@ -211,7 +220,8 @@ module _ (t : ℕ) (n : Node) (b o p : List ℕ) (at : Place) where
     unfolding unfoldWords unfoldBytes
     free-rooms g = rw (leaf-free t n k) at g
 
-    pub free-filled : (r : Place) (o′ p′ : List ℕ) → Filled o p at (length b ∷ []) b r o′ p′ → Filled o p at (unfoldWords (leafOf t n) b) (unfoldBytes (leafOf t n) b) r o′ p′
+    pub free-filled : (r : Place) (o′ p′ : List ℕ) → Filled o p at (length b ∷ []) b r o′ p′ →
+        Filled o p at (unfoldWords (leafOf t n) b) (unfoldBytes (leafOf t n) b) r o′ p′
     unfolding unfoldWords unfoldBytes
     free-filled r o′ p′ g = rw (leaf-free t n k) g
 
@@ -219,7 +229,8 @@ module _ (t : ℕ) (n : Node) (b o p : List ℕ) (at : Place) where
     pub plain-room : Rooms o p at (unfoldWords (leafOf t n) b) (unfoldBytes (leafOf t n) b) → Room p (at .byte) b
     plain-room g = rw (leaf-plain t n b k h .1) at (g .bytes)
 
-    pub plain-filled : (r : ℕ) (p′ : List ℕ) → Stored p (at .byte) b r p′ → Filled o p at (unfoldWords (leafOf t n) b) (unfoldBytes (leafOf t n) b) (record { word = at .word; byte = r }) o p′
+    pub plain-filled : (r : ℕ) (p′ : List ℕ) → Stored p (at .byte) b r p′ →
+        Filled o p at (unfoldWords (leafOf t n) b) (unfoldBytes (leafOf t n) b) (record { word = at .word; byte = r }) o p′
     plain-filled r p′ g =
         record {
           words = stored-none o (at .word) (unfoldWords (leafOf t n) b) (leaf-plain t n b k h .0);
@@ -231,9 +242,11 @@ module _ (t : ℕ) (n : Node) (b o p : List ℕ) (at : Place) where
     unfolding unfoldWords unfoldBytes
     bits-rooms g = rw (leaf-bits t n k, ← e) at g
 
-    pub bits-filled : (r : Place) (o′ p′ : List ℕ) → Filled o p at (c ∷ []) (rawOf b c) r o′ p′ → Filled o p at (unfoldWords (leafOf t n) b) (unfoldBytes (leafOf t n) b) r o′ p′
+    pub bits-filled : (r : Place) (o′ p′ : List ℕ) → Filled o p at (c ∷ []) (rawOf b c) r o′ p′ →
+        Filled o p at (unfoldWords (leafOf t n) b) (unfoldBytes (leafOf t n) b) r o′ p′
     unfolding unfoldWords unfoldBytes
     bits-filled r o′ p′ g = rw (leaf-bits t n k, ← e) g
 
-pub bits-never : {A : Type 0} (t : ℕ) (n : Node) (b : List ℕ) → 5 ≤ n .kind → (r : Refusal) → BodyBits.Refused r ≡ bitListBody b (n .second) → Accepts (leafOf t n) b → A
+pub bits-never : {A : Type 0} (t : ℕ) (n : Node) (b : List ℕ) → 5 ≤ n .kind → (r : Refusal) → BodyBits.Refused r ≡ bitListBody b (n .second) →
+    Accepts (leafOf t n) b → A
 bits-never t n b k r e g = absurd (bits-refused t (n .second) b r e (rw (leaf-bits t n k) at g))

@@ -87,7 +87,8 @@ mutual
 
   unfolds-option :
       (os : Opts) (v : Option os) (k : ℕ) → Rising k os → LegalOptions os → OkOption os v → length (selector os v ∷ payload os v) < 2 ^ 32
-      → (selector os v ∷ wordsOption os (selector os v) (selector os v ∷ payload os v) ≡ contentsOption os v) × (bytesOption os (selector os v) (selector os v ∷ payload os v) ≡ bodiesOption os v)
+      → (selector os v ∷ wordsOption os (selector os v) (selector os v ∷ payload os v) ≡ contentsOption os v) ×
+      (bytesOption os (selector os v) (selector os v ∷ payload os v) ≡ bodiesOption os v)
   unfolds-option over v k g l h n = absurd v
   unfolds-option (bare j os) (inl x) k g l h n = (rw (eq-eqb j j refl), rw (eq-eqb j j refl))
   unfolds-option (bare j os) (inr v) k g l h n =
@@ -135,7 +136,8 @@ module _ (l : List ℕ) (n : ℕ) (h : Bytes l) (e : tableOf l ≡ Upto n) (m : 
   pub unfold-value :
       (v : Val (messageType l n)) → Ok (messageType l n) v → serialize (messageType l n) v ≡ m
       → length (contents (messageType l n) v) ≤ length o → length (bodies (messageType l n) v) ≤ length p
-      → (unfoldMessage l m o p ≡ Unfolded.Sizes (length (contents (messageType l n) v)) (length (bodies (messageType l n) v))) × (unfoldedWords l m o p ≡ sets o 0 (contents (messageType l n) v)) × (unfoldedBytes l m o p ≡ sets p 0 (bodies (messageType l n) v))
+      → (unfoldMessage l m o p ≡ Unfolded.Sizes (length (contents (messageType l n) v)) (length (bodies (messageType l n) v))) ×
+      (unfoldedWords l m o p ≡ sets o 0 (contents (messageType l n) v)) × (unfoldedBytes l m o p ≡ sets p 0 (bodies (messageType l n) v))
   unfold-value v g s i j =
       let t = messageType l n in
       let legal = message-legal l n h e m k in
@@ -147,7 +149,9 @@ module _ (l : List ℕ) (n : ℕ) (h : Bytes l) (e : tableOf l ≡ Upto n) (m : 
 
   pub unfold-accepted :
       (w y : ℕ) → Bytes m → unfoldMessage l m o p ≡ Unfolded.Sizes w y
-      → (v : Val (messageType l n)) × Ok (messageType l n) v × (serialize (messageType l n) v ≡ m) × (w ≡ length (contents (messageType l n) v)) × (y ≡ length (bodies (messageType l n) v)) × (unfoldedWords l m o p ≡ sets o 0 (contents (messageType l n) v)) × (unfoldedBytes l m o p ≡ sets p 0 (bodies (messageType l n) v))
+      → (v : Val (messageType l n)) × Ok (messageType l n) v × (serialize (messageType l n) v ≡ m) × (w ≡ length (contents (messageType l n) v)) ×
+      (y ≡ length (bodies (messageType l n) v)) × (unfoldedWords l m o p ≡ sets o 0 (contents (messageType l n) v)) ×
+      (unfoldedBytes l m o p ≡ sets p 0 (bodies (messageType l n) v))
   unfolding unfoldMessage
   unfold-accepted w y i f =
       let t = messageType l n in
@@ -166,7 +170,9 @@ kept : (x : Answer) (o p q y : List ℕ) (r : Refusal) (t s : ℕ) → unfoldedO
 kept (Refused r t s) o p q y r′ t′ s′ e = refl
 kept (Accepted c) o p q y r t s e = go (ltb (length o) (c .words)) (ltb (length p) (c .bytes)) e
   where
-    go : (a b : Bool) → pick a (Unfolded.Refused (NoRoom (c .words) (c .bytes)) 0 0) (pick b (Unfolded.Refused (NoRoom (c .words) (c .bytes)) 0 0) (Unfolded.Sizes (c .words) (c .bytes))) ≡ Unfolded.Refused r t s → pick a q (pick b q (sets q 0 y)) ≡ q
+    go : (a b : Bool) → pick a (Unfolded.Refused (NoRoom (c .words) (c .bytes)) 0 0)
+        (pick b (Unfolded.Refused (NoRoom (c .words) (c .bytes)) 0 0) (Unfolded.Sizes (c .words) (c .bytes))) ≡ Unfolded.Refused r t s →
+        pick a q (pick b q (sets q 0 y)) ≡ q
     go true b f = refl
     go false true f = refl
     go false false f = let z : _≡_ {A = ℕ} 0 1 = cc in absurd (omega arith)

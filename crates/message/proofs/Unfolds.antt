@@ -81,7 +81,8 @@ pub selector-filled :
 selector-filled o p at x r o′ g e = record { words = g; bytes = record { list = refl; ends = e ∙ sym (add-zero (at .byte)) } }
 
 -- The first field's value form, and that of the rest
-module _ (lens l : List ℕ) (t a left f : ℕ) (b : List ℕ) (q : ℕ) (g : Row lens l t a left) (z : 0 < left) (e : f ≡ wordAt l a) (w : Span) (i : w ≡ spanOf (head (treeOf l f)) (headsOf l t (a + 1) (left - 1)) b q) where
+module _ (lens l : List ℕ) (t a left f : ℕ) (b : List ℕ) (q : ℕ) (g : Row lens l t a left) (z : 0 < left) (e : f ≡ wordAt l a) (w : Span)
+    (i : w ≡ spanOf (head (treeOf l f)) (headsOf l t (a + 1) (left - 1)) b q) where
   fields-words : wordsFields (rowOf l t a left) b q ≡ unfoldWords (treeOf l f) (part b w) ++ wordsFields (rowOf l t (a + 1) (left - 1)) b (w .next)
   unfolding unfoldWords
   fields-words = rw (fields-first l t a left (g .lower) z, i, e)
@@ -102,15 +103,19 @@ pub record Filling (lens l : List ℕ) (t a₀ n : ℕ) (b o₀ p₀ : List ℕ)
   pub all-words : wordsFields (rowOf l t a₀ n) b 0 ≡ words ++ wordsFields (rowOf l t a left) b q
   pub all-bytes : bytesFields (rowOf l t a₀ n) b 0 ≡ bytes ++ bytesFields (rowOf l t a left) b q
 
-module _ (lens l : List ℕ) (t a₀ n : ℕ) (b o₀ p₀ : List ℕ) (at₀ : Place) (o p : List ℕ) (at : Place) (a left q f : ℕ) (g : Filling lens l t a₀ n b o₀ p₀ at₀ o p at a left q) (z : 0 < left) (e : f ≡ wordAt l a) (w : Span) (i : w ≡ spanOf (head (treeOf l f)) (headsOf l t (a + 1) (left - 1)) b q) where
+module _ (lens l : List ℕ) (t a₀ n : ℕ) (b o₀ p₀ : List ℕ) (at₀ : Place) (o p : List ℕ) (at : Place) (a left q f : ℕ)
+    (g : Filling lens l t a₀ n b o₀ p₀ at₀ o p at a left q) (z : 0 < left) (e : f ≡ wordAt l a) (w : Span)
+    (i : w ≡ spanOf (head (treeOf l f)) (headsOf l t (a + 1) (left - 1)) b q) where
   filling-both : IsAccepted (readItem (treeOf l f) (part b w) (0 + w .from)) × IsAccepted (readFields (rowOf l t (a + 1) (left - 1)) b (w .next) 0)
-  filling-both = then-both (readItem (treeOf l f) (part b w) (0 + w .from)) (readFields (rowOf l t (a + 1) (left - 1)) b (w .next) 0) (rw (fields-read lens l t a left f b q (g .row) z e w i 0) at (g .accepted .accepted))
+  filling-both = then-both (readItem (treeOf l f) (part b w) (0 + w .from)) (readFields (rowOf l t (a + 1) (left - 1)) b (w .next) 0)
+      (rw (fields-read lens l t a left f b q (g .row) z e w i 0) at (g .accepted .accepted))
 
   pub filling-accepts : Accepts (treeOf l f) (part b w)
   filling-accepts = accepts-at (treeOf l f) (part b w) (0 + w .from) (filling-both .0)
 
   pub filling-rooms : Rooms o p at (unfoldWords (treeOf l f) (part b w)) (unfoldBytes (treeOf l f) (part b w))
-  filling-rooms = rooms-first o p at _ _ _ _ _ _ (g .rooms) (fields-words lens l t a left f b q (g .row) z e w i) (fields-bytes lens l t a left f b q (g .row) z e w i)
+  filling-rooms = rooms-first o p at _ _ _ _ _ _ (g .rooms) (fields-words lens l t a left f b q (g .row) z e w i)
+      (fields-bytes lens l t a left f b q (g .row) z e w i)
 
   pub filling-next :
       (r : Place) (o′ p′ : List ℕ) → Filled o p at (unfoldWords (treeOf l f) (part b w)) (unfoldBytes (treeOf l f) (part b w)) r o′ p′
@@ -144,7 +149,9 @@ filling-end lens l t a₀ n b o₀ p₀ at₀ o p at a left q g h =
 made : List Ty → List ℕ → (Ty → List ℕ → List ℕ) → ℕ → List ℕ
 made lower b item w = pick (eqb w 4294967295) [] (item (getD lower w (boolean 0)) (drop 1 b))
 
-module _ (l : List ℕ) (lower : List Ty) (b : List ℕ) (item : Ty → List ℕ → List ℕ) (option : Opts → ℕ → List ℕ → List ℕ) (at-bare : (j : ℕ) (os : Opts) (k : ℕ) → option (bare j os) k b ≡ pick (eqb k j) [] (option os k b)) (at-body : (j : ℕ) (o : Ty) (os : Opts) (k : ℕ) → option (body j o os) k b ≡ pick (eqb k j) (item o (drop 1 b)) (option os k b)) where
+module _ (l : List ℕ) (lower : List Ty) (b : List ℕ) (item : Ty → List ℕ → List ℕ) (option : Opts → ℕ → List ℕ → List ℕ)
+    (at-bare : (j : ℕ) (os : Opts) (k : ℕ) → option (bare j os) k b ≡ pick (eqb k j) [] (option os k b))
+    (at-body : (j : ℕ) (o : Ty) (os : Opts) (k : ℕ) → option (body j o os) k b ≡ pick (eqb k j) (item o (drop 1 b)) (option os k b)) where
   made-here : (w : ℕ) (os : Opts) (k : ℕ) → option (pick (eqb w 4294967295) (bare k os) (body k (getD lower w (boolean 0)) os)) k b ≡ made lower b item w
   unfolding made
   made-here w os k = go (eqb w 4294967295)
@@ -162,7 +169,10 @@ module _ (l : List ℕ) (lower : List Ty) (b : List ℕ) (item : Ty → List ℕ
   made-option zero a j k h i = absurd (omega arith)
   made-option (suc n) a j k h i = go (eqb k j) refl (made-option n (a + 1) (j + 1) k)
     where
-      go : (c : Bool) → eqb k j ≡ c → (j + 1 ≤ k → k < j + 1 + n → option (options l lower (a + 1) (j + 1) n) k b ≡ made lower b item (wordAt l (a + 1 + (k - (j + 1))))) → option (pick (eqb (wordAt l a) 4294967295) (bare j (options l lower (a + 1) (j + 1) n)) (body j (getD lower (wordAt l a) (boolean 0)) (options l lower (a + 1) (j + 1) n))) k b ≡ made lower b item (wordAt l (a + (k - j)))
+      go : (c : Bool) → eqb k j ≡ c → (j + 1 ≤ k → k < j + 1 + n →
+          option (options l lower (a + 1) (j + 1) n) k b ≡ made lower b item (wordAt l (a + 1 + (k - (j + 1))))) →
+          option (pick (eqb (wordAt l a) 4294967295) (bare j (options l lower (a + 1) (j + 1) n))
+          (body j (getD lower (wordAt l a) (boolean 0)) (options l lower (a + 1) (j + 1) n))) k b ≡ made lower b item (wordAt l (a + (k - j)))
       go true p f =
           let q : k ≡ j = eqb-true _ _ p in
           let m : a + (k - j) ≡ a = omega arith in
@@ -170,7 +180,8 @@ module _ (l : List ℕ) (lower : List Ty) (b : List ℕ) (item : Ty → List ℕ
       go false p f =
           let q : k ≡ j → ⊥ = eqb-false _ _ p in
           let m : a + 1 + (k - (j + 1)) ≡ a + (k - j) = omega arith in
-          made-skip (eqb (wordAt l a) 4294967295) (getD lower (wordAt l a) (boolean 0)) (options l lower (a + 1) (j + 1) n) j k q ∙ rw m at (f (omega arith) (omega arith))
+          made-skip (eqb (wordAt l a) 4294967295) (getD lower (wordAt l a) (boolean 0)) (options l lower (a + 1) (j + 1) n) j k q ∙
+          rw m at (f (omega arith) (omega arith))
 
   made-chosen : (a n : ℕ) → getD b 0 0 < n → option (options l lower a 0 n) (getD b 0 0) b ≡ made lower b item (wordAt l (a + getD b 0 0))
   made-chosen a n h = let j : getD b 0 0 - 0 ≡ getD b 0 0 = omega arith in rw j at (made-option n a 0 (getD b 0 0) (omega arith) (omega arith))
@@ -205,11 +216,13 @@ module _ (lens l : List ℕ) (t : ℕ) (n : Node) (e : n ≡ nodeOf l t) (g : Un
     unfolding unfoldBytes
     container-bytes = rw (as-container l t n e k)
 
-    pub container-rooms : (o p : List ℕ) (at : Place) → Rooms o p at (unfoldWords (treeOf l t) b) (unfoldBytes (treeOf l t) b) → Rooms o p at (wordsFields (rowOf l t (n .at + 2) (n .second)) b 0) (bytesFields (rowOf l t (n .at + 2) (n .second)) b 0)
+    pub container-rooms : (o p : List ℕ) (at : Place) → Rooms o p at (unfoldWords (treeOf l t) b) (unfoldBytes (treeOf l t) b) →
+        Rooms o p at (wordsFields (rowOf l t (n .at + 2) (n .second)) b 0) (bytesFields (rowOf l t (n .at + 2) (n .second)) b 0)
     container-rooms o p at r = rw (container-words, container-bytes) at r
 
     pub container-filled :
-        (o p : List ℕ) (at r : Place) (o′ p′ : List ℕ) → Filled o p at (wordsFields (rowOf l t (n .at + 2) (n .second)) b 0) (bytesFields (rowOf l t (n .at + 2) (n .second)) b 0) r o′ p′
+        (o p : List ℕ) (at r : Place) (o′ p′ : List ℕ) → Filled o p at (wordsFields (rowOf l t (n .at + 2) (n .second)) b 0)
+        (bytesFields (rowOf l t (n .at + 2) (n .second)) b 0) r o′ p′
         → Filled o p at (unfoldWords (treeOf l t) b) (unfoldBytes (treeOf l t) b) r o′ p′
     container-filled o p at r o′ p′ q = rw (container-words, container-bytes) q
 
@@ -217,7 +230,8 @@ module _ (lens l : List ℕ) (t : ℕ) (n : Node) (e : n ≡ nodeOf l t) (g : Un
     pub leaf-accepts : Accepts (leafOf t n) b
     leaf-accepts = rw (as-leaf l t n e c u) at h
 
-    pub leaf-rooms : (o p : List ℕ) (at : Place) → Rooms o p at (unfoldWords (treeOf l t) b) (unfoldBytes (treeOf l t) b) → Rooms o p at (unfoldWords (leafOf t n) b) (unfoldBytes (leafOf t n) b)
+    pub leaf-rooms : (o p : List ℕ) (at : Place) → Rooms o p at (unfoldWords (treeOf l t) b) (unfoldBytes (treeOf l t) b) →
+        Rooms o p at (unfoldWords (leafOf t n) b) (unfoldBytes (leafOf t n) b)
     leaf-rooms o p at r = rw (as-leaf l t n e c u) at r
 
     pub leaf-filled :
@@ -263,12 +277,19 @@ module _ (lens l : List ℕ) (t : ℕ) (n : Node) (e : n ≡ nodeOf l t) (g : Un
     never r q = union-never lens l t n e g b 0 (h .accepted) k r q
 
     module _ (o : ℕ) (q : Choice.Body o ≡ choose l (n .at + 2) (n .second) b) where
-      body-made : (item : Ty → List ℕ → List ℕ) → made (trees l t) b item (wordAt l (n .at + 2 + getD b 0 0)) ≡ item (treeOf l o) (take (length b - 1) (drop 1 b))
+      body-made : (item : Ty → List ℕ → List ℕ) → made (trees l t) b item (wordAt l (n .at + 2 + getD b 0 0)) ≡
+          item (treeOf l o) (take (length b - 1) (drop 1 b))
       unfolding made
       body-made item =
           let r = body-says l (n .at + 2) (n .second) b o (sym q) in
           let z = body-below lens l t n e g k b o q in
-          rw (← r .1, ne-eqb o 4294967295 (rw (← r .1) at (r .2)), trees-get l t o (boolean 0) (z .0), take-all (length b - 1) (drop 1 b) (simp length-drop (omega arith)))
+          rw (
+            ← r .1,
+            ne-eqb o 4294967295 (rw (← r .1) at (r .2)),
+            trees-get l t o (boolean 0) (z .0),
+            take-all (length b - 1) (drop 1 b)
+                (simp length-drop (omega arith)),
+          )
 
       pub body-words : unfoldWords (treeOf l t) b ≡ (getD b 0 0 ∷ []) ++ unfoldWords (treeOf l o) (take (length b - 1) (drop 1 b))
       body-words =

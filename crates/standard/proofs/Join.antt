@@ -27,7 +27,8 @@ next-between (Fixed k ∷ hs) b p n r = next-between hs b (p + k) n (r .1)
 next-between (Variable ∷ hs) b p n r = (r .2, r .1)
 
 -- Where the first item lies, and what is left.
-pub span-ranges : (h : Head) (hs : List Head) (b : List ℕ) (p : ℕ) → InRange (h ∷ hs) b p 0 → (spanOf h hs b p .from ≤ spanOf h hs b p .to) × (spanOf h hs b p .to ≤ length b) × InRange hs b (spanOf h hs b p .next) 0
+pub span-ranges : (h : Head) (hs : List Head) (b : List ℕ) (p : ℕ) → InRange (h ∷ hs) b p 0 →
+    (spanOf h hs b p .from ≤ spanOf h hs b p .to) × (spanOf h hs b p .to ≤ length b) × InRange hs b (spanOf h hs b p .next) 0
 unfolding InRange
 span-ranges (Fixed n) hs b p r = (omega arith, r .0, r .1)
 span-ranges Variable hs b p r =
@@ -108,7 +109,8 @@ record Stand (xs : List Part) (b : List ℕ) (p off : ℕ) (rest : List ℕ) : T
   off-in : off ≤ length b
 
 module _ (b : List ℕ) (small : length b < 2 ^ 32) where
-  stand-fixed : (n : ℕ) (s : List ℕ) (xs : List Part) (p off : ℕ) (rest : List ℕ) → length s ≡ n → Stand (piece (Fixed n) s ∷ xs) b p off rest → (p + n ≤ length b) × (take n (drop p b) ≡ s) × Stand xs b (p + n) off rest
+  stand-fixed : (n : ℕ) (s : List ℕ) (xs : List Part) (p off : ℕ) (rest : List ℕ) → length s ≡ n → Stand (piece (Fixed n) s ∷ xs) b p off rest →
+      (p + n ≤ length b) × (take n (drop p b) ≡ s) × Stand xs b (p + n) off rest
   unfolding fronts backs
   stand-fixed n s xs p off rest e g =
       let h = g .fronts-at ∙ append-assoc s (fronts xs off) rest in
@@ -123,7 +125,9 @@ module _ (b : List ℕ) (small : length b < 2 ^ 32) where
         },
       )
 
-  stand-variable : (s : List ℕ) (xs : List Part) (p off : ℕ) (rest : List ℕ) → Stand (piece Variable s ∷ xs) b p off rest → (p + 4 ≤ length b) × (four b p ≡ off) × (take (length s) (drop off b) ≡ s) × (off + length s ≤ length b) × Stand xs b (p + 4) (off + length s) rest
+  stand-variable : (s : List ℕ) (xs : List Part) (p off : ℕ) (rest : List ℕ) → Stand (piece Variable s ∷ xs) b p off rest →
+      (p + 4 ≤ length b) × (four b p ≡ off) × (take (length s) (drop off b) ≡ s) × (off + length s ≤ length b) ×
+      Stand xs b (p + 4) (off + length s) rest
   unfolding fronts backs
   stand-variable s xs p off rest g =
       let h = g .fronts-at ∙ append-assoc (le 4 off) (fronts xs (off + length s)) rest in
@@ -141,7 +145,8 @@ module _ (b : List ℕ) (small : length b < 2 ^ 32) where
         },
       )
 
-  stand-split : (xs : List Part) (p off : ℕ) (rest : List ℕ) → Sized xs → Stand xs b p off rest → (next (partHeads xs) b p ≡ off) × (split (partHeads xs) b p ≡ xs) × InRange (partHeads xs) b p off
+  stand-split : (xs : List Part) (p off : ℕ) (rest : List ℕ) → Sized xs → Stand xs b p off rest →
+      (next (partHeads xs) b p ≡ off) × (split (partHeads xs) b p ≡ xs) × InRange (partHeads xs) b p off
   unfolding Sized Size partHeads next split InRange backs
   stand-split [] p off rest z g =
       let j = simp length-drop at (ap length (g .backs-at)) in
@@ -161,7 +166,8 @@ module _ (b : List ℕ) (small : length b < 2 ^ 32) where
       )
 
 module _ (xs : List Part) (z : Sized xs) (small : length (join xs) < 2 ^ 32) where
-  join-stands : (next (partHeads xs) (join xs) 0 ≡ fixedLengths xs) × (split (partHeads xs) (join xs) 0 ≡ xs) × InRange (partHeads xs) (join xs) 0 (fixedLengths xs)
+  join-stands : (next (partHeads xs) (join xs) 0 ≡ fixedLengths xs) × (split (partHeads xs) (join xs) 0 ≡ xs) ×
+      InRange (partHeads xs) (join xs) 0 (fixedLengths xs)
   unfolding join
   join-stands =
       let k = length-fronts xs (fixedLengths xs) in

@@ -230,7 +230,8 @@ mutual
       let q = injective-all ts (vs .1) (ws .1) (l .1) (h .1) (g .1) (k .1) (piece-rest (head t) (serialize t (vs .0)) (serialize t (ws .0)) _ _ e) in
       ap₂ (λ (x : Val t) (y : Vals ts). (x, y)) p q
 
-  injective-option : (os : Opts) (v w : Option os) (k : ℕ) → Rising k os → LegalOptions os → OkOption os v → OkOption os w → length (selected os v) < 2 ^ 32 → selected os v ≡ selected os w → v ≡ w
+  injective-option : (os : Opts) (v w : Option os) (k : ℕ) → Rising k os → LegalOptions os → OkOption os v → OkOption os w →
+      length (selected os v) < 2 ^ 32 → selected os v ≡ selected os w → v ≡ w
   injective-option over v w k r l h g n e = absurd v
   injective-option (bare s os) (inl x) (inl y) k r l h g n e = refl
   injective-option (bare s os) (inl x) (inr w) k r l h g n e = apart os s [] w (r .2) e

@@ -20,7 +20,8 @@ sets-out [] l i h = refl
 sets-out (x ∷ xs) l i h = rw (set-out l i x h) (sets-out xs l (suc i) (omega arith))
 
 -- First xs, then ys: together x.
-pub stored-then : (o : List ℕ) (at : ℕ) (xs : List ℕ) (n : ℕ) (o₁ ys : List ℕ) (r : ℕ) (o₂ x : List ℕ) → Stored o at xs n o₁ → Stored o₁ n ys r o₂ → x ≡ xs ++ ys → Stored o at x r o₂
+pub stored-then : (o : List ℕ) (at : ℕ) (xs : List ℕ) (n : ℕ) (o₁ ys : List ℕ) (r : ℕ) (o₂ x : List ℕ) → Stored o at xs n o₁ → Stored o₁ n ys r o₂ →
+    x ≡ xs ++ ys → Stored o at x r o₂
 stored-then o at xs n o₁ ys r o₂ x g h q =
     record {
       list = h .list ∙ rw (g .list, g .ends, q) (sets-append xs ys o at);

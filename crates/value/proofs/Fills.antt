@@ -62,7 +62,8 @@ module _ (o : List ℕ) (at : ℕ) (s : List ℕ) where
   copying-all o′ i g h = sym (ap (sets o′ (at + i)) (drop-of-length-le s h)) ∙ g .rest
 
 -- n bytes of the bodies.
-pub part-stored : (o : List ℕ) (at : ℕ) (b : List ℕ) (i j n : ℕ) (o′ : List ℕ) → j + n ≤ length b → o′ ≡ sets o at (take (j + n - j) (drop j b)) → Put o at (bytesAt b j n) (upto i (j + n)) (record { word = i; byte = j + n; to = at + n }) o′
+pub part-stored : (o : List ℕ) (at : ℕ) (b : List ℕ) (i j n : ℕ) (o′ : List ℕ) → j + n ≤ length b → o′ ≡ sets o at (take (j + n - j) (drop j b)) →
+    Put o at (bytesAt b j n) (upto i (j + n)) (record { word = i; byte = j + n; to = at + n }) o′
 part-stored o at b i j n o′ h e =
     let q : j + n - j ≡ n = omega arith in
     record {
@@ -72,7 +73,9 @@ part-stored o at b i j n o′ h e =
     }
 
 -- A bit list: its full bytes, then the byte with the mark.
-pub list-stored : (o : List ℕ) (at : ℕ) (b : List ℕ) (i j k x : ℕ) (o₁ : List ℕ) (raw : ℕ) → j + rawBytes k ≤ length b → o₁ ≡ sets o at (take (j + k / 8 - j) (drop j b)) → x ≡ pick (eqb (k % 8) 0) 1 (getD b (j + k / 8) 0 + 2 ^ (k % 8)) → raw ≡ rawBytes k → Put o at (withMark b j k) (upto i (j + rawBytes k)) (record { word = i; byte = j + raw; to = at + k / 8 + 1 }) (set o₁ (at + k / 8) x)
+pub list-stored : (o : List ℕ) (at : ℕ) (b : List ℕ) (i j k x : ℕ) (o₁ : List ℕ) (raw : ℕ) → j + rawBytes k ≤ length b →
+    o₁ ≡ sets o at (take (j + k / 8 - j) (drop j b)) → x ≡ pick (eqb (k % 8) 0) 1 (getD b (j + k / 8) 0 + 2 ^ (k % 8)) → raw ≡ rawBytes k →
+    Put o at (withMark b j k) (upto i (j + rawBytes k)) (record { word = i; byte = j + raw; to = at + k / 8 + 1 }) (set o₁ (at + k / 8) x)
 list-stored o at b i j k x o₁ raw h e y f =
     let m : bytesAt b j (k / 8) ++ (x ∷ []) ≡ withMark b j k = ap (λ (v : ℕ). bytesAt b j (k / 8) ++ (v ∷ [])) y in
     let q : j + k / 8 - j ≡ k / 8 = omega arith in
@@ -85,7 +88,8 @@ list-stored o at b i j k x o₁ raw h e y f =
       byte = ap (λ (v : ℕ). j + v) f;
     }
 
-pub mark-need : (b : List ℕ) (j k : ℕ) → j + rawBytes k ≤ length b → getD b (j + rawBytes k - 1) 0 < 2 ^ lastBits k → (k % 8 < 8) × ((k % 8 ≡ 0 → ⊥) → (j + k / 8 < length b) × (getD b (j + k / 8) 0 < 2 ^ (k % 8)))
+pub mark-need : (b : List ℕ) (j k : ℕ) → j + rawBytes k ≤ length b → getD b (j + rawBytes k - 1) 0 < 2 ^ lastBits k →
+    (k % 8 < 8) × ((k % 8 ≡ 0 → ⊥) → (j + k / 8 < length b) × (getD b (j + k / 8) 0 < 2 ^ (k % 8)))
 mark-need b j k h l = (
   omega arith,
   λ z.
@@ -127,14 +131,16 @@ mutual
   item-size (boolean t) c b i j n g h e = length-bytesAt b j 1 (boolean-form t c b i j h .0 .there) ∙ fixed-same 1 n e
   item-size (fixedBytes t m) c b i j n g h e = length-bytesAt b j m (fixed-form t c b i j m h .there) ∙ fixed-same m n e
   item-size (freeBytes t limit) c b i j n g h e = let w : _≡_ {A = ℕ} 0 1 = cc in absurd (omega arith)
-  item-size (bitVector t m) c b i j n g h e = length-bytesAt b j (rawBytes m) (vector-form t c b i j m h .0 .there) ∙ omega (arith, fixed-same ((m + 7) / 8) n e)
+  item-size (bitVector t m) c b i j n g h e = length-bytesAt b j (rawBytes m) (vector-form t c b i j m h .0 .there) ∙
+      omega (arith, fixed-same ((m + 7) / 8) n e)
   item-size (bitList t limit) c b i j n g h e = let w : _≡_ {A = ℕ} 0 1 = cc in absurd (omega arith)
   item-size (container t ts) c b i j n g h e =
       let f = fields-flat ts c b i j n (g .1) h e in
       length-join (partsFrom ts c b i j) ∙ rw (f .0, f .1) (omega arith)
   item-size (union t os) c b i j n g h e = let w : _≡_ {A = ℕ} 0 1 = cc in absurd (omega arith)
 
-  fields-flat : (ts : Tys) (c b : List ℕ) (i j n : ℕ) → LegalAll ts → IsUpto (walkFields ts c b i j) → headAll ts ≡ Fixed n → (backs (partsFrom ts c b i j) ≡ []) × (fixedLengths (partsFrom ts c b i j) ≡ n)
+  fields-flat : (ts : Tys) (c b : List ℕ) (i j n : ℕ) → LegalAll ts → IsUpto (walkFields ts c b i j) → headAll ts ≡ Fixed n →
+      (backs (partsFrom ts c b i j) ≡ []) × (fixedLengths (partsFrom ts c b i j) ≡ n)
   fields-flat end c b i j n g h e = (refl, fixed-same 0 n e)
   fields-flat (field t ts) c b i j n g h e =
       let p = joined-fixed (head t) (headAll ts) n e in
@@ -169,7 +175,8 @@ pub record Two (xs : List Part) (o : List ℕ) (p q start own e : ℕ) (z : List
   pub apart : start + own ≤ q
   pub rest : sets (sets o p (fronts xs (q - start))) q (backs xs) ≡ z
 
-pub two-start : (xs : List Part) (o : List ℕ) (start own : ℕ) → own ≡ fixedLengths xs → Two xs o start (start + own) start own (start + length (join xs)) (sets o start (join xs))
+pub two-start : (xs : List Part) (o : List ℕ) (start own : ℕ) → own ≡ fixedLengths xs →
+    Two xs o start (start + own) start own (start + length (join xs)) (sets o start (join xs))
 unfolding join
 two-start xs o start own f =
     let d : start + own - start ≡ fixedLengths xs = omega arith in
@@ -192,7 +199,8 @@ module _ (x : List ℕ) (ys : List Part) (o : List ℕ) (p q start own e : ℕ) 
         rest = rw (s .list, s .ends, sets-append x (fronts ys (q - start)) o p) (g .rest);
       }
 
-  two-variable : Two (piece Variable x ∷ ys) o p q start own e z → (o₂ : List ℕ) (to : ℕ) → Stored (sets o p (le 4 (q - start))) q x to o₂ → Two ys o₂ (p + 4) to start own e z
+  two-variable : Two (piece Variable x ∷ ys) o p q start own e z → (o₂ : List ℕ) (to : ℕ) → Stored (sets o p (le 4 (q - start))) q x to o₂ →
+      Two ys o₂ (p + 4) to start own e z
   unfolding fronts backs fixedLengths
   two-variable g o₂ to s =
       let d : q + length x - start ≡ q - start + length x = omega (arith, g .apart) in
@@ -252,11 +260,14 @@ pub record Writing (lens l : List ℕ) (t : ℕ) (c b : List ℕ) (start own e :
   pub room : e ≤ length o
   pub two : Two (partsFrom (rowOf l t a left) c b i j) o p q start own e z
 
-module _ (lens l : List ℕ) (t : ℕ) (c b : List ℕ) (start own e : ℕ) (w : Walked) (z o₀ o : List ℕ) (p q a left i j f : ℕ) (u : IsUpto w) (g : Writing lens l t c b start own e w z o₀ o p q a left i j) (y : 0 < left) (v : f ≡ wordAt l a) where
-  writing-parts : Two (piece (head (treeOf l f)) (writeItem (treeOf l f) c b i j) ∷ partsFrom (rowOf l t (a + 1) (left - 1)) c b (wordAfter (walkItem (treeOf l f) c b i j)) (byteAfter (walkItem (treeOf l f) c b i j))) o p q start own e z
+module _ (lens l : List ℕ) (t : ℕ) (c b : List ℕ) (start own e : ℕ) (w : Walked) (z o₀ o : List ℕ) (p q a left i j f : ℕ) (u : IsUpto w)
+    (g : Writing lens l t c b start own e w z o₀ o p q a left i j) (y : 0 < left) (v : f ≡ wordAt l a) where
+  writing-parts : Two (piece (head (treeOf l f)) (writeItem (treeOf l f) c b i j) ∷ partsFrom (rowOf l t (a + 1) (left - 1)) c b
+      (wordAfter (walkItem (treeOf l f) c b i j)) (byteAfter (walkItem (treeOf l f) c b i j))) o p q start own e z
   writing-parts = rw (fields-parts lens l t a left f (g .row) y v c b i j) at (g .two)
 
-  writing-onward : (IsUpto (walkItem (treeOf l f) c b i j)) × (walkFields (rowOf l t (a + 1) (left - 1)) c b (wordAfter (walkItem (treeOf l f) c b i j)) (byteAfter (walkItem (treeOf l f) c b i j)) ≡ w)
+  writing-onward : (IsUpto (walkItem (treeOf l f) c b i j)) ×
+      (walkFields (rowOf l t (a + 1) (left - 1)) c b (wordAfter (walkItem (treeOf l f) c b i j)) (byteAfter (walkItem (treeOf l f) c b i j)) ≡ w)
   writing-onward =
       let d = sym (fields-walk lens l t a left f (g .row) y v c b i j) ∙ g .walk in
       let r = onward-first (walkItem (treeOf l f) c b i j) (λ m k. walkFields (rowOf l t (a + 1) (left - 1)) c b m k) (rw (← d) at u) in
@@ -274,7 +285,8 @@ module _ (lens l : List ℕ) (t : ℕ) (c b : List ℕ) (start own e : ℕ) (w :
 
     pub writing-four : k ≡ 0 → p + 4 ≤ length o
     writing-four s =
-        two-head (writeItem (treeOf l f) c b i j) _ o p q start own e z (head (treeOf l f)) (placeOf (head (treeOf l f)) p q) (headed (head (treeOf l f)) o p (q - start))
+        two-head (writeItem (treeOf l f) c b i j) _ o p q start own e z (head (treeOf l f)) (placeOf (head (treeOf l f)) p q)
+        (headed (head (treeOf l f)) o p (q - start))
         (record { place = refl; list = refl }) writing-parts (g .room) (sym writing-head ∙ ap headOf s)
 
     module _ (at : ℕ) (o₁ : List ℕ) (d : Begun (headOf k) o p q start at o₁) where
@@ -284,7 +296,9 @@ module _ (lens l : List ℕ) (t : ℕ) (c b : List ℕ) (start own e : ℕ) (w :
       pub writing-room : Room o₁ at (writeItem (treeOf l f) c b i j)
       writing-room = two-room _ _ o p q start own e z _ at o₁ writing-begun writing-parts (g .room)
 
-      pub writing-next : (r : Stop) (o₂ : List ℕ) → Put o₁ at (writeItem (treeOf l f) c b i j) (walkItem (treeOf l f) c b i j) r o₂ → Writing lens l t c b start own e w z o₀ o₂ (headAfter (headOf k) p (r .to)) (tailAfter (headOf k) q (r .to)) (a + 1) (left - 1) (r .word) (r .byte)
+      pub writing-next : (r : Stop) (o₂ : List ℕ) → Put o₁ at (writeItem (treeOf l f) c b i j) (walkItem (treeOf l f) c b i j) r o₂ →
+          Writing lens l t c b start own e w z o₀ o₂ (headAfter (headOf k) p (r .to)) (tailAfter (headOf k) q (r .to)) (a + 1) (left - 1) (r .word)
+          (r .byte)
       writing-next r o₂ x =
           let s : length o₂ ≡ length o = put-length o₁ at _ _ r o₂ x ∙ begun-length (headOf k) o p q start at o₁ d in
           record {
@@ -295,7 +309,9 @@ module _ (lens l : List ℕ) (t : ℕ) (c b : List ℕ) (start own e : ℕ) (w :
             two = rw (x .word, x .byte, writing-head) (two-next _ _ o p q start own e z _ at o₁ writing-begun writing-parts o₂ (r .to) (x .stored));
           }
 
-pub writing-none : (lens l : List ℕ) (t a n : ℕ) (c b : List ℕ) (i j : ℕ) (o : List ℕ) (start own : ℕ) → Fields lens l t a n c b i j o start → own ≡ portion (headsOf l t a n) → Writing lens l t c b start own (start + length (join (partsFrom (rowOf l t a n) c b i j))) (walkFields (rowOf l t a n) c b i j) (sets o start (join (partsFrom (rowOf l t a n) c b i j))) o o start (start + own) a n i j
+pub writing-none : (lens l : List ℕ) (t a n : ℕ) (c b : List ℕ) (i j : ℕ) (o : List ℕ) (start own : ℕ) → Fields lens l t a n c b i j o start →
+    own ≡ portion (headsOf l t a n) → Writing lens l t c b start own (start + length (join (partsFrom (rowOf l t a n) c b i j)))
+    (walkFields (rowOf l t a n) c b i j) (sets o start (join (partsFrom (rowOf l t a n) c b i j))) o o start (start + own) a n i j
 writing-none lens l t a n c b i j o start own g e =
     record {
       long = refl;
@@ -305,10 +321,13 @@ writing-none lens l t a n c b i j o start own g e =
       two = two-start (partsFrom (rowOf l t a n) c b i j) o start own (e ∙ sym (g .own));
     }
 
-pub fields-fit : (lens l : List ℕ) (t a n : ℕ) (c b : List ℕ) (i j : ℕ) (o : List ℕ) (start own : ℕ) → Fields lens l t a n c b i j o start → own ≡ portion (headsOf l t a n) → start + own ≤ length o
+pub fields-fit : (lens l : List ℕ) (t a n : ℕ) (c b : List ℕ) (i j : ℕ) (o : List ℕ) (start own : ℕ) → Fields lens l t a n c b i j o start →
+    own ≡ portion (headsOf l t a n) → start + own ≤ length o
 fields-fit lens l t a n c b i j o start own g e = omega (arith, g .room .room, g .own, length-join (partsFrom (rowOf l t a n) c b i j))
 
-pub writing-end : (lens l : List ℕ) (t : ℕ) (c b : List ℕ) (start own e : ℕ) (w : Walked) (x o₀ o : List ℕ) (p q a left i j : ℕ) → Writing lens l t c b start own e w (sets o₀ start x) o₀ o p q a left i j → e ≡ start + length x → left ≤ 0 → Put o₀ start x w (record { word = i; byte = j; to = q }) o
+pub writing-end : (lens l : List ℕ) (t : ℕ) (c b : List ℕ) (start own e : ℕ) (w : Walked) (x o₀ o : List ℕ) (p q a left i j : ℕ) →
+    Writing lens l t c b start own e w (sets o₀ start x) o₀ o p q a left i j → e ≡ start + length x → left ≤ 0 →
+    Put o₀ start x w (record { word = i; byte = j; to = q }) o
 writing-end lens l t c b start own e w x o₀ o p q a left i j g n h =
     let d = sym (none-walk l t a left c b i j h) ∙ g .walk in
     let y = two-end o p q start own e (sets o₀ start x) (rw (none-parts l t a left c b i j h) at (g .two)) in
@@ -319,7 +338,8 @@ pub record Adding (lens l : List ℕ) (t a₀ n a left sum : ℕ) : Type 0 where
   pub row : Row lens l t a left
   pub same : sum + portion (headsOf l t a left) ≡ portion (headsOf l t a₀ n)
 
-module _ (lens l : List ℕ) (t a₀ n a left sum f k : ℕ) (g : Adding lens l t a₀ n a left sum) (z : 0 < left) (e : f ≡ wordAt l a) (q : k ≡ width (headOf (getD lens f 0))) where
+module _ (lens l : List ℕ) (t a₀ n a left sum f k : ℕ) (g : Adding lens l t a₀ n a left sum) (z : 0 < left) (e : f ≡ wordAt l a)
+    (q : k ≡ width (headOf (getD lens f 0))) where
   pub adding-same : sum + (k + portion (headsOf l t (a + 1) (left - 1))) ≡ portion (headsOf l t a₀ n)
   unfolding portion
   adding-same =
@@ -334,7 +354,8 @@ adding-end lens l t a₀ n a left sum g h = omega (arith, rw (heads-none l t a l
 
 -- A container's fields, ready to be stored.
 module _ (lens l : List ℕ) (t : ℕ) (r : Node) (e : r ≡ nodeOf l t) (g : Under lens l (t + 1)) (k : r .kind ≡ 6) (c b : List ℕ) (i j : ℕ) where
-  pub container-ready : (o : List ℕ) (at : ℕ) → IsUpto (walkItem (treeOf l t) c b i j) → Room o at (writeItem (treeOf l t) c b i j) → Fields lens l t (r .at + 2) (r .second) c b i j o at
+  pub container-ready : (o : List ℕ) (at : ℕ) → IsUpto (walkItem (treeOf l t) c b i j) → Room o at (writeItem (treeOf l t) c b i j) →
+      Fields lens l t (r .at + 2) (r .second) c b i j o at
   unfolding LegalTy
   container-ready o at h m =
       let w : IsUpto (walkFields (rowOf l t (r .at + 2) (r .second)) c b i j) = rw (container-walk l t r e k c b i j) at h in
@@ -349,16 +370,19 @@ module _ (lens l : List ℕ) (t : ℕ) (r : Node) (e : r ≡ nodeOf l t) (g : Un
 
 -- A union: its selector, then its body.
 module _ (x : List ℕ) (k : ℕ) (o : List ℕ) (at : ℕ) where
-  pub selector-need : (c : List ℕ) (i n : ℕ) (ys : List ℕ) → x ≡ k ∷ ys → k ≡ getD c i 0 → i < length c → k < n → n ≤ 128 → Room o at x → (i < length c) × (getD c i 0 < 256) × (at < length o)
+  pub selector-need : (c : List ℕ) (i n : ℕ) (ys : List ℕ) → x ≡ k ∷ ys → k ≡ getD c i 0 → i < length c → k < n → n ≤ 128 → Room o at x →
+      (i < length c) × (getD c i 0 < 256) × (at < length o)
   selector-need c i n ys e f h m l g = let r = rw e at (g .room) in (h, omega (arith, f), omega arith)
 
-  pub bare-done : (w : Walked) (i j : ℕ) → w ≡ upto i j → x ≡ k ∷ [] → (o′ : List ℕ) → Stored o at (k ∷ []) (at + 1) o′ → Put o at x w (record { word = i; byte = j; to = at + 1 }) o′
+  pub bare-done : (w : Walked) (i j : ℕ) → w ≡ upto i j → x ≡ k ∷ [] → (o′ : List ℕ) → Stored o at (k ∷ []) (at + 1) o′ →
+      Put o at x w (record { word = i; byte = j; to = at + 1 }) o′
   bare-done w i j e f o′ s = rw (e, f) (record { stored = s; word = refl; byte = refl })
 
   pub body-room : (ys : List ℕ) → x ≡ k ∷ ys → Room o at x → (o₁ : List ℕ) → Stored o at (k ∷ []) (at + 1) o₁ → Room o₁ (at + 1) ys
   body-room ys e g o₁ s = room-then o at x (k ∷ []) ys (at + 1) o₁ g e s
 
-  pub body-done : (w v : Walked) (ys : List ℕ) → w ≡ v → x ≡ k ∷ ys → (o₁ : List ℕ) → Stored o at (k ∷ []) (at + 1) o₁ → (r : Stop) (o₂ : List ℕ) → Put o₁ (at + 1) ys v r o₂ → Put o at x w r o₂
+  pub body-done : (w v : Walked) (ys : List ℕ) → w ≡ v → x ≡ k ∷ ys → (o₁ : List ℕ) → Stored o at (k ∷ []) (at + 1) o₁ → (r : Stop) (o₂ : List ℕ) →
+      Put o₁ (at + 1) ys v r o₂ → Put o at x w r o₂
   body-done w v ys e f o₁ s r o₂ p =
       record {
         stored = stored-then o at (k ∷ []) (at + 1) o₁ ys (r .to) o₂ x s (p .stored) f;

@@ -102,7 +102,8 @@ module _ (bs : List Bool) where
       let a = num-append l (x ∷ []) in
       let w = num-append l (drop q (rawBits bs)) in
       let z : bitNum bs ≡ num l + 256 ^ q * num (drop q (rawBits bs)) = sym raw-num ∙ sym (ap num (take-append-drop q (rawBits bs))) ∙ rw y at w in
-      let v : 2 ^ length bs ≡ 256 ^ q * 2 ^ r = let d : length bs ≡ 8 * q + r = omega arith in ap (λ (n : ℕ). 2 ^ n) d ∙ pow-add 2 (8 * q) r ∙ ap (λ (n : ℕ). n * 2 ^ r) (sym (pow-bytes q)) in
+      let v : 2 ^ length bs ≡ 256 ^ q * 2 ^ r = let d : length bs ≡ 8 * q + r =
+      omega arith in ap (λ (n : ℕ). 2 ^ n) d ∙ pow-add 2 (8 * q) r ∙ ap (λ (n : ℕ). n * 2 ^ r) (sym (pow-bytes q)) in
       by-number (l ++ (x ∷ []))
       (bytes-append l (x ∷ []) (bytes-take q (rawBits bs) (bytes-packs (rawBytes (length bs)) bs)) (omega arith, tt))
       (simp length-append (omega (arith, y)))
@@ -115,7 +116,8 @@ module _ (bs : List Bool) where
         front : bytesAt b j (length bs / 8) ≡ take (length bs / 8) (rawBits bs)
         front = rw e (take-append-le (length bs / 8) (rawBits bs) s (rw raw-length (omega arith)))
 
-        go : (z : Bool) → eqb (length bs % 8) 0 ≡ z → bytesAt b j (length bs / 8) ++ (pick z 1 (getD b (j + length bs / 8) 0 + 2 ^ (length bs % 8)) ∷ []) ≡ marked bs
+        go : (z : Bool) → eqb (length bs % 8) 0 ≡ z → bytesAt b j (length bs / 8) ++
+            (pick z 1 (getD b (j + length bs / 8) 0 + 2 ^ (length bs % 8)) ∷ []) ≡ marked bs
         go true f =
             let r : length bs % 8 ≡ 0 = eqb-true _ _ f in
             let c = raw-cut (length bs / 8) 0 (omega arith) (omega arith) in
@@ -154,7 +156,8 @@ more-rest c i x r e = sym (drop-drop (length x) i c) ∙ rw e (drop-at x r (leng
 mutual
   unfolding walkItem writeItem contents bodies serialize Ok LegalTy Rising pack
 
-  pub formed : (t : Ty) (v : Val t) → LegalTy t → Ok t v → (c b : List ℕ) (i j : ℕ) (cs bs : List ℕ) → drop i c ≡ contents t v ++ cs → drop j b ≡ bodies t v ++ bs → j ≤ length b → Formed t v c b i j
+  pub formed : (t : Ty) (v : Val t) → LegalTy t → Ok t v → (c b : List ℕ) (i j : ℕ) (cs bs : List ℕ) → drop i c ≡ contents t v ++ cs →
+      drop j b ≡ bodies t v ++ bs → j ≤ length b → Formed t v c b i j
   formed (number t w) n l o c b i j cs bs e f h =
       let k = at-there b j (le w n) bs f h in
       let m = length-le w n in
@@ -193,7 +196,8 @@ mutual
       let g = formed-option os v 0 (l .1) (l .2) o c b i j cs bs e f h in
       record { walk = rw (lt-ltb i (length c) (g .there)) (g .walk); write = g .write }
 
-  pub formed-all : (ts : Tys) (vs : Vals ts) → LegalAll ts → OkAll ts vs → (c b : List ℕ) (i j : ℕ) (cs bs : List ℕ) → drop i c ≡ contentsAll ts vs ++ cs → drop j b ≡ bodiesAll ts vs ++ bs → j ≤ length b → FormedAll ts vs c b i j
+  pub formed-all : (ts : Tys) (vs : Vals ts) → LegalAll ts → OkAll ts vs → (c b : List ℕ) (i j : ℕ) (cs bs : List ℕ) →
+      drop i c ≡ contentsAll ts vs ++ cs → drop j b ≡ bodiesAll ts vs ++ bs → j ≤ length b → FormedAll ts vs c b i j
   formed-all end vs l o c b i j cs bs e f h = record { walk = rw (add-zero i, add-zero j); all = refl }
   formed-all (field t ts) vs l o c b i j cs bs e f h =
       let x = contents t (vs .0) in
@@ -209,7 +213,9 @@ mutual
         all = rw (p .walk, p .write) (ap (λ (xs : List Part). piece (head t) (serialize t (vs .0)) ∷ xs) (q .all));
       }
 
-  pub formed-option : (os : Opts) (v : Option os) (n : ℕ) → Rising n os → LegalOptions os → OkOption os v → (c b : List ℕ) (i j : ℕ) (cs bs : List ℕ) → drop i c ≡ contentsOption os v ++ cs → drop j b ≡ bodiesOption os v ++ bs → j ≤ length b → FormedOption n os v c b i j
+  pub formed-option : (os : Opts) (v : Option os) (n : ℕ) → Rising n os → LegalOptions os → OkOption os v →
+      (c b : List ℕ) (i j : ℕ) (cs bs : List ℕ) → drop i c ≡ contentsOption os v ++ cs → drop j b ≡ bodiesOption os v ++ bs → j ≤ length b →
+      FormedOption n os v c b i j
   formed-option over v n r l o c b i j cs bs e f h = absurd v
   formed-option (bare s os) (inl x) n r l o c b i j cs bs e f h =
       let w = at-word c i s cs e in

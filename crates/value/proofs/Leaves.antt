@@ -49,7 +49,8 @@ pub record ListForm (x : Ty) (c b : List ℕ) (i j m k : ℕ) : Type 0 where
   pub there : j + rawBytes k ≤ length b
   pub last : getD b (j + rawBytes k - 1) 0 < 2 ^ lastBits k
 
-pub bits-upto : (b : List ℕ) (k i j : ℕ) → IsUpto (walkBits b k i j) → (walkBits b k i j ≡ upto i (j + rawBytes k)) × (j + rawBytes k ≤ length b) × (getD b (j + rawBytes k - 1) 0 < 2 ^ lastBits k)
+pub bits-upto : (b : List ℕ) (k i j : ℕ) → IsUpto (walkBits b k i j) →
+    (walkBits b k i j ≡ upto i (j + rawBytes k)) × (j + rawBytes k ≤ length b) × (getD b (j + rawBytes k - 1) 0 < 2 ^ lastBits k)
 bits-upto b k i j h =
     let x = pick (ltb (getD b (j + rawBytes k - 1) 0) (2 ^ lastBits k)) (upto i (j + rawBytes k)) (wrong (BadValue 1 (j + rawBytes k - 1))) in
     let p = body-upto b j (rawBytes k) x h in
@@ -72,7 +73,8 @@ module _ (t : ℕ) (c b : List ℕ) (i j : ℕ) where
       let q = test-upto (ltb (getD b j 0) 2) (upto i (j + 1)) (BadValue 1 j) (rw (p .1) at h) in
       (record { walk = p .1 ∙ q .1; write = refl; there = p .0 }, ltb-true _ _ (q .0))
 
-  pub free-form : (limit : ℕ) → IsUpto (walkItem (freeBytes t limit) c b i j) → PartForm (freeBytes t limit) c b i j (i + 1) (getD c i 0) × (i < length c) × (getD c i 0 ≤ limit)
+  pub free-form : (limit : ℕ) → IsUpto (walkItem (freeBytes t limit) c b i j) →
+      PartForm (freeBytes t limit) c b i j (i + 1) (getD c i 0) × (i < length c) × (getD c i 0 ≤ limit)
   unfolding walkItem writeItem
   free-form limit h =
       let k = getD c i 0 in
@@ -80,11 +82,13 @@ module _ (t : ℕ) (c b : List ℕ) (i j : ℕ) where
       let q = body-upto b j k (upto (i + 1) (j + k)) (rw (p .2) at h) in
       (record { walk = p .2 ∙ q .1; write = refl; there = q .0 }, p .0, leb-true _ _ (p .1))
 
-  pub vector-form : (n : ℕ) → IsUpto (walkItem (bitVector t n) c b i j) → PartForm (bitVector t n) c b i j i (rawBytes n) × (getD b (j + rawBytes n - 1) 0 < 2 ^ lastBits n)
+  pub vector-form : (n : ℕ) → IsUpto (walkItem (bitVector t n) c b i j) →
+      PartForm (bitVector t n) c b i j i (rawBytes n) × (getD b (j + rawBytes n - 1) 0 < 2 ^ lastBits n)
   unfolding walkItem writeItem
   vector-form n h = let p = bits-upto b n i j h in (record { walk = p .0; write = refl; there = p .1 }, p .2)
 
-  pub list-form : (limit : ℕ) → IsUpto (walkItem (bitList t limit) c b i j) → ListForm (bitList t limit) c b i j (i + 1) (getD c i 0) × (i < length c) × (getD c i 0 ≤ limit)
+  pub list-form : (limit : ℕ) → IsUpto (walkItem (bitList t limit) c b i j) →
+      ListForm (bitList t limit) c b i j (i + 1) (getD c i 0) × (i < length c) × (getD c i 0 ≤ limit)
   unfolding walkItem writeItem
   list-form limit h =
       let k = getD c i 0 in
@@ -134,7 +138,8 @@ module _ (n : Node) where
     pub kind-4 : n .kind ≡ 4 → PartForm (leafOf 0 n) c b i j i (rawBytes (n .second))
     kind-4 k = rw (leaf-4 k) (vector-form 0 c b i j (n .second) (rw (leaf-4 k) at h) .0)
 
-    pub kind-5 : (n .kind ≡ 0 → ⊥) → (n .kind ≡ 1 → ⊥) → (n .kind ≡ 2 → ⊥) → (n .kind ≡ 3 → ⊥) → (n .kind ≡ 4 → ⊥) → ListForm (leafOf 0 n) c b i j (i + 1) (getD c i 0) × (i < length c)
+    pub kind-5 : (n .kind ≡ 0 → ⊥) → (n .kind ≡ 1 → ⊥) → (n .kind ≡ 2 → ⊥) → (n .kind ≡ 3 → ⊥) → (n .kind ≡ 4 → ⊥) →
+        ListForm (leafOf 0 n) c b i j (i + 1) (getD c i 0) × (i < length c)
     kind-5 p q r s u =
         let e = leaf-5 p q r s u in
         let x = list-form 0 c b i j (n .second) (rw e at h) in
@@ -155,13 +160,16 @@ module _ (x : Ty) (c b : List ℕ) (i j m n : ℕ) (o : List ℕ) (at : ℕ) whe
       let e : length (writeItem x c b i j) ≡ n = ap length (f .write) ∙ length-bytesAt b j n (f .there) in
       (f .there, omega (arith, g .room))
 
-  pub part-done : PartForm x c b i j m n → (r : Stop) (o′ : List ℕ) → Put o at (bytesAt b j n) (upto m (j + n)) r o′ → Put o at (writeItem x c b i j) (walkItem x c b i j) r o′
+  pub part-done : PartForm x c b i j m n → (r : Stop) (o′ : List ℕ) → Put o at (bytesAt b j n) (upto m (j + n)) r o′ →
+      Put o at (writeItem x c b i j) (walkItem x c b i j) r o′
   part-done f r o′ p = rw (f .walk, f .write) p
 
-  pub list-need : ListForm x c b i j m n → Room o at (writeItem x c b i j) → (j + rawBytes n ≤ length b) × (getD b (j + rawBytes n - 1) 0 < 2 ^ lastBits n) × (at + (n / 8 + 1) ≤ length o)
+  pub list-need : ListForm x c b i j m n → Room o at (writeItem x c b i j) →
+      (j + rawBytes n ≤ length b) × (getD b (j + rawBytes n - 1) 0 < 2 ^ lastBits n) × (at + (n / 8 + 1) ≤ length o)
   list-need f g =
       let e : length (writeItem x c b i j) ≡ n / 8 + 1 = ap length (f .write) ∙ length-withMark b j n (f .there) in
       (f .there, f .last, omega (arith, g .room))
 
-  pub list-done : ListForm x c b i j m n → (r : Stop) (o′ : List ℕ) → Put o at (withMark b j n) (upto m (j + rawBytes n)) r o′ → Put o at (writeItem x c b i j) (walkItem x c b i j) r o′
+  pub list-done : ListForm x c b i j m n → (r : Stop) (o′ : List ℕ) → Put o at (withMark b j n) (upto m (j + rawBytes n)) r o′ →
+      Put o at (writeItem x c b i j) (walkItem x c b i j) r o′
   list-done f r o′ p = rw (f .walk, f .write) p

@@ -36,7 +36,8 @@ module _ (lens l : List ℕ) (t a left f : ℕ) (g : Row lens l t a left) (z : 0
   unfolding walkItem
   fields-walk = rw (fields-first l t a left (g .lower) z, e)
 
-  pub fields-parts : partsFrom (rowOf l t a left) c b i j ≡ piece (head (treeOf l f)) (writeItem (treeOf l f) c b i j) ∷ partsFrom (rowOf l t (a + 1) (left - 1)) c b (wordAfter (walkItem (treeOf l f) c b i j)) (byteAfter (walkItem (treeOf l f) c b i j))
+  pub fields-parts : partsFrom (rowOf l t a left) c b i j ≡ piece (head (treeOf l f)) (writeItem (treeOf l f) c b i j) ∷ partsFrom
+      (rowOf l t (a + 1) (left - 1)) c b (wordAfter (walkItem (treeOf l f) c b i j)) (byteAfter (walkItem (treeOf l f) c b i j))
   unfolding writeItem
   fields-parts = rw (fields-first l t a left (g .lower) z, e)
 
@@ -53,7 +54,8 @@ pub record Measuring (lens l : List ℕ) (t a₀ n : ℕ) (c b : List ℕ) (i₀
   pub row : Row lens l t a left
   pub some : left ≤ n
   pub small : sum ≤ 4294967296
-  pub same : measured (walkFields (rowOf l t a left) c b i j) (sum + length (join (partsFrom (rowOf l t a left) c b i j))) ≡ measured (walkFields (rowOf l t a₀ n) c b i₀ j₀) (length (join (partsFrom (rowOf l t a₀ n) c b i₀ j₀)))
+  pub same : measured (walkFields (rowOf l t a left) c b i j) (sum + length (join (partsFrom (rowOf l t a left) c b i j))) ≡
+      measured (walkFields (rowOf l t a₀ n) c b i₀ j₀) (length (join (partsFrom (rowOf l t a₀ n) c b i₀ j₀)))
 
 pub measuring-none : (lens l : List ℕ) (t a n : ℕ) (c b : List ℕ) (i j : ℕ) → Row lens l t a n → Measuring lens l t a n c b i j 0 a n i j
 measuring-none lens l t a n c b i j g =
@@ -64,8 +66,11 @@ measuring-none lens l t a n c b i j g =
       same = ap (measured (walkFields (rowOf l t a n) c b i j)) (zero-add (length (join (partsFrom (rowOf l t a n) c b i j))));
     }
 
-module _ (lens l : List ℕ) (t a₀ n : ℕ) (c b : List ℕ) (i₀ j₀ : ℕ) (sum a left i j f : ℕ) (g : Measuring lens l t a₀ n c b i₀ j₀ sum a left i j) (z : 0 < left) (e : f ≡ wordAt l a) where
-  pub measuring-next : (m : Mark) → Measured.Upto m ≡ measured (walkItem (treeOf l f) c b i j) (length (writeItem (treeOf l f) c b i j)) → (k : ℕ) → k ≡ getD lens f 0 → (own : ℕ) → own ≡ cap (extra (headOf k) + m .len) → Measuring lens l t a₀ n c b i₀ j₀ (cap (sum + own)) (a + 1) (left - 1) (m .word) (m .byte)
+module _ (lens l : List ℕ) (t a₀ n : ℕ) (c b : List ℕ) (i₀ j₀ : ℕ) (sum a left i j f : ℕ) (g : Measuring lens l t a₀ n c b i₀ j₀ sum a left i j)
+    (z : 0 < left) (e : f ≡ wordAt l a) where
+  pub measuring-next : (m : Mark) → Measured.Upto m ≡ measured (walkItem (treeOf l f) c b i j) (length (writeItem (treeOf l f) c b i j)) → (k : ℕ) →
+      k ≡ getD lens f 0 → (own : ℕ) → own ≡ cap (extra (headOf k) + m .len) →
+      Measuring lens l t a₀ n c b i₀ j₀ (cap (sum + own)) (a + 1) (left - 1) (m .word) (m .byte)
   measuring-next m h k o own p =
       let q = measured-says (walkItem (treeOf l f) c b i j) (length (writeItem (treeOf l f) c b i j)) m h in
       let x = partsFrom (rowOf l t (a + 1) (left - 1)) c b (m .word) (m .byte) in
@@ -82,12 +87,16 @@ module _ (lens l : List ℕ) (t a₀ n : ℕ) (c b : List ℕ) (i₀ j₀ : ℕ)
             ∙ rw (fields-walk lens l t a left f (g .row) z e c b i j, fields-parts lens l t a left f (g .row) z e c b i j, q .0) at (g .same);
       }
 
-  pub measuring-stop : (x : Refusal) → Measured.Wrong x ≡ measured (walkItem (treeOf l f) c b i j) (length (writeItem (treeOf l f) c b i j)) → Measured.Wrong x ≡ measured (walkFields (rowOf l t a₀ n) c b i₀ j₀) (length (join (partsFrom (rowOf l t a₀ n) c b i₀ j₀)))
+  pub measuring-stop : (x : Refusal) → Measured.Wrong x ≡ measured (walkItem (treeOf l f) c b i j) (length (writeItem (treeOf l f) c b i j)) →
+      Measured.Wrong x ≡ measured (walkFields (rowOf l t a₀ n) c b i₀ j₀) (length (join (partsFrom (rowOf l t a₀ n) c b i₀ j₀)))
   measuring-stop x h =
       let q = measured-wrong (walkItem (treeOf l f) c b i j) (length (writeItem (treeOf l f) c b i j)) x h in
       rw (fields-walk lens l t a left f (g .row) z e c b i j, q) at (g .same)
 
-pub measuring-end : (lens l : List ℕ) (t a₀ n : ℕ) (c b : List ℕ) (i₀ j₀ : ℕ) (sum a left i j : ℕ) → Measuring lens l t a₀ n c b i₀ j₀ sum a left i j → left ≤ 0 → Measured.Upto (record { word = i; byte = j; len = sum }) ≡ measured (walkFields (rowOf l t a₀ n) c b i₀ j₀) (length (join (partsFrom (rowOf l t a₀ n) c b i₀ j₀)))
+pub measuring-end : (lens l : List ℕ) (t a₀ n : ℕ) (c b : List ℕ) (i₀ j₀ : ℕ) (sum a left i j : ℕ) →
+    Measuring lens l t a₀ n c b i₀ j₀ sum a left i j → left ≤ 0 →
+    Measured.Upto (record { word = i; byte = j; len = sum }) ≡
+    measured (walkFields (rowOf l t a₀ n) c b i₀ j₀) (length (join (partsFrom (rowOf l t a₀ n) c b i₀ j₀)))
 unfolding join fronts backs fixedLengths
 measuring-end lens l t a₀ n c b i₀ j₀ sum a left i j g h =
     let v : sum ≡ cap (sum + length (join [])) = omega (arith, g .small) in

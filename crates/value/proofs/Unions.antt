@@ -63,7 +63,8 @@ module _ (c b : List ℕ) (i j : ℕ) where
 abbrev foundAt : List Ty → ℕ → Found
 foundAt lower w = pick (eqb w 4294967295) alone (holds (getD lower w (boolean 0)))
 
-find-here : (w : ℕ) (lower : List Ty) (os : Opts) (k : ℕ) → find (pick (eqb w 4294967295) (bare k os) (body k (getD lower w (boolean 0)) os)) k ≡ foundAt lower w
+find-here : (w : ℕ) (lower : List Ty) (os : Opts) (k : ℕ) → find (pick (eqb w 4294967295) (bare k os) (body k (getD lower w (boolean 0)) os)) k ≡
+    foundAt lower w
 unfolding find
 find-here w lower os k = go (eqb w 4294967295)
   where
@@ -76,7 +77,8 @@ unfolding find
 find-skip true x os s k h = rw (ne-eqb k s h)
 find-skip false x os s k h = rw (ne-eqb k s h)
 
-options-find : (l : List ℕ) (lower : List Ty) (n a s k : ℕ) → s ≤ k → find (options l lower a s n) k ≡ pick (ltb k (s + n)) (foundAt lower (wordAt l (a + (k - s)))) nothing
+options-find : (l : List ℕ) (lower : List Ty) (n a s k : ℕ) → s ≤ k →
+    find (options l lower a s n) k ≡ pick (ltb k (s + n)) (foundAt lower (wordAt l (a + (k - s)))) nothing
 unfolding options
 options-find l lower zero a s k h = rw (le-ltb k (s + 0) (omega arith)) (unfold find in refl)
 options-find l lower (suc n) a s k h = go (eqb k s) refl (options-find l lower n (a + 1) (s + 1) k)
@@ -87,7 +89,9 @@ options-find l lower (suc n) a s k h = go (eqb k s) refl (options-find l lower n
     wanted : ℕ → ℕ → Found
     wanted m i = pick (ltb k m) (foundAt lower (wordAt l i)) nothing
 
-    go : (q : Bool) → eqb k s ≡ q → (s + 1 ≤ k → find rest k ≡ wanted (s + 1 + n) (a + 1 + (k - (s + 1)))) → find (pick (eqb (wordAt l a) 4294967295) (bare s rest) (body s (getD lower (wordAt l a) (boolean 0)) rest)) k ≡ wanted (s + suc n) (a + (k - s))
+    go : (q : Bool) → eqb k s ≡ q → (s + 1 ≤ k → find rest k ≡ wanted (s + 1 + n) (a + 1 + (k - (s + 1)))) →
+        find (pick (eqb (wordAt l a) 4294967295) (bare s rest) (body s (getD lower (wordAt l a) (boolean 0)) rest)) k ≡
+        wanted (s + suc n) (a + (k - s))
     go true p f =
         let q : k ≡ s = eqb-true _ _ p in
         let e : a + (k - s) ≡ a = omega arith in
@@ -116,7 +120,8 @@ module _ (l : List ℕ) (a n : ℕ) (c : List ℕ) (i : ℕ) where
   unfolding choose w Cases
   chosen-bare e = go (ltb i (length c)) (ltb (getD c i 0) n) (eqb w 4294967295) refl refl refl e
     where
-      go : (p q r : Bool) → ltb i (length c) ≡ p → ltb (getD c i 0) n ≡ q → eqb w 4294967295 ≡ r → Choice.Bare ≡ Cases p q r → (ltb i (length c) ≡ true) × (ltb (getD c i 0) n ≡ true) × (eqb w 4294967295 ≡ true)
+      go : (p q r : Bool) → ltb i (length c) ≡ p → ltb (getD c i 0) n ≡ q → eqb w 4294967295 ≡ r → Choice.Bare ≡ Cases p q r →
+          (ltb i (length c) ≡ true) × (ltb (getD c i 0) n ≡ true) × (eqb w 4294967295 ≡ true)
       go true true true f g h e = (f, g, h)
       go true true false f g h e = let z : _≡_ {A = ℕ} 0 1 = cc in absurd (omega arith)
       go true false r f g h e = let z : _≡_ {A = ℕ} 0 1 = cc in absurd (omega arith)
@@ -126,7 +131,8 @@ module _ (l : List ℕ) (a n : ℕ) (c : List ℕ) (i : ℕ) where
   unfolding choose w Cases
   chosen-body o e = go (ltb i (length c)) (ltb (getD c i 0) n) (eqb w 4294967295) refl refl refl e
     where
-      go : (p q r : Bool) → ltb i (length c) ≡ p → ltb (getD c i 0) n ≡ q → eqb w 4294967295 ≡ r → Choice.Body o ≡ Cases p q r → (ltb i (length c) ≡ true) × (ltb (getD c i 0) n ≡ true) × (eqb w 4294967295 ≡ false) × (o ≡ w)
+      go : (p q r : Bool) → ltb i (length c) ≡ p → ltb (getD c i 0) n ≡ q → eqb w 4294967295 ≡ r → Choice.Body o ≡ Cases p q r →
+          (ltb i (length c) ≡ true) × (ltb (getD c i 0) n ≡ true) × (eqb w 4294967295 ≡ false) × (o ≡ w)
       go true true true f g h e = let z : _≡_ {A = ℕ} 0 1 = cc in absurd (omega arith)
       go true true false f g h e = (f, g, h, cc)
       go true false r f g h e = let z : _≡_ {A = ℕ} 0 1 = cc in absurd (omega arith)
@@ -137,11 +143,13 @@ module _ (l : List ℕ) (a n : ℕ) (c : List ℕ) (i : ℕ) where
   wrongOf Choice.Bare y = Unit {0}
   wrongOf (Choice.Body o) y = Unit {0}
 
-  chosen-wrong : (lower : List Ty) (b : List ℕ) (j : ℕ) → wrongOf (choose l a n c i) (pick (ltb i (length c)) (walkFound c b i j (pick (ltb (getD c i 0) n) (foundAt lower w) nothing)) (wrong (BadValue 0 (length c))))
+  chosen-wrong : (lower : List Ty) (b : List ℕ) (j : ℕ) → wrongOf (choose l a n c i)
+      (pick (ltb i (length c)) (walkFound c b i j (pick (ltb (getD c i 0) n) (foundAt lower w) nothing)) (wrong (BadValue 0 (length c))))
   unfolding choose w
   chosen-wrong lower b j = go (ltb i (length c)) (ltb (getD c i 0) n) (eqb w 4294967295)
     where
-      go : (p q r : Bool) → wrongOf (pick p (pick q (pick r Choice.Bare (Choice.Body w)) (Choice.Wrong (BadValue 0 i))) (Choice.Wrong (BadValue 0 (length c)))) (pick p (walkFound c b i j (pick q (foundAt lower w) nothing)) (wrong (BadValue 0 (length c))))
+      go : (p q r : Bool) → wrongOf (pick p (pick q (pick r Choice.Bare (Choice.Body w)) (Choice.Wrong (BadValue 0 i)))
+          (Choice.Wrong (BadValue 0 (length c)))) (pick p (walkFound c b i j (pick q (foundAt lower w) nothing)) (wrong (BadValue 0 (length c))))
       go true true true = tt
       go true true false = tt
       go true false r = refl
@@ -149,17 +157,32 @@ module _ (l : List ℕ) (a n : ℕ) (c : List ℕ) (i : ℕ) where
 
 -- A union of the table.
 module _ (l : List ℕ) (t : ℕ) (r : Node) (e : r ≡ nodeOf l t) (k : r .kind ≡ 7) (c b : List ℕ) (i j : ℕ) where
-  union-walk : walkItem (treeOf l t) c b i j ≡ pick (ltb i (length c)) (walkFound c b i j (pick (ltb (getD c i 0) (r .second)) (foundAt (trees l t) (wordAt l (r .at + 2 + getD c i 0))) nothing)) (wrong (BadValue 0 (length c)))
+  union-walk : walkItem (treeOf l t) c b i j ≡ pick (ltb i (length c))
+      (walkFound c b i j (pick (ltb (getD c i 0) (r .second)) (foundAt (trees l t) (wordAt l (r .at + 2 + getD c i 0))) nothing))
+      (wrong (BadValue 0 (length c)))
   unfolding walkItem
   union-walk =
-      rw (as-union l t r e k, walk-found c b i j (options l (trees l t) (r .at + 2) 0 (r .second)) (getD c i 0), whole-find l (trees l t) (r .at + 2) (r .second) (getD c i 0))
+      rw (
+        as-union l t r e k,
+        walk-found c b i j (options l (trees l t) (r .at + 2) 0 (r .second)) (getD c i 0),
+        whole-find l (trees l t) (r .at + 2)
+            (r .second) (getD c i 0),
+      )
 
-  union-write : writeItem (treeOf l t) c b i j ≡ getD c i 0 ∷ writeFound c b i j (pick (ltb (getD c i 0) (r .second)) (foundAt (trees l t) (wordAt l (r .at + 2 + getD c i 0))) nothing)
+  union-write : writeItem (treeOf l t) c b i j ≡ getD c i 0 ∷ writeFound c b i j
+      (pick (ltb (getD c i 0) (r .second)) (foundAt (trees l t) (wordAt l (r .at + 2 + getD c i 0))) nothing)
   unfolding writeItem
   union-write =
-      rw (as-union l t r e k, write-found c b i j (options l (trees l t) (r .at + 2) 0 (r .second)) (getD c i 0), whole-find l (trees l t) (r .at + 2) (r .second) (getD c i 0))
+      rw (
+        as-union l t r e k,
+        write-found c b i j (options l (trees l t) (r .at + 2) 0 (r .second)) (getD c i 0),
+        whole-find l (trees l t)
+            (r .at + 2) (r .second) (getD c i 0),
+      )
 
-  pub bare-item : Choice.Bare ≡ choose l (r .at + 2) (r .second) c i → (walkItem (treeOf l t) c b i j ≡ upto (i + 1) j) × (writeItem (treeOf l t) c b i j ≡ getD c i 0 ∷ []) × (i < length c) × (getD c i 0 < r .second)
+  pub bare-item : Choice.Bare ≡ choose l (r .at + 2) (r .second) c i →
+      (walkItem (treeOf l t) c b i j ≡ upto (i + 1) j) × (writeItem (treeOf l t) c b i j ≡ getD c i 0 ∷ []) × (i < length c) ×
+      (getD c i 0 < r .second)
   unfolding w
   bare-item q =
       let p = chosen-bare l (r .at + 2) (r .second) c i q in
@@ -169,7 +192,9 @@ module _ (l : List ℕ) (t : ℕ) (r : Node) (e : r ≡ nodeOf l t) (k : r .kind
   unfolding w
   wrong-item x q = union-walk ∙ rw (← q) at (chosen-wrong l (r .at + 2) (r .second) c i (trees l t) b j)
 
-  pub body-item : Legal l (t + 1) → (o : ℕ) → Choice.Body o ≡ choose l (r .at + 2) (r .second) c i → (walkItem (treeOf l t) c b i j ≡ walkItem (treeOf l o) c b (i + 1) j) × (writeItem (treeOf l t) c b i j ≡ getD c i 0 ∷ writeItem (treeOf l o) c b (i + 1) j) × (i < length c) × (getD c i 0 < r .second) × (o < t)
+  pub body-item : Legal l (t + 1) → (o : ℕ) → Choice.Body o ≡ choose l (r .at + 2) (r .second) c i →
+      (walkItem (treeOf l t) c b i j ≡ walkItem (treeOf l o) c b (i + 1) j) ×
+      (writeItem (treeOf l t) c b i j ≡ getD c i 0 ∷ writeItem (treeOf l o) c b (i + 1) j) × (i < length c) × (getD c i 0 < r .second) × (o < t)
   unfolding w LowerOrBare
   body-item g o q =
       let p = chosen-body l (r .at + 2) (r .second) c i o q in
@@ -180,14 +205,18 @@ module _ (l : List ℕ) (t : ℕ) (r : Node) (e : r ≡ nodeOf l t) (k : r .kind
 
 -- A leaf's number is no matter.
 module _ (c b : List ℕ) (i j t : ℕ) (n : Node) where
-  leaf-any : {A : Type 0} (f : Ty → A) → ((w : ℕ) → f (number t w) ≡ f (number 0 w)) → f (boolean t) ≡ f (boolean 0) → ((w : ℕ) → f (fixedBytes t w) ≡ f (fixedBytes 0 w)) → ((w : ℕ) → f (freeBytes t w) ≡ f (freeBytes 0 w)) → ((w : ℕ) → f (bitVector t w) ≡ f (bitVector 0 w)) → ((w : ℕ) → f (bitList t w) ≡ f (bitList 0 w)) → f (leafOf t n) ≡ f (leafOf 0 n)
+  leaf-any : {A : Type 0} (f : Ty → A) → ((w : ℕ) → f (number t w) ≡ f (number 0 w)) → f (boolean t) ≡ f (boolean 0) →
+      ((w : ℕ) → f (fixedBytes t w) ≡ f (fixedBytes 0 w)) → ((w : ℕ) → f (freeBytes t w) ≡ f (freeBytes 0 w)) →
+      ((w : ℕ) → f (bitVector t w) ≡ f (bitVector 0 w)) → ((w : ℕ) → f (bitList t w) ≡ f (bitList 0 w)) → f (leafOf t n) ≡ f (leafOf 0 n)
   unfolding leafOf
   leaf-any f x0 x1 x2 x3 x4 x5 = go (eqb (n .kind) 0) (eqb (n .kind) 1) (eqb (n .kind) 2) (eqb (n .kind) 3) (eqb (n .kind) 4)
     where
       s : ℕ
       s = n .second
 
-      go : (p q r u v : Bool) → f (pick p (number t s) (pick q (boolean t) (pick r (fixedBytes t s) (pick u (freeBytes t s) (pick v (bitVector t s) (bitList t s)))))) ≡ f (pick p (number 0 s) (pick q (boolean 0) (pick r (fixedBytes 0 s) (pick u (freeBytes 0 s) (pick v (bitVector 0 s) (bitList 0 s))))))
+      go : (p q r u v : Bool) → f (pick p (number t s) (pick q (boolean t)
+          (pick r (fixedBytes t s) (pick u (freeBytes t s) (pick v (bitVector t s) (bitList t s)))))) ≡
+          f (pick p (number 0 s) (pick q (boolean 0) (pick r (fixedBytes 0 s) (pick u (freeBytes 0 s) (pick v (bitVector 0 s) (bitList 0 s))))))
       go true q r u v = x0 s
       go false true r u v = x1
       go false false true u v = x2 s

@@ -41,7 +41,8 @@ selected-measured (upto i j) k s =
     ap (λ (n : ℕ). Measured.Upto (record { word = i; byte = j; len = n })) e
 selected-measured (wrong r) k s = refl
 
-pub selected-item : (w v : Walked) (x s : List ℕ) (k : ℕ) → w ≡ v → x ≡ k ∷ s → (r q : Measured) → r ≡ selected q → q ≡ measured v (length s) → r ≡ measured w (length x)
+pub selected-item : (w v : Walked) (x s : List ℕ) (k : ℕ) → w ≡ v → x ≡ k ∷ s → (r q : Measured) → r ≡ selected q → q ≡ measured v (length s) →
+    r ≡ measured w (length x)
 selected-item w v x s k e f r q g h = rw (e, f) (g ∙ ap selected h ∙ selected-measured v k s)
 
 pub length-bytesAt : (b : List ℕ) (j n : ℕ) → j + n ≤ length b → length (bytesAt b j n) ≡ n
@@ -58,10 +59,12 @@ body-measured b j n x m k f = go (leb (j + n) (length b)) refl
     go true e = ap (measured x) (f (leb-true _ _ e))
     go false e = refl
 
-word-measured : (c : List ℕ) (i : ℕ) (ok : Bool) (x : Walked) (m k : ℕ) → measured x m ≡ measured x k → measured (withWord c i ok x) m ≡ measured (withWord c i ok x) k
+word-measured : (c : List ℕ) (i : ℕ) (ok : Bool) (x : Walked) (m k : ℕ) → measured x m ≡ measured x k →
+    measured (withWord c i ok x) m ≡ measured (withWord c i ok x) k
 word-measured c i ok x m k e = go (ltb i (length c)) ok
   where
-    go : (p q : Bool) → measured (pick p (pick q x (wrong (BadValue 0 i))) (wrong (BadValue 0 (length c)))) m ≡ measured (pick p (pick q x (wrong (BadValue 0 i))) (wrong (BadValue 0 (length c)))) k
+    go : (p q : Bool) → measured (pick p (pick q x (wrong (BadValue 0 i))) (wrong (BadValue 0 (length c)))) m ≡
+        measured (pick p (pick q x (wrong (BadValue 0 i))) (wrong (BadValue 0 (length c)))) k
     go true true = e
     go true false = refl
     go false q = refl
@@ -71,25 +74,30 @@ module _ (c b : List ℕ) (i j : ℕ) where
   unfolding walkItem writeItem
   leaf-number w = body-measured b j w (upto i (j + w)) w _ (λ h. sym (length-bytesAt b j w h))
 
-  pub leaf-fixed : (n : ℕ) → measured (withBody b j n (upto i (j + n))) n ≡ measured (walkItem (fixedBytes 0 n) c b i j) (length (writeItem (fixedBytes 0 n) c b i j))
+  pub leaf-fixed : (n : ℕ) → measured (withBody b j n (upto i (j + n))) n ≡
+      measured (walkItem (fixedBytes 0 n) c b i j) (length (writeItem (fixedBytes 0 n) c b i j))
   unfolding walkItem writeItem
   leaf-fixed n = body-measured b j n (upto i (j + n)) n _ (λ h. sym (length-bytesAt b j n h))
 
-  pub leaf-boolean : measured (withBody b j 1 (pick (ltb (getD b j 0) 2) (upto i (j + 1)) (wrong (BadValue 1 j)))) 1 ≡ measured (walkItem (boolean 0) c b i j) (length (writeItem (boolean 0) c b i j))
+  pub leaf-boolean : measured (withBody b j 1 (pick (ltb (getD b j 0) 2) (upto i (j + 1)) (wrong (BadValue 1 j)))) 1 ≡
+      measured (walkItem (boolean 0) c b i j) (length (writeItem (boolean 0) c b i j))
   unfolding walkItem writeItem
   leaf-boolean = body-measured b j 1 (pick (ltb (getD b j 0) 2) (upto i (j + 1)) (wrong (BadValue 1 j))) 1 _ (λ h. sym (length-bytesAt b j 1 h))
 
-  pub leaf-free : (limit : ℕ) → measured (walkItem (freeBytes 0 limit) c b i j) (getD c i 0) ≡ measured (walkItem (freeBytes 0 limit) c b i j) (length (writeItem (freeBytes 0 limit) c b i j))
+  pub leaf-free : (limit : ℕ) → measured (walkItem (freeBytes 0 limit) c b i j) (getD c i 0) ≡
+      measured (walkItem (freeBytes 0 limit) c b i j) (length (writeItem (freeBytes 0 limit) c b i j))
   unfolding walkItem writeItem
   leaf-free limit =
       word-measured c i (leb (getD c i 0) limit) (withBody b j (getD c i 0) (upto (i + 1) (j + getD c i 0))) (getD c i 0) _
       (body-measured b j (getD c i 0) (upto (i + 1) (j + getD c i 0)) (getD c i 0) _ (λ h. sym (length-bytesAt b j (getD c i 0) h)))
 
-  pub leaf-vector : (n : ℕ) → measured (walkBits b n i j) (rawBytes n) ≡ measured (walkItem (bitVector 0 n) c b i j) (length (writeItem (bitVector 0 n) c b i j))
+  pub leaf-vector : (n : ℕ) → measured (walkBits b n i j) (rawBytes n) ≡
+      measured (walkItem (bitVector 0 n) c b i j) (length (writeItem (bitVector 0 n) c b i j))
   unfolding walkItem writeItem
   leaf-vector n = body-measured b j (rawBytes n) _ (rawBytes n) _ (λ h. sym (length-bytesAt b j (rawBytes n) h))
 
-  pub leaf-list : (limit : ℕ) → measured (walkItem (bitList 0 limit) c b i j) (getD c i 0 / 8 + 1) ≡ measured (walkItem (bitList 0 limit) c b i j) (length (writeItem (bitList 0 limit) c b i j))
+  pub leaf-list : (limit : ℕ) → measured (walkItem (bitList 0 limit) c b i j) (getD c i 0 / 8 + 1) ≡
+      measured (walkItem (bitList 0 limit) c b i j) (length (writeItem (bitList 0 limit) c b i j))
   unfolding walkItem writeItem
   leaf-list limit =
       word-measured c i (leb (getD c i 0) limit) (walkBits b (getD c i 0) (i + 1) j) (getD c i 0 / 8 + 1) _

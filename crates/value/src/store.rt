@@ -200,23 +200,11 @@ pub(crate) fn write_item(
 {
     let n = look(layout, t);
     let first = n.at + 2;
-    let count = n.second;
+    let k = n.second;
     if n.kind == 6 {
-        write_fields(
-            out,
-            at,
-            lens,
-            layout,
-            t,
-            first,
-            count,
-            contents,
-            bodies,
-            i,
-            j,
-        )
+        write_fields(out, at, lens, layout, t, first, k, contents, bodies, i, j)
     } else if n.kind == 7 {
-        let c = select(layout, first, count, contents, i);
+        let c = select(layout, first, k, contents, i);
         match c {
             Choice::Bare => {
                 put_selector(out, at, contents, i);

@@ -114,11 +114,12 @@ fn a_run_reaches_every_refusal_and_every_fault() {
         faults.extend(case.fault);
         made.insert((case.op, case.what));
     });
+    let tables = [(70, 0), (70, 20)];
     let unfolding = (0..=14).chain([20, 22]).map(|number| (73, number));
     let writing = [0, 20, 22, 25].map(|number| (74, number));
-    assert_eq!(numbers, unfolding.chain(writing).collect());
+    assert_eq!(numbers, tables.into_iter().chain(unfolding).chain(writing).collect());
     assert_eq!(faults, Fault::ALL.into());
-    assert_eq!(made.len(), 10 + 2 + 5 + 2);
+    assert_eq!(made.len(), 2 + 10 + 2 + 5 + 2);
 }
 
 #[test]

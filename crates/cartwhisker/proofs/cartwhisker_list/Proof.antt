@@ -29,8 +29,11 @@ returns-2 : tie.Need-returns-2
 returns-2 c =
     let c2 = c .before .before in
     let c6 = c2 .before .before .before .before in
-    let c8 = c6 .before .before in
-    (rw (le-ltb _ _ (c8 .if1 .left), ← c6 .list .ensures .0, c2 .r .given .1, eq-eqb _ _ (c .if2 .taken)), rw (le-ltb _ _ (c8 .if1 .left)) (c6 .list .ensures .1))
+    let c8 = c6 .before .before in (
+      rw (le-ltb _ _ (c8 .if1 .left), ← c6 .list .ensures .0, c2 .r .given .1, eq-eqb _ _ (c .if2 .taken)),
+      rw (le-ltb _ _ (c8 .if1 .left))
+          (c6 .list .ensures .1),
+    )
 
 same-length-2 : tie.Need-same-length-2
 same-length-2 c = search needs
@@ -39,8 +42,11 @@ returns-3 : tie.Need-returns-3
 returns-3 c =
     let c2 = c .before .before in
     let c6 = c2 .before .before .before .before in
-    let c8 = c6 .before .before in
-    (rw (le-ltb _ _ (c8 .if1 .left), ← c6 .list .ensures .0, c2 .r .given .1, ne-eqb _ _ (c .if2 .left)), rw (le-ltb _ _ (c8 .if1 .left)) (c6 .list .ensures .1))
+    let c8 = c6 .before .before in (
+      rw (le-ltb _ _ (c8 .if1 .left), ← c6 .list .ensures .0, c2 .r .given .1, ne-eqb _ _ (c .if2 .left)),
+      rw (le-ltb _ _ (c8 .if1 .left))
+          (c6 .list .ensures .1),
+    )
 
 same-length-3 : tie.Need-same-length-3
 same-length-3 c = search needs
@@ -49,8 +55,11 @@ returns-4 : tie.Need-returns-4
 returns-4 c =
     let c3 = c .before .before .before in
     let c7 = c3 .before .before .before .before in
-    let c9 = c7 .before .before in
-    (rw (le-ltb _ _ (c9 .if1 .left), ← c7 .list .ensures .0, c3 .r2 .given .1, ← c .before .numbers .ensures) (c .which-of .ensures), rw (le-ltb _ _ (c9 .if1 .left)) (c7 .list .ensures .1))
+    let c9 = c7 .before .before in (
+      rw (le-ltb _ _ (c9 .if1 .left), ← c7 .list .ensures .0, c3 .r2 .given .1, ← c .before .numbers .ensures) (c .which-of .ensures),
+      rw
+          (le-ltb _ _ (c9 .if1 .left)) (c7 .list .ensures .1),
+    )
 
 pub cartwhisker-list-spec : {M : Type 1} → statement M
 cartwhisker-list-spec =

@@ -36,7 +36,15 @@ returns-4 c =
     let c4 = c3 .before in
     let c5 = c4 .before in
     let c6 = c5 .before in
-    rw (← c6 .is-below .ensures, c5 .if1 .left, ← c4 .does-skip .ensures, c3 .if2 .left, le-ltb _ _ (c2 .if3 .left), ← c .before .is-above .ensures, c .if4 .taken)
+    rw (
+      ← c6 .is-below .ensures,
+      c5 .if1 .left,
+      ← c4 .does-skip .ensures,
+      c3 .if2 .left,
+      le-ltb _ _ (c2 .if3 .left),
+      ← c .before .is-above .ensures,
+      c .if4 .taken,
+    )
 
 returns-5 : tie.Need-returns-5
 returns-5 c =
@@ -45,7 +53,15 @@ returns-5 c =
     let c4 = c3 .before in
     let c5 = c4 .before in
     let c6 = c5 .before in
-    rw (← c6 .is-below .ensures, c5 .if1 .left, ← c4 .does-skip .ensures, c3 .if2 .left, le-ltb _ _ (c2 .if3 .left), ← c .before .is-above .ensures, c .if4 .left)
+    rw (
+      ← c6 .is-below .ensures,
+      c5 .if1 .left,
+      ← c4 .does-skip .ensures,
+      c3 .if2 .left,
+      le-ltb _ _ (c2 .if3 .left),
+      ← c .before .is-above .ensures,
+      c .if4 .left,
+    )
 
 pub sanitize-offset-spec : {M : Type 1} → statement M
 sanitize-offset-spec =

@@ -65,10 +65,12 @@ fields-len-loop-holds t c =
     let c1 = c .before in
     taking-start _ _ _ _ _ _ (c1 .pre .1 .0 .found) (c1 .pre .1 .2)
 
-fields-len-word-at-requires : (t : ℕ) → fields-len-lts.Need-word-at-requires (fields-len-calls t) (fields-len-at t) fields-len.Post fields-len-Inv-loop fields-len-μ-loop
+fields-len-word-at-requires : (t : ℕ) → fields-len-lts.Need-word-at-requires (fields-len-calls t) (fields-len-at t) fields-len.Post
+    fields-len-Inv-loop fields-len-μ-loop
 fields-len-word-at-requires t c κs = search needs
 
-fields-len-fixed-len-requires : (t : ℕ) → fields-len-lts.Need-fixed-len-requires (fields-len-calls t) (fields-len-at t) fields-len.Post fields-len-Inv-loop fields-len-μ-loop
+fields-len-fixed-len-requires : (t : ℕ) → fields-len-lts.Need-fixed-len-requires (fields-len-calls t) (fields-len-at t) fields-len.Post
+    fields-len-Inv-loop fields-len-μ-loop
 fields-len-fixed-len-requires t c κs =
     let c1 = c .before in
     let c2 = c1 .before in
@@ -84,7 +86,8 @@ fields-len-fixed-len-requires t c κs =
       ),
     )
 
-fields-len-width-of-requires : (t : ℕ) → fields-len-lts.Need-width-of-requires (fields-len-calls t) (fields-len-at t) fields-len.Post fields-len-Inv-loop fields-len-μ-loop
+fields-len-width-of-requires : (t : ℕ) → fields-len-lts.Need-width-of-requires (fields-len-calls t) (fields-len-at t) fields-len.Post
+    fields-len-Inv-loop fields-len-μ-loop
 fields-len-width-of-requires t c κs = search needs
 
 fields-len-add-portion : (t : ℕ) → fields-len-lts.Need-add-portion (fields-len-calls t) (fields-len-at t) fields-len.Post fields-len-Inv-loop fields-len-μ-loop
@@ -94,7 +97,8 @@ fields-len-add-portion t c =
     let c5 = c4 .before in
     let c6 = c5 .before in
     let c8 = c6 .before .before in
-    let w = taking-width _ _ _ _ _ _ _ _ _ _ _ _ (c6 .loop .inv) (c5 .loop-test .taken) (c4 .word-at .ensures .0) (c8 .pre .1 .1) (c8 .pre .1 .0 .legal) (c2 .fixed-len .ensures .gives) _ (c .width-of .ensures) in
+    let w = taking-width _ _ _ _ _ _ _ _ _ _ _ _ (c6 .loop .inv) (c5 .loop-test .taken) (c4 .word-at .ensures .0) (c8 .pre .1 .1)
+    (c8 .pre .1 .0 .legal) (c2 .fixed-len .ensures .gives) _ (c .width-of .ensures) in
     omega (arith, w, c6 .loop .inv .adding .bound, c8 .pre .1 .3, c5 .loop-test .taken)
 
 fields-len-add-a : (t : ℕ) → fields-len-lts.Need-add-a (fields-len-calls t) (fields-len-at t) fields-len.Post fields-len-Inv-loop fields-len-μ-loop

@@ -65,7 +65,8 @@ returns-3 c =
     let c8 = c6 .before .before in
     ended _ _ _ _ _
     (rw (lt-ltb _ _ (c6 .if1 .left), ← c5 .word-at .ensures .0, c1 .if3 .taken) (c .many-end .ensures))
-    (leaf-found _ _ _ (c8 .pre .3) _ _ _ _ (c5 .word-at .ensures .0) (c3 .word-at2 .ensures .0) (c4 .if2 .left) (c2 .leaf-len .ensures) (c8 .pre .0 .found) (c8 .pre .1))
+    (leaf-found _ _ _ (c8 .pre .3) _ _ _ _ (c5 .word-at .ensures .0) (c3 .word-at2 .ensures .0) (c4 .if2 .left) (c2 .leaf-len .ensures)
+    (c8 .pre .0 .found) (c8 .pre .1))
 
 add-t16 : tie.Need-add-t16
 add-t16 c = search needs
@@ -81,7 +82,8 @@ returns-4 c =
     let c8 = c6 .before .before in
     ended _ _ _ _ _
     (rw (lt-ltb _ _ (c6 .if1 .left), ← c5 .word-at .ensures .0, c .if4 .taken))
-    (leaf-found _ _ _ (c8 .pre .3) _ _ _ _ (c5 .word-at .ensures .0) (c3 .word-at2 .ensures .0) (c4 .if2 .left) (c2 .leaf-len .ensures) (c8 .pre .0 .found) (c8 .pre .1))
+    (leaf-found _ _ _ (c8 .pre .3) _ _ _ _ (c5 .word-at .ensures .0) (c3 .word-at2 .ensures .0) (c4 .if2 .left) (c2 .leaf-len .ensures)
+    (c8 .pre .0 .found) (c8 .pre .1))
 
 leaf-end-requires : tie.Need-leaf-end-requires
 leaf-end-requires c κs = search needs
@@ -99,9 +101,17 @@ returns-5 c =
     let c8 = c7 .before in
     let c10 = c8 .before .before in
     ended _ _ _ _ _
-    (rw (lt-ltb _ _ (c8 .if1 .left), ← c7 .word-at .ensures .0, ne-eqb _ _ (c6 .if2 .left), ne-eqb _ _ (c3 .if3 .left), ne-eqb _ _ (c2 .if4 .left), lt-ltb _ _ (c1 .if5 .taken))
+    (rw (
+      lt-ltb _ _ (c8 .if1 .left),
+      ← c7 .word-at .ensures .0,
+      ne-eqb _ _ (c6 .if2 .left),
+      ne-eqb _ _ (c3 .if3 .left),
+      ne-eqb _ _ (c2 .if4 .left),
+      lt-ltb _ _ (c1 .if5 .taken),
+    )
     (c .leaf-end .ensures))
-    (leaf-found _ _ _ (c10 .pre .3) _ _ _ _ (c7 .word-at .ensures .0) (c5 .word-at2 .ensures .0) (c6 .if2 .left) (c4 .leaf-len .ensures) (c10 .pre .0 .found) (c10 .pre .1))
+    (leaf-found _ _ _ (c10 .pre .3) _ _ _ _ (c7 .word-at .ensures .0) (c5 .word-at2 .ensures .0) (c6 .if2 .left) (c4 .leaf-len .ensures)
+    (c10 .pre .0 .found) (c10 .pre .1))
 
 returns-6 : tie.Need-returns-6
 unfolding bodyEnd count
@@ -112,7 +122,14 @@ returns-6 c =
     let c6 = c5 .before in
     let c7 = c6 .before in
     ended-bad _ _ _ _ _
-    (rw (lt-ltb _ _ (c7 .if1 .left), ← c6 .word-at .ensures .0, ne-eqb _ _ (c5 .if2 .left), ne-eqb _ _ (c2 .if3 .left), ne-eqb _ _ (c1 .if4 .left), le-ltb _ _ (c .if5 .left)))
+    (rw (
+      lt-ltb _ _ (c7 .if1 .left),
+      ← c6 .word-at .ensures .0,
+      ne-eqb _ _ (c5 .if2 .left),
+      ne-eqb _ _ (c2 .if3 .left),
+      ne-eqb _ _ (c1 .if4 .left),
+      le-ltb _ _ (c .if5 .left),
+    ))
 
 pub body-end-spec : {M : Type 1} → statement M
 body-end-spec =

@@ -55,8 +55,11 @@ loop-again c =
     let c2 = c .before .before in
     let c3 = c2 .before in
     let c4 = c3 .before in
-    let c5 = c4 .before in
-    (refl, refs-next _ _ _ _ _ _ (c4 .loop-test .taken) (c5 .loop .inv .1) _ _ (c3 .if1 .left) (c2 .word-at .ensures .0) (c .before .may-name .ensures) (not-false _ (c .if2 .left)))
+    let c5 = c4 .before in (
+      refl,
+      refs-next _ _ _ _ _ _ (c4 .loop-test .taken) (c5 .loop .inv .1) _ _ (c3 .if1 .left) (c2 .word-at .ensures .0)
+          (c .before .may-name .ensures) (not-false _ (c .if2 .left)),
+    )
 
 returns-3 : tie.Need-returns-3 Inv-loop μ-loop
 returns-3 c = sym (refs-none _ _ _ _ _ (c .loop-test .left)) ∙ c .before .loop .inv .1

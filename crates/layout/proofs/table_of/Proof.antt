@@ -56,8 +56,14 @@ returns-4 c =
     let c4 = c3 .before in
     let c5 = c4 .before in
     let c7 = c5 .before .before in
-    rw
-    (eq-eqb _ _ (c5 .if1 .left), lt-ltb 0 (length (c7 .args .layout .now) / 4) (omega (arith, c4 .if2 .left)), ← c3 .word-at .ensures .0, lt-ltb 0 (c3 .word-at .result) (omega (arith, c2 .if3 .left)), lt-leb _ _ (c .before .if4 .taken))
+    rw (
+      eq-eqb _ _ (c5 .if1 .left),
+      lt-ltb 0 (length (c7 .args .layout .now) / 4) (omega (arith, c4 .if2 .left)),
+      ← c3 .word-at .ensures .0,
+      lt-ltb 0
+          (c3 .word-at .result) (omega (arith, c2 .if3 .left)),
+      lt-leb _ _ (c .before .if4 .taken),
+    )
     (c .refused4 .ensures)
 
 refused-requires-5 : tie.Need-refused-requires-5
@@ -72,8 +78,15 @@ returns-5 c =
     let c5 = c4 .before in
     let c6 = c5 .before in
     let c8 = c6 .before .before in
-    rw
-    (eq-eqb _ _ (c6 .if1 .left), lt-ltb 0 (length (c8 .args .layout .now) / 4) (omega (arith, c5 .if2 .left)), ← c4 .word-at .ensures .0, lt-ltb 0 (c4 .word-at .result) (omega (arith, c3 .if3 .left)), le-leb _ _ (c2 .if4 .left), le-ltb _ _ (c .before .if5 .taken))
+    rw (
+      eq-eqb _ _ (c6 .if1 .left),
+      lt-ltb 0 (length (c8 .args .layout .now) / 4) (omega (arith, c5 .if2 .left)),
+      ← c4 .word-at .ensures .0,
+      lt-ltb 0
+          (c4 .word-at .result) (omega (arith, c3 .if3 .left)),
+      le-leb _ _ (c2 .if4 .left),
+      le-ltb _ _ (c .before .if5 .taken),
+    )
     (c .refused5 .ensures)
 
 types-end-requires : tie.Need-types-end-requires

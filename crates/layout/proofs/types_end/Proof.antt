@@ -63,7 +63,8 @@ returns-2 c =
     let c7 = c6 .before in
     let c8 = c7 .before in
     typed-bad _ _ _ _
-    (checking-bad _ _ _ _ _ (c8 .loop .inv) (c7 .loop-test .taken) _ (c6 .word-at .ensures .0) (c5 .if1 .left) _ (sym (c1 .c .given .1) ∙ c3 .body-end .ensures .gives))
+    (checking-bad _ _ _ _ _ (c8 .loop .inv) (c7 .loop-test .taken) _ (c6 .word-at .ensures .0) (c5 .if1 .left) _
+    (sym (c1 .c .given .1) ∙ c3 .body-end .ensures .gives))
 
 enum-known-c-2 : tie.Need-enum-known-c-2 Inv-loop μ-loop
 enum-known-c-2 c = search needs

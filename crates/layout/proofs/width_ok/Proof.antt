@@ -24,7 +24,14 @@ returns-6 c = rw (c .match .keys6)
 returns-7 : tie.Need-returns-7
 returns-7 c =
     let r = c .match .rest in
-    rw (ne-eqb _ _ (r .0 .0 .0 .0 .0 .1), ne-eqb _ _ (r .0 .0 .0 .0 .1), ne-eqb _ _ (r .0 .0 .0 .1), ne-eqb _ _ (r .0 .0 .1), ne-eqb _ _ (r .0 .1), ne-eqb _ _ (r .1))
+    rw (
+      ne-eqb _ _ (r .0 .0 .0 .0 .0 .1),
+      ne-eqb _ _ (r .0 .0 .0 .0 .1),
+      ne-eqb _ _ (r .0 .0 .0 .1),
+      ne-eqb _ _ (r .0 .0 .1),
+      ne-eqb _ _ (r .0 .1),
+      ne-eqb _ _ (r .1),
+    )
 
 pub width-ok-spec : {M : Type 1} → statement M
 width-ok-spec =

@@ -22,14 +22,26 @@ enum-known-r-2 c = search needs
 returns : tie.Need-returns
 returns c =
     let c2 = c .before .before in
-    let c4 = c2 .before .before in
-    (rw (← c4 .check-under .ensures, c2 .r2 .given .1, lt-ltb _ _ (c .if1 .taken)), (rw (← c4 .check-under .ensures, c2 .r2 .given .1, lt-ltb _ _ (c .if1 .taken)), rw (← c4 .check-under .ensures, c2 .r2 .given .1, lt-ltb _ _ (c .if1 .taken))))
+    let c4 = c2 .before .before in (
+      rw (← c4 .check-under .ensures, c2 .r2 .given .1, lt-ltb _ _ (c .if1 .taken)),
+      (
+        rw (← c4 .check-under .ensures, c2 .r2 .given .1, lt-ltb _ _ (c .if1 .taken)),
+        rw
+            (← c4 .check-under .ensures, c2 .r2 .given .1, lt-ltb _ _ (c .if1 .taken)),
+      ),
+    )
 
 returns-2 : tie.Need-returns-2
 returns-2 c =
     let c3 = c .before .before .before in
-    let c5 = c3 .before .before in
-    (rw (← c5 .check-under .ensures, c3 .r2 .given .1, le-ltb _ _ (c .before .if1 .left), lt-ltb _ _ (c .if2 .taken)), (rw (← c5 .check-under .ensures, c3 .r2 .given .1, le-ltb _ _ (c .before .if1 .left), lt-ltb _ _ (c .if2 .taken)), rw (← c5 .check-under .ensures, c3 .r2 .given .1, le-ltb _ _ (c .before .if1 .left), lt-ltb _ _ (c .if2 .taken))))
+    let c5 = c3 .before .before in (
+      rw (← c5 .check-under .ensures, c3 .r2 .given .1, le-ltb _ _ (c .before .if1 .left), lt-ltb _ _ (c .if2 .taken)),
+      (
+        rw (← c5 .check-under .ensures, c3 .r2 .given .1, le-ltb _ _ (c .before .if1 .left), lt-ltb _ _ (c .if2 .taken)),
+        rw
+            (← c5 .check-under .ensures, c3 .r2 .given .1, le-ltb _ _ (c .before .if1 .left), lt-ltb _ _ (c .if2 .taken)),
+      ),
+    )
 
 sub-last : tie.Need-sub-last
 sub-last c =
@@ -49,8 +61,10 @@ unfold-item-requires c κs =
 
 returns-3 : tie.Need-returns-3
 returns-3 c =
-    let c3 = c .before .before .before in
-    (rw (← c3 .check-under .ensures, c .before .r .given .1), (rw (← c3 .check-under .ensures, c .before .r .given .1), rw (← c3 .check-under .ensures, c .before .r .given .1)))
+    let c3 = c .before .before .before in (
+      rw (← c3 .check-under .ensures, c .before .r .given .1),
+      (rw (← c3 .check-under .ensures, c .before .r .given .1), rw (← c3 .check-under .ensures, c .before .r .given .1)),
+    )
 
 same-length : tie.Need-same-length
 same-length c =
@@ -68,8 +82,20 @@ returns-4 c =
     let c7 = c4 .before .before .before in
     let c8 = c7 .before in
     let c10 = c8 .before .before in
-    let c12 = c10 .before .before in
-    (rw (← c12 .check-under .ensures, c10 .r2 .given .1, le-ltb _ _ (c8 .if1 .left), le-ltb _ _ (c7 .if2 .left)), (rw (← c12 .check-under .ensures, c10 .r2 .given .1, le-ltb _ _ (c8 .if1 .left), le-ltb _ _ (c7 .if2 .left)) (c4 .unfold-item .ensures .words .list), rw (← c12 .check-under .ensures, c10 .r2 .given .1, le-ltb _ _ (c8 .if1 .left), le-ltb _ _ (c7 .if2 .left)) (c4 .unfold-item .ensures .bytes .list)))
+    let c12 = c10 .before .before in (
+      rw (← c12 .check-under .ensures, c10 .r2 .given .1, le-ltb _ _ (c8 .if1 .left), le-ltb _ _ (c7 .if2 .left)),
+      (
+        rw (← c12 .check-under .ensures, c10 .r2 .given .1, le-ltb _ _ (c8 .if1 .left), le-ltb _ _ (c7 .if2 .left))
+            (c4 .unfold-item .ensures .words .list),
+        rw (
+          ← c12 .check-under .ensures,
+          c10 .r2 .given .1,
+          le-ltb _ _ (c8 .if1 .left),
+          le-ltb _ _
+              (c7 .if2 .left),
+        ) (c4 .unfold-item .ensures .bytes .list),
+      ),
+    )
 
 pub unfold-under-spec : {M : Type 1} → statement M
 unfold-under-spec =

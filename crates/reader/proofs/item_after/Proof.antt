@@ -87,7 +87,8 @@ module _ {M : Type 1} (𝓤 : URA M) (H : Heap 𝓤) (A : Atoms 𝓤) (mem : Mem
   abbrev Next : Contract 𝓤
   Next = tripleOf 𝓤 H A next.signature (next.spec 𝓤 H A mem run)
 
-module _ {M : Type 1} (𝓤 : URA M) (H : Heap 𝓤) (A : Atoms 𝓤) (W : Given 𝓤 H A) (mem : Memory → SProp 𝓤) (run : Routine → Fun 𝓤) (κ : Lft) (q : Share) (s : RefT (List ℕ)) (d : SszDecoder) (n : ℕ) where
+module _ {M : Type 1} (𝓤 : URA M) (H : Heap 𝓤) (A : Atoms 𝓤) (W : Given 𝓤 H A) (mem : Memory → SProp 𝓤) (run : Routine → Fun 𝓤) (κ : Lft) (q : Share)
+    (s : RefT (List ℕ)) (d : SszDecoder) (n : ℕ) where
   abbrev α : NamedLft
   α = namedLft 1 0 tt (κ, tt)
 
@@ -119,7 +120,8 @@ module _ {M : Type 1} (𝓤 : URA M) (H : Heap 𝓤) (A : Atoms 𝓤) (W : Given
       qed W ((‵ (flft κ q) ⊛ ‵ ftrue) ∷ ‵ (owns (ShrSlice (named 0) κ u8 ∷ S.the-row ∷ usize ∷ []) (s, (d, (n, tt))) at) ∷ []) ∵
       move ! (1 ∷ []) $ fsplit ! $ use1 W (‵ Own ⊛ ‵ Own) (shr-slice-copy 𝓤 H A W (named 0) κ u8 .twice s (v ∷ [])) $ split ! $
       move ! (0 ∷ 2 ∷ []) $ fjoin ! $ move ! (2 ∷ 0 ∷ []) $
-      use2 W (raw (New 𝓤 H A mem run .pre to-new)) (qed W ((‵ (flft κ q) ⊛ ‵ ftrue) ∷ ‵ (owns (ShrSlice (named 0) κ u8 ∷ S.the-row ∷ usize ∷ []) (s, (d, (n, tt))) at) ∷ []) ∵ join ! $ frame ! $ done !) $ frame ! $ done !
+      use2 W (raw (New 𝓤 H A mem run .pre to-new)) (qed W ((‵ (flft κ q) ⊛ ‵ ftrue) ∷ ‵
+      (owns (ShrSlice (named 0) κ u8 ∷ S.the-row ∷ usize ∷ []) (s, (d, (n, tt))) at) ∷ []) ∵ join ! $ frame ! $ done !) $ frame ! $ done !
 
   new-said : (r : SszReader) → ent 𝓤 (ensured 𝓤 H A new.ended (new.clauses 𝓤 H A mem run) (κ, tt) (s, (d, (n, tt))) tt r) (fact 𝓤 (r ≡ readerAt s d n))
   new-said r = exE 𝓤 _ (λ ws. snd∗ 𝓤 (sem 𝓤 H A (lasts new.ended (κ, tt) (s, (d, (n, tt))) ws)) (fact 𝓤 (r ≡ readerAt s d n)))
@@ -128,8 +130,10 @@ module _ {M : Type 1} (𝓤 : URA M) (H : Heap 𝓤) (A : Atoms 𝓤) (W : Given
   abbrev to-next : SszReader → Val → Next 𝓤 H A mem run .Ghost
   to-next r u = (((κ, tt), (q, tt), tt, (r, tt), (u ∷ [], tt)), tt)
 
-  goes-next : (r : SszReader) (u : Val) → ent 𝓤 (⋆ 𝓤 H A (‵ (B (κ, tt) .own r (u ∷ [])) ∷ (‵ (flft κ q) ⊛ ‵ ftrue) ∷ [])) (Next 𝓤 H A mem run .pre (to-next r u))
-  goes-next r u = qed W (‵ (B (κ, tt) .own r (u ∷ [])) ∷ (‵ (flft κ q) ⊛ ‵ ftrue) ∷ []) ∵ nothing ! $ move ! (1 ∷ 0 ∷ []) $ fjoin ! $ move ! (1 ∷ 0 ∷ []) $ join ! $ frame ! $ done !
+  goes-next : (r : SszReader) (u : Val) → ent 𝓤 (⋆ 𝓤 H A (‵ (B (κ, tt) .own r (u ∷ [])) ∷ (‵ (flft κ q) ⊛ ‵ ftrue) ∷ []))
+      (Next 𝓤 H A mem run .pre (to-next r u))
+  goes-next r u = qed W (‵ (B (κ, tt) .own r (u ∷ [])) ∷ (‵ (flft κ q) ⊛ ‵ ftrue) ∷ []) ∵ nothing ! $ move ! (1 ∷ 0 ∷ []) $ fjoin ! $ move !
+      (1 ∷ 0 ∷ []) $ join ! $ frame ! $ done !
 
   next-said : (r : SszReader) (t : Taken) → ent 𝓤 (ensured 𝓤 H A next.ended (next.clauses 𝓤 H A mem run) (κ, tt) (r, tt) tt t) (fact 𝓤 (Said r t))
   next-said r t = exE 𝓤 _ (λ ws. snd∗ 𝓤 (sem 𝓤 H A (lasts next.ended (κ, tt) (r, tt) ws)) (fact 𝓤 (Said r t)))
@@ -142,24 +146,34 @@ module _ {M : Type 1} (𝓤 : URA M) (H : Heap 𝓤) (A : Atoms 𝓤) (W : Given
   mach t = LL.val (N.the-type α) (N′.the-laws α) t
 
   module _ (is-s : Is (ShrSlice (named 0) κ u8) s (v ∷ [])) (is-d : Is S.the-row d (w ∷ [])) (ok : n < 2 ^ 64) where
-    exits : (t : Taken) → now (t .item) ≡ itemOf d n (now s) → ent 𝓤 (⋆ 𝓤 H A (‵ (B′ (κ, tt) .own t (mach t ∷ [])) ∷ (‵ (flft κ q) ⊛ ‵ ftrue) ∷ ‵ Own ∷ [])) (Post (sliceVal (t .item .ptr) (length (t .item .now))))
+    exits : (t : Taken) → now (t .item) ≡ itemOf d n (now s) →
+        ent 𝓤 (⋆ 𝓤 H A (‵ (B′ (κ, tt) .own t (mach t ∷ [])) ∷ (‵ (flft κ q) ⊛ ‵ ftrue) ∷ ‵ Own ∷ []))
+        (Post (sliceVal (t .item .ptr) (length (t .item .now))))
     exits t e =
         qed W (‵ (B′ (κ, tt) .own t (mach t ∷ [])) ∷ (‵ (flft κ q) ⊛ ‵ ftrue) ∷ ‵ Own ∷ []) ∵
-        suffices ! _ (ends-at 𝓤 H A item.ended stayed (item.clauses 𝓤 H A mem run) W (((κ, tt), (q, tt), tt, (s, (d, (n, tt))), at), tt) (sliceVal (t .item .ptr) (length (t .item .now))) (t .item) (tt, (tt, (tt, tt))) (tt, (tt, (tt, tt)))) $ says ! e $
+        suffices ! _ (ends-at 𝓤 H A item.ended stayed (item.clauses 𝓤 H A mem run) W (((κ, tt), (q, tt), tt, (s, (d, (n, tt))), at), tt)
+        (sliceVal (t .item .ptr) (length (t .item .now))) (t .item) (tt, (tt, (tt, tt))) (tt, (tt, (tt, tt)))) $ says ! e $
         move ! (1 ∷ []) $ frame ! $
         -- [what t owns; what s owns]
-        nothing ! $ owned ! usize (Is usize) (uint-makes 𝓤 H A W w64) n _ (refl, ok) $ fjoin ! $ owned ! S.the-row (Is S.the-row) ((LL.makes S.the-type S′.the-plain) 𝓤 H A) d _ is-d $ fjoin ! $ move ! (2 ∷ 0 ∷ []) $ fjoin ! $ frame ! $
-        use1 W (given (mach t ∷ [] ≡ mach t ∷ []) (‵ (all-own (N.the-type α .parts) (N′.the-laws α) (vt t)))) (own-open 𝓤 H A W (N.the-type α) (N′.the-laws α) (vt t) (mach t)) $ learn ! (λ _.
-        use1 W (‵ (ownAt (N.the-type α .parts) (N′.the-laws α) 1 (t .item)) ⊛ ‵ (rest (N.the-type α .parts) (N′.the-laws α) 1 (vt t))) (own-out 𝓤 H A W (N.the-type α .parts) (N′.the-laws α) 1 (vt t)) $ split ! $ move ! (1 ∷ []) $ drop ! $ done !)
+        nothing ! $ owned ! usize (Is usize) (uint-makes 𝓤 H A W w64) n _ (refl, ok) $ fjoin ! $ owned ! S.the-row (Is S.the-row)
+        ((LL.makes S.the-type S′.the-plain) 𝓤 H A) d _ is-d $ fjoin ! $ move ! (2 ∷ 0 ∷ []) $ fjoin ! $ frame ! $
+        use1 W (given (mach t ∷ [] ≡ mach t ∷ []) (‵ (all-own (N.the-type α .parts) (N′.the-laws α) (vt t))))
+        (own-open 𝓤 H A W (N.the-type α) (N′.the-laws α) (vt t) (mach t)) $ learn ! (λ _.
+        use1 W (‵ (ownAt (N.the-type α .parts) (N′.the-laws α) 1 (t .item)) ⊛ ‵ (rest (N.the-type α .parts) (N′.the-laws α) 1 (vt t)))
+        (own-out 𝓤 H A W (N.the-type α .parts) (N′.the-laws α) 1 (vt t)) $ split ! $ move ! (1 ∷ []) $ drop ! $ done !)
 
-    module _ (C : Calls 𝓤 H) (Λ : Loops 𝓤 H) (fm : FmC 𝓤 H (W .laws) C) (known-new : Triple 𝓤 (C #reader·new) (New 𝓤 H A mem run)) (known-next : Triple 𝓤 (C #reader·decode-next) (Next 𝓤 H A mem run)) where
+    module _ (C : Calls 𝓤 H) (Λ : Loops 𝓤 H) (fm : FmC 𝓤 H (W .laws) C) (known-new : Triple 𝓤 (C #reader·new) (New 𝓤 H A mem run))
+        (known-next : Triple 𝓤 (C #reader·decode-next) (Next 𝓤 H A mem run)) where
       walk : ent 𝓤 (onEntry 𝓤 H A item.signature (κ, tt) (q, tt) (s, (d, (n, tt))) at) (WpFn 𝓤 H C Λ code.function (v ∷ w ∷ vint w64 n ∷ []) Post)
       walk =
           qed W (raw (onEntry 𝓤 H A item.signature (κ, tt) (q, tt) (s, (d, (n, tt))) at) ∷ []) ∵ enter ! C Λ code.function (v ∷ w ∷ vint w64 n ∷ []) _ $
           alloc1 ! (λ l₀. alloc1 ! (λ l₁. alloc1 ! (λ l₂. alloc1 ! (λ l₃. alloc1 ! (λ l₄. alloc1 ! (λ l₅. alloc0 ! $ params1 ! $
-          pass1 ! (init ! 8 refl (shr-slice-lawful 𝓤 H A W (named 0) κ u8 .typed s (v ∷ []) is-s .0)) $ pass1 ! (init ! 6 refl (LL.lawful S.the-type S′.the-laws 𝓤 H A W .typed d _ is-d .0)) $ pass1 ! (init ! 4 refl (tt, record { fits = ok })) $ pass0 ! $
+          pass1 ! (init ! 8 refl (shr-slice-lawful 𝓤 H A W (named 0) κ u8 .typed s (v ∷ []) is-s .0)) $ pass1 !
+          (init ! 6 refl (LL.lawful S.the-type S′.the-laws 𝓤 H A W .typed d _ is-d .0)) $ pass1 ! (init ! 4 refl (tt, record { fits = ok })) $
+          pass0 ! $
           move ! (12 ∷ []) $ use1 W (raw (New 𝓤 H A mem run .pre to-new) ⊛ ‵ Own) goes-new $ split ! $
-          calls-at ! fm (New 𝓤 H A mem run) known-new to-new (and-then ! (load ! (from ! (stop !)) (look ! 10 refl)) (and-then ! (load ! (from ! (stop !)) (look ! 8 refl)) (and-then ! (load ! (from ! (stop !)) (look ! 6 refl)) (no-more !)))) (λ u.
+          calls-at ! fm (New 𝓤 H A mem run) known-new to-new (and-then ! (load ! (from ! (stop !)) (look ! 10 refl))
+          (and-then ! (load ! (from ! (stop !)) (look ! 8 refl)) (and-then ! (load ! (from ! (stop !)) (look ! 6 refl)) (no-more !)))) (λ u.
           use1 W (later (some (λ (r : SszReader). ((‵ (flft κ q) ⊛ ‵ ftrue) ⊛ ‵ (B (κ, tt) .own r (u ∷ []))) ⊛ raw (ensured 𝓤 H A new.ended (new.clauses 𝓤 H A mem run) (κ, tt) (s, (d, (n, tt))) tt r)))) (id⊢ 𝓤 _) $ await ! tt $ pick ! (λ r.
           split ! $ move ! (1 ∷ []) $ use1 W (raw (fact 𝓤 (r ≡ readerAt s d n))) (new-said r) $ heard ! (r ≡ readerAt s d n) (λ e. split ! $ move ! (1 ∷ []) $
           -- [what the reader owns; the token; what s owns; room for _5; …; room for _4; …; _3; …]
@@ -173,14 +187,22 @@ module _ {M : Type 1} (𝓤 : URA M) (H : Heap 𝓤) (A : Atoms 𝓤) (W : Given
           peeks ! (B′ (κ, tt)) (Is (B′ (κ, tt))) (shows 𝓤 H A (B′ (κ, tt))) t (u′ ∷ []) (λ is′.
           rewrite ! 0 (λ (us : List Val). ‵ (B′ (κ, tt) .own t us)) (LL.tells (N.the-type α) (N′.the-laws α) t (u′ ∷ []) is′) refl $
           spelled-as ! (ap only (LL.tells (N.the-type α) (N′.the-laws α) t (u′ ∷ []) is′)) $
-          land ! (from ! (stop !)) (init ! 5 refl (LL.lawful (N.the-type αᵉ) (N′.the-laws αᵉ) 𝓤 H A W .typed t _ (LL.owes (N.the-type αᵉ) (N′.the-laws αᵉ) t (LL.owed (N.the-type α) (N′.the-laws α) t _ is′)) .0)) $
-          assigns ! (of-opd ! (load ! (from ! (fld ! refl (stop !))) (look-in ! 5 (sub ! 1 refl (whole !))))) (from ! (stop !)) (init ! 13 refl (tt, shr-slice-lawful 𝓤 H A W (named 0) κ u8 .typed (t .item) _ (LL.owed (N.the-type α) (N′.the-laws α) t _ is′ .1 .0) .0 .1)) $
+          land ! (from ! (stop !)) (init ! 5 refl (LL.lawful (N.the-type αᵉ) (N′.the-laws αᵉ) 𝓤 H A W .typed t _
+          (LL.owes (N.the-type αᵉ) (N′.the-laws αᵉ) t (LL.owed (N.the-type α) (N′.the-laws α) t _ is′)) .0)) $
+          assigns ! (of-opd ! (load ! (from ! (fld ! refl (stop !))) (look-in ! 5 (sub ! 1 refl (whole !))))) (from ! (stop !))
+          (init ! 13 refl (
+            tt,
+            shr-slice-lawful 𝓤 H A W (named 0) κ u8 .typed (t .item) _
+                (LL.owed (N.the-type α) (N′.the-laws α) t _ is′ .1 .0) .0 .1,
+          )) $
           returns ! (look ! 13 refl) $ forget ! 3 refl $ forget ! 5 refl $ forget ! 7 refl $ forget ! 9 refl $ forget ! 11 refl $ forget ! 13 refl $
-          move ! (13 ∷ 14 ∷ []) $ free1 ! $ move ! (11 ∷ 12 ∷ []) $ free1 ! $ move ! (9 ∷ 10 ∷ []) $ free1 ! $ move ! (7 ∷ 8 ∷ []) $ free1 ! $ move ! (5 ∷ 6 ∷ []) $ free1 ! $ move ! (3 ∷ 4 ∷ []) $ free1 ! $ free0 ! $
+          move ! (13 ∷ 14 ∷ []) $ free1 ! $ move ! (11 ∷ 12 ∷ []) $ free1 ! $ move ! (9 ∷ 10 ∷ []) $ free1 ! $ move ! (7 ∷ 8 ∷ []) $ free1 ! $ move !
+          (5 ∷ 6 ∷ []) $ free1 ! $ move ! (3 ∷ 4 ∷ []) $ free1 ! $ free0 ! $
           by ! (exits t (e′ .1 .0 ∙ ap itemNext e))))))))))))))))
 
 module _ {M : Type 1} (𝓤 : URA M) (H : Heap 𝓤) (A : Atoms 𝓤) (W : Given 𝓤 H A) (mem : Memory → SProp 𝓤) (run : Routine → Fun 𝓤) where
-  item-walks : (C : Calls 𝓤 H) (Λ : Loops 𝓤 H) → FmC 𝓤 H (W .laws) C → Triple 𝓤 (C #reader·new) (New 𝓤 H A mem run) → Triple 𝓤 (C #reader·decode-next) (Next 𝓤 H A mem run)
+  item-walks : (C : Calls 𝓤 H) (Λ : Loops 𝓤 H) → FmC 𝓤 H (W .laws) C → Triple 𝓤 (C #reader·new) (New 𝓤 H A mem run) →
+      Triple 𝓤 (C #reader·decode-next) (Next 𝓤 H A mem run)
       → Walks 𝓤 H A item.ended stayed (WpFn 𝓤 H C Λ code.function) (item.clauses 𝓤 H A mem run)
   item-walks C Λ fm known-new known-next = walked 𝓤 H A item.ended stayed (item.clauses 𝓤 H A mem run) (WpFn 𝓤 H C Λ code.function)
       (λ κs. (slice-vals, (LL.vals S.the-type S′.the-laws, (uint-vals w64, tt)))) (λ κs. (shr-slice-tells (named 0) (κs .0) u8, (LL.tells S.the-type S′.the-laws, (uint-tells w64, tt))))
@@ -189,8 +211,10 @@ module _ {M : Type 1} (𝓤 : URA M) (H : Heap 𝓤) (A : Atoms 𝓤) (W : Given
 item-meets : {M : Type 1} (𝓤 : URA M) (H : Heap 𝓤) (A : Atoms 𝓤) (W : Given 𝓤 H A) (mem : Memory → SProp 𝓤) (run : Routine → Fun 𝓤) (𝓣 : Tables 𝓤 H)
     → Triple 𝓤 (𝓣 .C #reader·new) (New 𝓤 H A mem run) → Triple 𝓤 (𝓣 .C #reader·decode-next) (Next 𝓤 H A mem run)
     → Meets 𝓤 H A item.signature (WpFn 𝓤 H (𝓣 .C) (𝓣 .Λ) code.function) (item.spec 𝓤 H A mem run)
-item-meets 𝓤 H A W mem run 𝓣 known-new known-next = walk-meets 𝓤 H A item.ended stayed W (goes-none-slice 𝓤 H A W 1 (0 ∷ []) tt (plain (λ _. u8)) yes, (goes-none 𝓤 H A W 1 (λ _. S.the-row) yes (λ κs x f. refl), (goes-none 𝓤 H A W 1 (λ _. usize) yes (λ κs x f. refl), tt)))
-    (item.clauses 𝓤 H A mem run) (WpFn 𝓤 H (𝓣 .C) (𝓣 .Λ) code.function) (WpFn-mono 𝓤 H (W .laws) 𝓣 code.function) (item-walks 𝓤 H A W mem run (𝓣 .C) (𝓣 .Λ) (fmOf 𝓤 H (W .laws) 𝓣) known-new known-next)
+item-meets 𝓤 H A W mem run 𝓣 known-new known-next = walk-meets 𝓤 H A item.ended stayed W
+    (goes-none-slice 𝓤 H A W 1 (0 ∷ []) tt (plain (λ _. u8)) yes, (goes-none 𝓤 H A W 1 (λ _. S.the-row) yes (λ κs x f. refl), (goes-none 𝓤 H A W 1 (λ _. usize) yes (λ κs x f. refl), tt)))
+    (item.clauses 𝓤 H A mem run) (WpFn 𝓤 H (𝓣 .C) (𝓣 .Λ) code.function) (WpFn-mono 𝓤 H (W .laws) 𝓣 code.function)
+    (item-walks 𝓤 H A W mem run (𝓣 .C) (𝓣 .Λ) (fmOf 𝓤 H (W .laws) 𝓣) known-new known-next)
 
 pub item-after-spec : {M : Type 1} → stated.statement M
 unfolding code.routine tablesOf

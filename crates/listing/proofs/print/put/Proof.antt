@@ -11,8 +11,11 @@ decimal-requires c κs = search needs
 copy-requires : tie.Need-copy-requires
 copy-requires c κs =
     let c2 = c .before .before in
-    let c5 = c2 .before .before .before in
-    (omega (arith, few-digits _ _ (c5 .fits .n .fits) (c2 .decimal .ensures .1 .0)), omega (arith, few-digits _ _ (c5 .fits .n .fits) (c2 .decimal .ensures .1 .0)))
+    let c5 = c2 .before .before .before in (
+      omega (arith, few-digits _ _ (c5 .fits .n .fits) (c2 .decimal .ensures .1 .0)),
+      omega
+          (arith, few-digits _ _ (c5 .fits .n .fits) (c2 .decimal .ensures .1 .0)),
+    )
 
 add-last : tie.Need-add-last
 add-last c =

@@ -7,7 +7,8 @@ use Rattle.measure.proofs.messages.read.Statement.{statement}
 use Rattle.measure.proofs.messages.read.Tie as tie
 
 abbrev Inv-loop : tie.InvT-loop
-Inv-loop op layout message contents₀ bodies₀ rounds sum₀ left₀ contents bodies sum left = (length contents ≡ length contents₀) × (length bodies ≡ length bodies₀)
+Inv-loop op layout message contents₀ bodies₀ rounds sum₀ left₀ contents bodies sum left = (length contents ≡ length contents₀) ×
+    (length bodies ≡ length bodies₀)
 
 abbrev μ-loop : tie.MeasureT-loop
 μ-loop op layout message contents₀ bodies₀ rounds sum₀ left₀ contents bodies sum left = left

@@ -35,10 +35,15 @@ four-at-requires : tie.Need-four-at-requires Inv-loop μ-loop
 four-at-requires c κs = search needs
 
 returns : tie.Need-returns Inv-loop μ-loop
-returns c = c .four-at .ensures .0 ∙ seeking-found _ _ _ _ _ _ _ _ _ _ _ _ (c .before .before .before .before .before .loop .inv) (c .before .before .before .before .loop-test .taken) (c .before .before .before .word-at .ensures .0) refl (c .before .if1 .taken)
+returns c = c .four-at .ensures .0 ∙ seeking-found _ _ _ _ _ _ _ _ _ _ _ _ (c .before .before .before .before .before .loop .inv)
+    (c .before .before .before .before .loop-test .taken) (c .before .before .before .word-at .ensures .0) refl (c .before .if1 .taken)
 
 add-p : tie.Need-add-p Inv-loop μ-loop
-add-p c = omega (arith, seeking-fits _ _ _ _ _ _ _ _ _ _ _ _ (c .before .before .before .before .loop .inv) (c .before .before .before .loop-test .taken) (c .before .before .word-at .ensures .0) refl (c .if1 .left))
+add-p c = omega (
+  arith,
+  seeking-fits _ _ _ _ _ _ _ _ _ _ _ _ (c .before .before .before .before .loop .inv)
+      (c .before .before .before .loop-test .taken) (c .before .before .word-at .ensures .0) refl (c .if1 .left),
+)
 
 add-a : tie.Need-add-a Inv-loop μ-loop
 add-a c = omega (arith, c .before .before .before .before .loop .inv .row .near)
@@ -50,7 +55,8 @@ loop-less : tie.Need-loop-less Inv-loop μ-loop
 loop-less c = omega arith
 
 loop-again : tie.Need-loop-again Inv-loop μ-loop
-loop-again c = seeking-next _ _ _ _ _ _ _ _ _ _ _ _ (c .before .before .before .before .loop .inv) (c .before .before .before .loop-test .taken) (c .before .before .word-at .ensures .0) refl (c .if1 .left)
+loop-again c = seeking-next _ _ _ _ _ _ _ _ _ _ _ _ (c .before .before .before .before .loop .inv) (c .before .before .before .loop-test .taken)
+    (c .before .before .word-at .ensures .0) refl (c .if1 .left)
 
 returns-2 : tie.Need-returns-2 Inv-loop μ-loop
 returns-2 c = seeking-end _ _ _ _ _ _ _ _ _ _ (c .before .loop .inv) (c .loop-test .left)

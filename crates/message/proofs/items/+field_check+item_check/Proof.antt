@@ -83,9 +83,27 @@ field-check-calls t = (
 
 -- what `item_check` calls, at the measure t
 abbrev item-check-calls : ℕ → item-check-lts.Claims
-item-check-calls t = (look-reads.Asked, look-reads.Learnt, container-told-reads.Asked, container-told-reads.Learnt, field-check-below t, field-check.Post, select-reads.Asked, select-reads.Learnt, leaf-reads.Asked, leaf-reads.Learnt, item-check-below t, item-check.Post, with-selector-reads.Asked, with-selector-reads.Learnt, leaf-check-reads.Asked, leaf-check-reads.Learnt)
+item-check-calls t = (
+  look-reads.Asked,
+  look-reads.Learnt,
+  container-told-reads.Asked,
+  container-told-reads.Learnt,
+  field-check-below t,
+  field-check.Post,
+  select-reads.Asked,
+  select-reads.Learnt,
+  leaf-reads.Asked,
+  leaf-reads.Learnt,
+  item-check-below t,
+  item-check.Post,
+  with-selector-reads.Asked,
+  with-selector-reads.Learnt,
+  leaf-check-reads.Asked,
+  leaf-check-reads.Learnt,
+)
 
-field-check-loop-holds : (t : ℕ) → field-check-lts.Need-loop-holds (field-check-calls t) (field-check-at t) field-check.Post field-check-Inv-loop field-check-μ-loop
+field-check-loop-holds : (t : ℕ) → field-check-lts.Need-loop-holds (field-check-calls t) (field-check-at t) field-check.Post field-check-Inv-loop
+    field-check-μ-loop
 field-check-loop-holds t c =
     let c3 = c .before .before .before in
     record {
@@ -99,10 +117,12 @@ field-check-loop-holds t c =
           refl;
     }
 
-field-check-word-at-requires : (t : ℕ) → field-check-lts.Need-word-at-requires (field-check-calls t) (field-check-at t) field-check.Post field-check-Inv-loop field-check-μ-loop
+field-check-word-at-requires : (t : ℕ) → field-check-lts.Need-word-at-requires (field-check-calls t) (field-check-at t) field-check.Post
+    field-check-Inv-loop field-check-μ-loop
 field-check-word-at-requires t c κs = search needs
 
-field-check-locate-requires : (t : ℕ) → field-check-lts.Need-locate-requires (field-check-calls t) (field-check-at t) field-check.Post field-check-Inv-loop field-check-μ-loop
+field-check-locate-requires : (t : ℕ) → field-check-lts.Need-locate-requires (field-check-calls t) (field-check-at t) field-check.Post
+    field-check-Inv-loop field-check-μ-loop
 field-check-locate-requires t c κs =
     let c2 = c .before .before in
     (c2 .loop .inv .row, c .before .loop-test .taken, c .word-at .ensures .0, c2 .loop .inv .ranges)
@@ -115,13 +135,16 @@ field-check-add-a t c =
 field-check-sub-left : (t : ℕ) → field-check-lts.Need-sub-left (field-check-calls t) (field-check-at t) field-check.Post field-check-Inv-loop field-check-μ-loop
 field-check-sub-left t c = omega arith
 
-field-check-kind-of-requires : (t : ℕ) → field-check-lts.Need-kind-of-requires (field-check-calls t) (field-check-at t) field-check.Post field-check-Inv-loop field-check-μ-loop
+field-check-kind-of-requires : (t : ℕ) → field-check-lts.Need-kind-of-requires (field-check-calls t) (field-check-at t) field-check.Post
+    field-check-Inv-loop field-check-μ-loop
 field-check-kind-of-requires t c κs = search needs
 
-field-check-is-plain-requires : (t : ℕ) → field-check-lts.Need-is-plain-requires (field-check-calls t) (field-check-at t) field-check.Post field-check-Inv-loop field-check-μ-loop
+field-check-is-plain-requires : (t : ℕ) → field-check-lts.Need-is-plain-requires (field-check-calls t) (field-check-at t) field-check.Post
+    field-check-Inv-loop field-check-μ-loop
 field-check-is-plain-requires t c κs = search needs
 
-field-check-sub-bytes : (t : ℕ) → field-check-lts.Need-sub-bytes (field-check-calls t) (field-check-at t) field-check.Post field-check-Inv-loop field-check-μ-loop
+field-check-sub-bytes : (t : ℕ) → field-check-lts.Need-sub-bytes (field-check-calls t) (field-check-at t) field-check.Post field-check-Inv-loop
+    field-check-μ-loop
 field-check-sub-bytes t c =
     let c3 = c .before .before .before in
     let c4 = c3 .before in
@@ -129,7 +152,8 @@ field-check-sub-bytes t c =
     let c6 = c5 .before in
     reading-span _ _ _ _ _ _ _ _ _ _ _ _ (c6 .loop .inv) (c5 .loop-test .taken) (c4 .word-at .ensures .0) _ (c3 .locate .ensures) .0
 
-field-check-one-more-requires : (t : ℕ) → field-check-lts.Need-one-more-requires (field-check-calls t) (field-check-at t) field-check.Post field-check-Inv-loop field-check-μ-loop
+field-check-one-more-requires : (t : ℕ) → field-check-lts.Need-one-more-requires (field-check-calls t) (field-check-at t) field-check.Post
+    field-check-Inv-loop field-check-μ-loop
 field-check-one-more-requires t c κs =
     let c3 = c .before .before .before in
     let c4 = c3 .before in
@@ -139,10 +163,12 @@ field-check-one-more-requires t c κs =
     let span = reading-span _ _ _ _ _ _ _ _ _ _ _ _ (c6 .loop .inv) (c5 .loop-test .taken) (c4 .word-at .ensures .0) _ (c3 .locate .ensures) in
     (reading-small _ _ _ _ _ _ _ _ _ _ _ (c10 .pre .1 .1) (c6 .loop .inv), omega (arith, span, c10 .pre .1 .2))
 
-field-check-loop-less : (t : ℕ) → field-check-lts.Need-loop-less (field-check-calls t) (field-check-at t) field-check.Post field-check-Inv-loop field-check-μ-loop
+field-check-loop-less : (t : ℕ) → field-check-lts.Need-loop-less (field-check-calls t) (field-check-at t) field-check.Post field-check-Inv-loop
+    field-check-μ-loop
 field-check-loop-less t c = omega arith
 
-field-check-loop-again : (t : ℕ) → field-check-lts.Need-loop-again (field-check-calls t) (field-check-at t) field-check.Post field-check-Inv-loop field-check-μ-loop
+field-check-loop-again : (t : ℕ) → field-check-lts.Need-loop-again (field-check-calls t) (field-check-at t) field-check.Post field-check-Inv-loop
+    field-check-μ-loop
 field-check-loop-again t c =
     let c1 = c .before in
     let c2 = c1 .before in
@@ -167,7 +193,8 @@ field-check-add-at t c =
     let c10 = c6 .before .before .before .before in
     omega (arith, reading-span _ _ _ _ _ _ _ _ _ _ _ _ (c6 .loop .inv) (c5 .loop-test .taken) (c4 .word-at .ensures .0) _ (c3 .locate .ensures), c10 .pre .1 .2)
 
-field-check-sub-item-check : (t : ℕ) → field-check-lts.Need-sub-item-check (field-check-calls t) (field-check-at t) field-check.Post field-check-Inv-loop field-check-μ-loop
+field-check-sub-item-check : (t : ℕ) → field-check-lts.Need-sub-item-check (field-check-calls t) (field-check-at t) field-check.Post
+    field-check-Inv-loop field-check-μ-loop
 field-check-sub-item-check t c =
     let c3 = c .before .before .before in
     let c4 = c3 .before in
@@ -175,7 +202,8 @@ field-check-sub-item-check t c =
     let c6 = c5 .before in
     reading-span _ _ _ _ _ _ _ _ _ _ _ _ (c6 .loop .inv) (c5 .loop-test .taken) (c4 .word-at .ensures .0) _ (c3 .locate .ensures) .0
 
-field-check-part-item-check-start : (t : ℕ) → field-check-lts.Need-part-item-check-start (field-check-calls t) (field-check-at t) field-check.Post field-check-Inv-loop field-check-μ-loop
+field-check-part-item-check-start : (t : ℕ) → field-check-lts.Need-part-item-check-start (field-check-calls t) (field-check-at t) field-check.Post
+    field-check-Inv-loop field-check-μ-loop
 field-check-part-item-check-start t c =
     let c3 = c .before .before .before in
     let c4 = c3 .before in
@@ -183,7 +211,8 @@ field-check-part-item-check-start t c =
     let c6 = c5 .before in
     reading-span _ _ _ _ _ _ _ _ _ _ _ _ (c6 .loop .inv) (c5 .loop-test .taken) (c4 .word-at .ensures .0) _ (c3 .locate .ensures) .0
 
-field-check-part-item-check-end : (t : ℕ) → field-check-lts.Need-part-item-check-end (field-check-calls t) (field-check-at t) field-check.Post field-check-Inv-loop field-check-μ-loop
+field-check-part-item-check-end : (t : ℕ) → field-check-lts.Need-part-item-check-end (field-check-calls t) (field-check-at t) field-check.Post
+    field-check-Inv-loop field-check-μ-loop
 field-check-part-item-check-end t c =
     let c3 = c .before .before .before in
     let c4 = c3 .before in
@@ -191,7 +220,8 @@ field-check-part-item-check-end t c =
     let c6 = c5 .before in
     reading-span _ _ _ _ _ _ _ _ _ _ _ _ (c6 .loop .inv) (c5 .loop-test .taken) (c4 .word-at .ensures .0) _ (c3 .locate .ensures) .1
 
-field-check-item-check-requires : (t : ℕ) → field-check-lts.Need-item-check-requires (field-check-calls t) (field-check-at t) field-check.Post field-check-Inv-loop field-check-μ-loop
+field-check-item-check-requires : (t : ℕ) → field-check-lts.Need-item-check-requires (field-check-calls t) (field-check-at t) field-check.Post
+    field-check-Inv-loop field-check-μ-loop
 field-check-item-check-requires t c κs =
     let c4 = c .before .before .before .before in
     let c5 = c4 .before in
@@ -206,10 +236,12 @@ field-check-item-check-requires t c κs =
       ),
     )
 
-field-check-enum-known-r : (t : ℕ) → field-check-lts.Need-enum-known-r (field-check-calls t) (field-check-at t) field-check.Post field-check-Inv-loop field-check-μ-loop
+field-check-enum-known-r : (t : ℕ) → field-check-lts.Need-enum-known-r (field-check-calls t) (field-check-at t) field-check.Post field-check-Inv-loop
+    field-check-μ-loop
 field-check-enum-known-r t c = search needs
 
-field-check-add-requires : (t : ℕ) → field-check-lts.Need-add-requires (field-check-calls t) (field-check-at t) field-check.Post field-check-Inv-loop field-check-μ-loop
+field-check-add-requires : (t : ℕ) → field-check-lts.Need-add-requires (field-check-calls t) (field-check-at t) field-check.Post field-check-Inv-loop
+    field-check-μ-loop
 field-check-add-requires t c κs =
     let c1 = c .before in
     let c3 = c1 .before .before in
@@ -224,10 +256,12 @@ field-check-add-requires t c κs =
           _ _ _ _ _ _ _ _ _ _ _ _ (c11 .loop .inv) (c10 .loop-test .taken) (c9 .word-at .ensures .0) _ (c8 .locate .ensures) _ (c15 .pre .1 .2) told),
     )
 
-field-check-loop-less-2 : (t : ℕ) → field-check-lts.Need-loop-less-2 (field-check-calls t) (field-check-at t) field-check.Post field-check-Inv-loop field-check-μ-loop
+field-check-loop-less-2 : (t : ℕ) → field-check-lts.Need-loop-less-2 (field-check-calls t) (field-check-at t) field-check.Post field-check-Inv-loop
+    field-check-μ-loop
 field-check-loop-less-2 t c = omega arith
 
-field-check-loop-again-2 : (t : ℕ) → field-check-lts.Need-loop-again-2 (field-check-calls t) (field-check-at t) field-check.Post field-check-Inv-loop field-check-μ-loop
+field-check-loop-again-2 : (t : ℕ) → field-check-lts.Need-loop-again-2 (field-check-calls t) (field-check-at t) field-check.Post field-check-Inv-loop
+    field-check-μ-loop
 field-check-loop-again-2 t c =
     let c2 = c .before .before in
     let c4 = c2 .before .before in
@@ -240,7 +274,8 @@ field-check-loop-again-2 t c =
     rw (c .add .ensures)
     (reading-next _ _ _ _ _ _ _ _ _ _ _ _ (c12 .loop .inv) (c11 .loop-test .taken) (c10 .word-at .ensures .0) _ (c9 .locate .ensures) _ (c16 .pre .1 .2) told)
 
-field-check-enum-known-r-2 : (t : ℕ) → field-check-lts.Need-enum-known-r-2 (field-check-calls t) (field-check-at t) field-check.Post field-check-Inv-loop field-check-μ-loop
+field-check-enum-known-r-2 : (t : ℕ) → field-check-lts.Need-enum-known-r-2 (field-check-calls t) (field-check-at t) field-check.Post
+    field-check-Inv-loop field-check-μ-loop
 field-check-enum-known-r-2 t c = search needs
 
 field-check-returns : (t : ℕ) → field-check-lts.Need-returns (field-check-calls t) (field-check-at t) field-check.Post field-check-Inv-loop field-check-μ-loop
@@ -254,7 +289,8 @@ field-check-returns t c =
     reading-stop _ _ _ _ _ _ _ _ _ _ _ _ (c11 .loop .inv) (c10 .loop-test .taken) (c9 .word-at .ensures .0) _ (c8 .locate .ensures) _ _ _
     (sym (c1 .r2 .given .1) ∙ c3 .item-check .ensures)
 
-field-check-returns-2 : (t : ℕ) → field-check-lts.Need-returns-2 (field-check-calls t) (field-check-at t) field-check.Post field-check-Inv-loop field-check-μ-loop
+field-check-returns-2 : (t : ℕ) → field-check-lts.Need-returns-2 (field-check-calls t) (field-check-at t) field-check.Post field-check-Inv-loop
+    field-check-μ-loop
 field-check-returns-2 t c = reading-end _ _ _ _ _ _ _ _ _ _ _ (c .before .loop .inv) (c .loop-test .left)
 
 item-check-look-requires : (t : ℕ) → item-check-lts.Need-look-requires (item-check-calls t) (item-check-at t) item-check.Post

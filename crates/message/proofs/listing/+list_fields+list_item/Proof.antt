@@ -59,9 +59,21 @@ list-fields-calls t = (word-at-reads.Asked, word-at-reads.Learnt, locate-reads.A
 
 -- what `list_item` calls, at the measure t
 abbrev list-item-calls : ℕ → list-item-lts.Claims
-list-item-calls t = (put-entry-reads.Asked, put-entry-reads.Learnt, look-reads.Asked, look-reads.Learnt, list-fields-below t, list-fields.Post, select-reads.Asked, select-reads.Learnt, list-item-below t, list-item.Post)
+list-item-calls t = (
+  put-entry-reads.Asked,
+  put-entry-reads.Learnt,
+  look-reads.Asked,
+  look-reads.Learnt,
+  list-fields-below t,
+  list-fields.Post,
+  select-reads.Asked,
+  select-reads.Learnt,
+  list-item-below t,
+  list-item.Post,
+)
 
-list-fields-loop-holds : (t : ℕ) → list-fields-lts.Need-loop-holds (list-fields-calls t) (list-fields-at t) list-fields.Post list-fields-Inv-loop list-fields-μ-loop
+list-fields-loop-holds : (t : ℕ) → list-fields-lts.Need-loop-holds (list-fields-calls t) (list-fields-at t) list-fields.Post list-fields-Inv-loop
+    list-fields-μ-loop
 list-fields-loop-holds t c =
     let c4 = c .before .before .before .before in
     record {
@@ -75,15 +87,18 @@ list-fields-loop-holds t c =
       whole = refl;
     }
 
-list-fields-word-at-requires : (t : ℕ) → list-fields-lts.Need-word-at-requires (list-fields-calls t) (list-fields-at t) list-fields.Post list-fields-Inv-loop list-fields-μ-loop
+list-fields-word-at-requires : (t : ℕ) → list-fields-lts.Need-word-at-requires (list-fields-calls t) (list-fields-at t) list-fields.Post
+    list-fields-Inv-loop list-fields-μ-loop
 list-fields-word-at-requires t c κs = search needs
 
-list-fields-locate-requires : (t : ℕ) → list-fields-lts.Need-locate-requires (list-fields-calls t) (list-fields-at t) list-fields.Post list-fields-Inv-loop list-fields-μ-loop
+list-fields-locate-requires : (t : ℕ) → list-fields-lts.Need-locate-requires (list-fields-calls t) (list-fields-at t) list-fields.Post
+    list-fields-Inv-loop list-fields-μ-loop
 list-fields-locate-requires t c κs =
     let c2 = c .before .before in
     (c2 .loop .inv .row, c .before .loop-test .taken, c .word-at .ensures .0, c2 .loop .inv .ranges)
 
-list-fields-add-place : (t : ℕ) → list-fields-lts.Need-add-place (list-fields-calls t) (list-fields-at t) list-fields.Post list-fields-Inv-loop list-fields-μ-loop
+list-fields-add-place : (t : ℕ) → list-fields-lts.Need-add-place (list-fields-calls t) (list-fields-at t) list-fields.Post list-fields-Inv-loop
+    list-fields-μ-loop
 list-fields-add-place t c =
     let c2 = c .before .before in
     let c3 = c2 .before in
@@ -95,7 +110,8 @@ list-fields-add-place t c =
       c8 .pre .1 .1,
     )
 
-list-fields-sub-list-item : (t : ℕ) → list-fields-lts.Need-sub-list-item (list-fields-calls t) (list-fields-at t) list-fields.Post list-fields-Inv-loop list-fields-μ-loop
+list-fields-sub-list-item : (t : ℕ) → list-fields-lts.Need-sub-list-item (list-fields-calls t) (list-fields-at t) list-fields.Post
+    list-fields-Inv-loop list-fields-μ-loop
 list-fields-sub-list-item t c =
     let c2 = c .before .before in
     let c3 = c2 .before in
@@ -106,7 +122,8 @@ list-fields-sub-list-item t c =
           .locate .ensures),
     )
 
-list-fields-part-list-item-start : (t : ℕ) → list-fields-lts.Need-part-list-item-start (list-fields-calls t) (list-fields-at t) list-fields.Post list-fields-Inv-loop list-fields-μ-loop
+list-fields-part-list-item-start : (t : ℕ) → list-fields-lts.Need-part-list-item-start (list-fields-calls t) (list-fields-at t) list-fields.Post
+    list-fields-Inv-loop list-fields-μ-loop
 list-fields-part-list-item-start t c =
     let c2 = c .before .before in
     let c3 = c2 .before in
@@ -114,7 +131,8 @@ list-fields-part-list-item-start t c =
     span-ok _ _ _ _ _ _ _ _ (c4 .loop .inv .row) (c3 .loop-test .taken) (c2 .word-at .ensures .0) (c4 .loop .inv .ranges) _ (c .before .locate
     .ensures) .0
 
-list-fields-part-list-item-end : (t : ℕ) → list-fields-lts.Need-part-list-item-end (list-fields-calls t) (list-fields-at t) list-fields.Post list-fields-Inv-loop list-fields-μ-loop
+list-fields-part-list-item-end : (t : ℕ) → list-fields-lts.Need-part-list-item-end (list-fields-calls t) (list-fields-at t) list-fields.Post
+    list-fields-Inv-loop list-fields-μ-loop
 list-fields-part-list-item-end t c =
     let c2 = c .before .before in
     let c3 = c2 .before in
@@ -122,7 +140,8 @@ list-fields-part-list-item-end t c =
     span-ok _ _ _ _ _ _ _ _ (c4 .loop .inv .row) (c3 .loop-test .taken) (c2 .word-at .ensures .0) (c4 .loop .inv .ranges) _ (c .before .locate
     .ensures) .1
 
-list-fields-list-item-requires : (t : ℕ) → list-fields-lts.Need-list-item-requires (list-fields-calls t) (list-fields-at t) list-fields.Post list-fields-Inv-loop list-fields-μ-loop
+list-fields-list-item-requires : (t : ℕ) → list-fields-lts.Need-list-item-requires (list-fields-calls t) (list-fields-at t) list-fields.Post
+    list-fields-Inv-loop list-fields-μ-loop
 list-fields-list-item-requires t c κs =
     let c2 = c .before .before in
     let c3 = c2 .before in
@@ -156,10 +175,12 @@ list-fields-add-a t c =
 list-fields-sub-left : (t : ℕ) → list-fields-lts.Need-sub-left (list-fields-calls t) (list-fields-at t) list-fields.Post list-fields-Inv-loop list-fields-μ-loop
 list-fields-sub-left t c = omega arith
 
-list-fields-loop-less : (t : ℕ) → list-fields-lts.Need-loop-less (list-fields-calls t) (list-fields-at t) list-fields.Post list-fields-Inv-loop list-fields-μ-loop
+list-fields-loop-less : (t : ℕ) → list-fields-lts.Need-loop-less (list-fields-calls t) (list-fields-at t) list-fields.Post list-fields-Inv-loop
+    list-fields-μ-loop
 list-fields-loop-less t c = omega arith
 
-list-fields-loop-again : (t : ℕ) → list-fields-lts.Need-loop-again (list-fields-calls t) (list-fields-at t) list-fields.Post list-fields-Inv-loop list-fields-μ-loop
+list-fields-loop-again : (t : ℕ) → list-fields-lts.Need-loop-again (list-fields-calls t) (list-fields-at t) list-fields.Post list-fields-Inv-loop
+    list-fields-μ-loop
 list-fields-loop-again t c =
     let c2 = c .before .before in
     let c5 = c2 .before .before .before in
@@ -169,7 +190,8 @@ list-fields-loop-again t c =
     storing-next _ _ _ _ _ _ _ _ _ _ _ _ _ _ _ (c8 .loop .inv) (c7 .loop-test .taken) (c6 .word-at .ensures .0) _ (c5 .locate .ensures) _ _ (c2
     .list-item .ensures)
 
-list-fields-same-length : (t : ℕ) → list-fields-lts.Need-same-length (list-fields-calls t) (list-fields-at t) list-fields.Post list-fields-Inv-loop list-fields-μ-loop
+list-fields-same-length : (t : ℕ) → list-fields-lts.Need-same-length (list-fields-calls t) (list-fields-at t) list-fields.Post list-fields-Inv-loop
+    list-fields-μ-loop
 list-fields-same-length t c = stored-length _ _ _ _ _ (c .before .loop .inv .stored)
 
 list-fields-returns : (t : ℕ) → list-fields-lts.Need-returns (list-fields-calls t) (list-fields-at t) list-fields.Post list-fields-Inv-loop list-fields-μ-loop

@@ -46,7 +46,8 @@ abbrev unfold-item-below : ℕ → In 5 unfold-item-kinds.ps
 unfold-item-below t = and 5 unfold-item-kinds.ps (falls 5 unfold-item-kinds.ps _<_ μ-unfold-item t) unfold-item.Pre
 
 abbrev unfold-fields-Inv-loop : unfold-fields-lts.InvT-loop
-unfold-fields-Inv-loop contents₀ bodies₀ lens layout t a0 n b at₀ a₀ left₀ p₀ contents bodies at a left p = Filling lens layout t a0 n b contents₀ bodies₀ at₀ contents bodies at a left p
+unfold-fields-Inv-loop contents₀ bodies₀ lens layout t a0 n b at₀ a₀ left₀ p₀ contents bodies at a left p =
+    Filling lens layout t a0 n b contents₀ bodies₀ at₀ contents bodies at a left p
 
 abbrev unfold-fields-μ-loop : unfold-fields-lts.MeasureT-loop
 unfold-fields-μ-loop contents₀ bodies₀ lens layout t a0 n b at₀ a₀ left₀ p₀ contents bodies at a left p = left
@@ -57,22 +58,50 @@ unfold-fields-calls t = (word-at-reads.Asked, word-at-reads.Learnt, locate-reads
 
 -- what `unfold_item` calls, at the measure t
 abbrev unfold-item-calls : ℕ → unfold-item-lts.Claims
-unfold-item-calls t = (look-reads.Asked, look-reads.Learnt, unfold-fields-below t, unfold-fields.Post, select-reads.Asked, select-reads.Learnt, put-selector-reads.Asked, put-selector-reads.Learnt, unfold-item-below t, unfold-item.Post, unfold-leaf-reads.Asked, unfold-leaf-reads.Learnt)
+unfold-item-calls t = (
+  look-reads.Asked,
+  look-reads.Learnt,
+  unfold-fields-below t,
+  unfold-fields.Post,
+  select-reads.Asked,
+  select-reads.Learnt,
+  put-selector-reads.Asked,
+  put-selector-reads.Learnt,
+  unfold-item-below t,
+  unfold-item.Post,
+  unfold-leaf-reads.Asked,
+  unfold-leaf-reads.Learnt,
+)
 
-unfold-fields-loop-holds : (t : ℕ) → unfold-fields-lts.Need-loop-holds (unfold-fields-calls t) (unfold-fields-at t) unfold-fields.Post unfold-fields-Inv-loop unfold-fields-μ-loop
+unfold-fields-loop-holds : (t : ℕ) → unfold-fields-lts.Need-loop-holds (unfold-fields-calls t) (unfold-fields-at t) unfold-fields.Post
+    unfold-fields-Inv-loop unfold-fields-μ-loop
 unfold-fields-loop-holds t c =
     let c5 = c .before .before .before .before .before in
-    record { row = c5 .pre .1 .0; ranges = c5 .pre .1 .2; accepted = c5 .pre .1 .3; rooms = c5 .pre .1 .4; words = []; bytes = []; filled = filled-none _ _ _; all-words = refl; all-bytes = refl }
+    record {
+      row = c5 .pre .1 .0;
+      ranges = c5 .pre .1 .2;
+      accepted = c5 .pre .1 .3;
+      rooms = c5 .pre .1 .4;
+      words = [];
+      bytes = [];
+      filled =
+          filled-none _ _ _;
+      all-words = refl;
+      all-bytes = refl;
+    }
 
-unfold-fields-word-at-requires : (t : ℕ) → unfold-fields-lts.Need-word-at-requires (unfold-fields-calls t) (unfold-fields-at t) unfold-fields.Post unfold-fields-Inv-loop unfold-fields-μ-loop
+unfold-fields-word-at-requires : (t : ℕ) → unfold-fields-lts.Need-word-at-requires (unfold-fields-calls t) (unfold-fields-at t) unfold-fields.Post
+    unfold-fields-Inv-loop unfold-fields-μ-loop
 unfold-fields-word-at-requires t c κs = search needs
 
-unfold-fields-locate-requires : (t : ℕ) → unfold-fields-lts.Need-locate-requires (unfold-fields-calls t) (unfold-fields-at t) unfold-fields.Post unfold-fields-Inv-loop unfold-fields-μ-loop
+unfold-fields-locate-requires : (t : ℕ) → unfold-fields-lts.Need-locate-requires (unfold-fields-calls t) (unfold-fields-at t) unfold-fields.Post
+    unfold-fields-Inv-loop unfold-fields-μ-loop
 unfold-fields-locate-requires t c κs =
     let c2 = c .before .before in
     (c2 .loop .inv .row, c .before .loop-test .taken, c .word-at .ensures .0, c2 .loop .inv .ranges)
 
-unfold-fields-sub-unfold-item : (t : ℕ) → unfold-fields-lts.Need-sub-unfold-item (unfold-fields-calls t) (unfold-fields-at t) unfold-fields.Post unfold-fields-Inv-loop unfold-fields-μ-loop
+unfold-fields-sub-unfold-item : (t : ℕ) → unfold-fields-lts.Need-sub-unfold-item (unfold-fields-calls t) (unfold-fields-at t) unfold-fields.Post
+    unfold-fields-Inv-loop unfold-fields-μ-loop
 unfold-fields-sub-unfold-item t c =
     let c2 = c .before .before in
     let c3 = c2 .before in
@@ -80,7 +109,8 @@ unfold-fields-sub-unfold-item t c =
     let c5 = c4 .before in
     omega (arith, span-ok _ _ _ _ _ _ _ _ (c5 .loop .inv .row) (c4 .loop-test .taken) (c3 .word-at .ensures .0) (c5 .loop .inv .ranges) _ (c2 .locate .ensures))
 
-unfold-fields-part-unfold-item-start : (t : ℕ) → unfold-fields-lts.Need-part-unfold-item-start (unfold-fields-calls t) (unfold-fields-at t) unfold-fields.Post unfold-fields-Inv-loop unfold-fields-μ-loop
+unfold-fields-part-unfold-item-start : (t : ℕ) → unfold-fields-lts.Need-part-unfold-item-start (unfold-fields-calls t) (unfold-fields-at t)
+    unfold-fields.Post unfold-fields-Inv-loop unfold-fields-μ-loop
 unfold-fields-part-unfold-item-start t c =
     let c2 = c .before .before in
     let c3 = c2 .before in
@@ -88,7 +118,8 @@ unfold-fields-part-unfold-item-start t c =
     let c5 = c4 .before in
     span-ok _ _ _ _ _ _ _ _ (c5 .loop .inv .row) (c4 .loop-test .taken) (c3 .word-at .ensures .0) (c5 .loop .inv .ranges) _ (c2 .locate .ensures) .0
 
-unfold-fields-part-unfold-item-end : (t : ℕ) → unfold-fields-lts.Need-part-unfold-item-end (unfold-fields-calls t) (unfold-fields-at t) unfold-fields.Post unfold-fields-Inv-loop unfold-fields-μ-loop
+unfold-fields-part-unfold-item-end : (t : ℕ) → unfold-fields-lts.Need-part-unfold-item-end (unfold-fields-calls t) (unfold-fields-at t)
+    unfold-fields.Post unfold-fields-Inv-loop unfold-fields-μ-loop
 unfold-fields-part-unfold-item-end t c =
     let c2 = c .before .before in
     let c3 = c2 .before in
@@ -96,27 +127,48 @@ unfold-fields-part-unfold-item-end t c =
     let c5 = c4 .before in
     span-ok _ _ _ _ _ _ _ _ (c5 .loop .inv .row) (c4 .loop-test .taken) (c3 .word-at .ensures .0) (c5 .loop .inv .ranges) _ (c2 .locate .ensures) .1
 
-unfold-fields-unfold-item-requires : (t : ℕ) → unfold-fields-lts.Need-unfold-item-requires (unfold-fields-calls t) (unfold-fields-at t) unfold-fields.Post unfold-fields-Inv-loop unfold-fields-μ-loop
+unfold-fields-unfold-item-requires : (t : ℕ) → unfold-fields-lts.Need-unfold-item-requires (unfold-fields-calls t) (unfold-fields-at t)
+    unfold-fields.Post unfold-fields-Inv-loop unfold-fields-μ-loop
 unfold-fields-unfold-item-requires t c κs =
     let c3 = c .before .before .before in
     let c4 = c3 .before in
     let c5 = c4 .before in
     let c6 = c5 .before in
-    let c12 = c6 .before .before .before .before .before .before in
-    (omega (arith, row-below _ _ _ _ _ _ (c6 .loop .inv .row) (c5 .loop-test .taken) (c4 .word-at .ensures .0), c12 .pre .0), (row-under _ _ _ _ _ _ (c6 .loop .inv .row) (c5 .loop-test .taken) (c4 .word-at .ensures .0), omega (arith, span-ok _ _ _ _ _ _ _ _ (c6 .loop .inv .row) (c5 .loop-test .taken) (c4 .word-at .ensures .0) (c6 .loop .inv .ranges) _ (c3 .locate .ensures), span-length _ _ _ _ _ _ _ _ (c6 .loop .inv .row) (c5 .loop-test .taken) (c4 .word-at .ensures .0) (c6 .loop .inv .ranges) _ (c3 .locate .ensures), c12 .pre .1 .1), filling-accepts _ _ _ _ _ _ _ _ _ _ _ _ _ _ _ _ (c6 .loop .inv) (c5 .loop-test .taken) (c4 .word-at .ensures .0) _ (c3 .locate .ensures), filling-rooms _ _ _ _ _ _ _ _ _ _ _ _ _ _ _ _ (c6 .loop .inv) (c5 .loop-test .taken) (c4 .word-at .ensures .0) _ (c3 .locate .ensures)))
+    let c12 = c6 .before .before .before .before .before .before in (
+      omega (arith, row-below _ _ _ _ _ _ (c6 .loop .inv .row) (c5 .loop-test .taken) (c4 .word-at .ensures .0), c12 .pre .0),
+      (
+        row-under _ _ _ _ _ _ (c6 .loop .inv .row) (c5 .loop-test .taken) (c4 .word-at .ensures .0),
+        omega (
+          arith,
+          span-ok _ _ _ _ _ _ _ _ (c6 .loop .inv .row) (c5 .loop-test .taken) (c4 .word-at .ensures .0) (c6 .loop .inv .ranges) _
+              (c3 .locate .ensures),
+          span-length _ _ _ _ _ _ _ _ (c6 .loop .inv .row) (c5 .loop-test .taken) (c4 .word-at .ensures .0)
+              (c6 .loop .inv .ranges) _ (c3 .locate .ensures),
+          c12 .pre .1 .1,
+        ),
+        filling-accepts _ _ _ _ _ _ _ _ _ _ _ _ _ _ _ _ (c6 .loop .inv)
+            (c5 .loop-test .taken) (c4 .word-at .ensures .0) _ (c3 .locate .ensures),
+        filling-rooms _ _ _ _ _ _ _ _ _ _ _ _ _ _ _ _ (c6 .loop .inv)
+            (c5 .loop-test .taken) (c4 .word-at .ensures .0) _ (c3 .locate .ensures),
+      ),
+    )
 
-unfold-fields-add-a : (t : ℕ) → unfold-fields-lts.Need-add-a (unfold-fields-calls t) (unfold-fields-at t) unfold-fields.Post unfold-fields-Inv-loop unfold-fields-μ-loop
+unfold-fields-add-a : (t : ℕ) → unfold-fields-lts.Need-add-a (unfold-fields-calls t) (unfold-fields-at t) unfold-fields.Post unfold-fields-Inv-loop
+    unfold-fields-μ-loop
 unfold-fields-add-a t c =
     let c11 = c .before .before .before .before .before .before .before .before .before .before .before in
     omega (arith, c11 .loop .inv .row .near)
 
-unfold-fields-sub-left : (t : ℕ) → unfold-fields-lts.Need-sub-left (unfold-fields-calls t) (unfold-fields-at t) unfold-fields.Post unfold-fields-Inv-loop unfold-fields-μ-loop
+unfold-fields-sub-left : (t : ℕ) → unfold-fields-lts.Need-sub-left (unfold-fields-calls t) (unfold-fields-at t) unfold-fields.Post
+    unfold-fields-Inv-loop unfold-fields-μ-loop
 unfold-fields-sub-left t c = omega arith
 
-unfold-fields-loop-less : (t : ℕ) → unfold-fields-lts.Need-loop-less (unfold-fields-calls t) (unfold-fields-at t) unfold-fields.Post unfold-fields-Inv-loop unfold-fields-μ-loop
+unfold-fields-loop-less : (t : ℕ) → unfold-fields-lts.Need-loop-less (unfold-fields-calls t) (unfold-fields-at t) unfold-fields.Post
+    unfold-fields-Inv-loop unfold-fields-μ-loop
 unfold-fields-loop-less t c = omega arith
 
-unfold-fields-loop-again : (t : ℕ) → unfold-fields-lts.Need-loop-again (unfold-fields-calls t) (unfold-fields-at t) unfold-fields.Post unfold-fields-Inv-loop unfold-fields-μ-loop
+unfold-fields-loop-again : (t : ℕ) → unfold-fields-lts.Need-loop-again (unfold-fields-calls t) (unfold-fields-at t) unfold-fields.Post
+    unfold-fields-Inv-loop unfold-fields-μ-loop
 unfold-fields-loop-again t c =
     let c4 = c .before .before .before .before in
     let c8 = c4 .before .before .before .before in
@@ -126,13 +178,16 @@ unfold-fields-loop-again t c =
     filling-next _ _ _ _ _ _ _ _ _ _ _ _ _ _ _ _ (c11 .loop .inv) (c10 .loop-test .taken) (c9 .word-at .ensures .0) _ (c8 .locate .ensures) _ _ _
     (c4 .unfold-item .ensures)
 
-unfold-fields-same-length : (t : ℕ) → unfold-fields-lts.Need-same-length (unfold-fields-calls t) (unfold-fields-at t) unfold-fields.Post unfold-fields-Inv-loop unfold-fields-μ-loop
+unfold-fields-same-length : (t : ℕ) → unfold-fields-lts.Need-same-length (unfold-fields-calls t) (unfold-fields-at t) unfold-fields.Post
+    unfold-fields-Inv-loop unfold-fields-μ-loop
 unfold-fields-same-length t c = stored-length _ _ _ _ _ (c .before .loop .inv .filled .words)
 
-unfold-fields-same-length-2 : (t : ℕ) → unfold-fields-lts.Need-same-length-2 (unfold-fields-calls t) (unfold-fields-at t) unfold-fields.Post unfold-fields-Inv-loop unfold-fields-μ-loop
+unfold-fields-same-length-2 : (t : ℕ) → unfold-fields-lts.Need-same-length-2 (unfold-fields-calls t) (unfold-fields-at t) unfold-fields.Post
+    unfold-fields-Inv-loop unfold-fields-μ-loop
 unfold-fields-same-length-2 t c = stored-length _ _ _ _ _ (c .before .loop .inv .filled .bytes)
 
-unfold-fields-returns : (t : ℕ) → unfold-fields-lts.Need-returns (unfold-fields-calls t) (unfold-fields-at t) unfold-fields.Post unfold-fields-Inv-loop unfold-fields-μ-loop
+unfold-fields-returns : (t : ℕ) → unfold-fields-lts.Need-returns (unfold-fields-calls t) (unfold-fields-at t) unfold-fields.Post
+    unfold-fields-Inv-loop unfold-fields-μ-loop
 unfold-fields-returns t c = filling-end _ _ _ _ _ _ _ _ _ _ _ _ _ _ _ (c .before .loop .inv) (c .loop-test .left)
 
 unfold-item-look-requires : (t : ℕ) → unfold-item-lts.Need-look-requires (unfold-item-calls t) (unfold-item-at t) unfold-item.Post
@@ -148,8 +203,16 @@ unfold-item-unfold-fields-requires t c κs =
     let c2 = c .before .before in
     let c5 = c2 .before .before .before in
     let c11 = c5 .before .before .before .before .before .before in
-    let k = fields-accepts _ _ _ _ (c5 .look .ensures) (c11 .pre .1 .0) _ (c11 .pre .1 .2) (c2 .if1 .taken) in
-    (omega (arith, c11 .pre .0), (container-row _ _ _ _ (c5 .look .ensures) (c11 .pre .1 .0) (c2 .if1 .taken), c11 .pre .1 .1, k .0, k .1, container-rooms _ _ _ _ (c5 .look .ensures) (c11 .pre .1 .0) _ (c11 .pre .1 .2) (c2 .if1 .taken) _ _ _ (c11 .pre .1 .3)))
+    let k = fields-accepts _ _ _ _ (c5 .look .ensures) (c11 .pre .1 .0) _ (c11 .pre .1 .2) (c2 .if1 .taken) in (
+      omega (arith, c11 .pre .0),
+      (
+        container-row _ _ _ _ (c5 .look .ensures) (c11 .pre .1 .0) (c2 .if1 .taken),
+        c11 .pre .1 .1,
+        k .0,
+        k .1,
+        container-rooms _ _ _ _ (c5 .look .ensures) (c11 .pre .1 .0) _ (c11 .pre .1 .2) (c2 .if1 .taken) _ _ _ (c11 .pre .1 .3),
+      ),
+    )
 
 unfold-item-select-requires : (t : ℕ) → unfold-item-lts.Need-select-requires (unfold-item-calls t) (unfold-item-at t) unfold-item.Post
 unfold-item-select-requires t c κs =
@@ -164,8 +227,11 @@ unfold-item-put-selector-requires : (t : ℕ) → unfold-item-lts.Need-put-selec
 unfold-item-put-selector-requires t c κs =
     let c4 = c .before .before .before .before in
     let c9 = c4 .before .before .before .before .before in
-    let c15 = c9 .before .before .before .before .before .before in
-    (union-room _ _ _ _ (c9 .look .ensures) (c15 .pre .1 .0) _ (c15 .pre .1 .2) (c4 .if2 .taken) _ _ _ (c15 .pre .1 .3), union-long _ _ _ _ (c9 .look .ensures) (c15 .pre .1 .0) _ (c15 .pre .1 .2) (c4 .if2 .taken))
+    let c15 = c9 .before .before .before .before .before .before in (
+      union-room _ _ _ _ (c9 .look .ensures) (c15 .pre .1 .0) _ (c15 .pre .1 .2) (c4 .if2 .taken) _ _ _ (c15 .pre .1 .3),
+      union-long _ _ _ _
+          (c9 .look .ensures) (c15 .pre .1 .0) _ (c15 .pre .1 .2) (c4 .if2 .taken),
+    )
 
 unfold-item-enum-known-c : (t : ℕ) → unfold-item-lts.Need-enum-known-c (unfold-item-calls t) (unfold-item-at t) unfold-item.Post
 unfold-item-enum-known-c t c = search needs
@@ -174,8 +240,11 @@ unfold-item-put-selector-requires-2 : (t : ℕ) → unfold-item-lts.Need-put-sel
 unfold-item-put-selector-requires-2 t c κs =
     let c5 = c .before .before .before .before .before in
     let c10 = c5 .before .before .before .before .before in
-    let c16 = c10 .before .before .before .before .before .before in
-    (union-room _ _ _ _ (c10 .look .ensures) (c16 .pre .1 .0) _ (c16 .pre .1 .2) (c5 .if2 .taken) _ _ _ (c16 .pre .1 .3), union-long _ _ _ _ (c10 .look .ensures) (c16 .pre .1 .0) _ (c16 .pre .1 .2) (c5 .if2 .taken))
+    let c16 = c10 .before .before .before .before .before .before in (
+      union-room _ _ _ _ (c10 .look .ensures) (c16 .pre .1 .0) _ (c16 .pre .1 .2) (c5 .if2 .taken) _ _ _ (c16 .pre .1 .3),
+      union-long _ _ _ _
+          (c10 .look .ensures) (c16 .pre .1 .0) _ (c16 .pre .1 .2) (c5 .if2 .taken),
+    )
 
 unfold-item-sub-unfold-item : (t : ℕ) → unfold-item-lts.Need-sub-unfold-item (unfold-item-calls t) (unfold-item-at t) unfold-item.Post
 unfold-item-sub-unfold-item t c =
@@ -206,8 +275,21 @@ unfold-item-unfold-item-requires t c κs =
     let c11 = c10 .before in
     let c16 = c11 .before .before .before .before .before in
     let c22 = c16 .before .before .before .before .before .before in
-    let z = body-below _ _ _ _ (c16 .look .ensures) (c22 .pre .1 .0) (c11 .if2 .taken) _ _ (sym (c8 .c .given .1) ∙ c10 .select .ensures) in
-    (omega (arith, c22 .pre .0, z), (under-below _ _ _ _ (omega (arith, z)) (c22 .pre .1 .0), simp (length-take, length-drop) (omega (arith, c22 .pre .1 .1, z)), body-accepts _ _ _ _ (c16 .look .ensures) (c22 .pre .1 .0) _ (c22 .pre .1 .2) (c11 .if2 .taken) _ (sym (c8 .c .given .1) ∙ c10 .select .ensures), rooms-then _ _ _ _ _ _ _ _ _ _ _ _ (c22 .pre .1 .3) (body-words _ _ _ _ (c16 .look .ensures) (c22 .pre .1 .0) _ (c22 .pre .1 .2) (c11 .if2 .taken) _ (sym (c8 .c .given .1) ∙ c10 .select .ensures)) (body-bytes _ _ _ _ (c16 .look .ensures) (c22 .pre .1 .0) _ (c22 .pre .1 .2) (c11 .if2 .taken) _ (sym (c8 .c .given .1) ∙ c10 .select .ensures)) (selector-filled _ _ _ _ _ _ (c5 .put-selector2 .ensures .0) (c5 .put-selector2 .ensures .1))))
+    let z = body-below _ _ _ _ (c16 .look .ensures) (c22 .pre .1 .0) (c11 .if2 .taken) _ _ (sym (c8 .c .given .1) ∙ c10 .select .ensures) in (
+      omega (arith, c22 .pre .0, z),
+      (
+        under-below _ _ _ _ (omega (arith, z)) (c22 .pre .1 .0),
+        simp (length-take, length-drop)
+            (omega (arith, c22 .pre .1 .1, z)),
+        body-accepts _ _ _ _ (c16 .look .ensures) (c22 .pre .1 .0) _ (c22 .pre .1 .2) (c11 .if2 .taken) _
+            (sym (c8 .c .given .1) ∙ c10 .select .ensures),
+        rooms-then _ _ _ _ _ _ _ _ _ _ _ _ (c22 .pre .1 .3)
+            (body-words _ _ _ _ (c16 .look .ensures) (c22 .pre .1 .0) _ (c22 .pre .1 .2) (c11 .if2 .taken) _
+            (sym (c8 .c .given .1) ∙ c10 .select .ensures)) (body-bytes _ _ _ _ (c16 .look .ensures) (c22 .pre .1 .0) _ (c22 .pre .1 .2)
+            (c11 .if2 .taken) _ (sym (c8 .c .given .1) ∙ c10 .select .ensures))
+            (selector-filled _ _ _ _ _ _ (c5 .put-selector2 .ensures .0) (c5 .put-selector2 .ensures .1)),
+      ),
+    )
 
 unfold-item-enum-told-2 : (t : ℕ) → unfold-item-lts.Need-enum-told-2 (unfold-item-calls t) (unfold-item-at t) unfold-item.Post
 unfold-item-enum-told-2 t c = search needs
@@ -217,8 +299,14 @@ unfold-item-unfold-leaf-requires t c κs =
     let c2 = c .before .before in
     let c4 = c2 .before .before in
     let c7 = c4 .before .before .before in
-    let c13 = c7 .before .before .before .before .before .before in
-    (node-ok _ _ _ _ (c7 .look .ensures) (c13 .pre .1 .0) .small, c13 .pre .1 .1, leaf-accepts _ _ _ _ (c7 .look .ensures) (c13 .pre .1 .0) _ (c13 .pre .1 .2) (c4 .if1 .left) (c2 .if2 .left), leaf-rooms _ _ _ _ (c7 .look .ensures) (c13 .pre .1 .0) _ (c13 .pre .1 .2) (c4 .if1 .left) (c2 .if2 .left) _ _ _ (c13 .pre .1 .3))
+    let c13 = c7 .before .before .before .before .before .before in (
+      node-ok _ _ _ _ (c7 .look .ensures) (c13 .pre .1 .0) .small,
+      c13 .pre .1 .1,
+      leaf-accepts _ _ _ _ (c7 .look .ensures) (c13 .pre .1 .0) _
+          (c13 .pre .1 .2) (c4 .if1 .left) (c2 .if2 .left),
+      leaf-rooms _ _ _ _ (c7 .look .ensures) (c13 .pre .1 .0) _ (c13 .pre .1 .2) (c4 .if1 .left)
+          (c2 .if2 .left) _ _ _ (c13 .pre .1 .3),
+    )
 
 unfold-item-same-length : (t : ℕ) → unfold-item-lts.Need-same-length (unfold-item-calls t) (unfold-item-at t) unfold-item.Post
 unfold-item-same-length t c =

@@ -27,8 +27,12 @@ put-last-requires : tie.Need-put-last-requires
 put-last-requires c κs =
     let c4 = c .before .before .before .before in
     let c8 = c4 .before .before .before .before in
-    let c10 = c8 .before .before in
-    (raw-place _ _ _ _ _ _ (c10 .pre .0) (c10 .pre .1) (raw-odd _ (c .before .if1 .taken)) (c4 .copy-into .ensures), omega arith, last-from _ _ (bytes-known _ (λ i. c8 .shared-slice-known .given i .fits)) (c10 .pre .0))
+    let c10 = c8 .before .before in (
+      raw-place _ _ _ _ _ _ (c10 .pre .0) (c10 .pre .1) (raw-odd _ (c .before .if1 .taken)) (c4 .copy-into .ensures),
+      omega arith,
+      last-from _ _
+          (bytes-known _ (λ i. c8 .shared-slice-known .given i .fits)) (c10 .pre .0),
+    )
 
 same-length : tie.Need-same-length
 same-length c =
@@ -50,8 +54,12 @@ put-last-requires-2 : tie.Need-put-last-requires-2
 put-last-requires-2 c κs =
     let c5 = c .before .before .before .before .before in
     let c9 = c5 .before .before .before .before in
-    let c11 = c9 .before .before in
-    (raw-place _ _ _ _ _ _ (c11 .pre .0) (c11 .pre .1) (raw-single _ (c .before .if2 .taken)) (c5 .copy-into .ensures), omega arith, last-from _ _ (bytes-known _ (λ i. c9 .shared-slice-known .given i .fits)) (c11 .pre .0))
+    let c11 = c9 .before .before in (
+      raw-place _ _ _ _ _ _ (c11 .pre .0) (c11 .pre .1) (raw-single _ (c .before .if2 .taken)) (c5 .copy-into .ensures),
+      omega arith,
+      last-from _ _
+          (bytes-known _ (λ i. c9 .shared-slice-known .given i .fits)) (c11 .pre .0),
+    )
 
 same-length-2 : tie.Need-same-length-2
 same-length-2 c =

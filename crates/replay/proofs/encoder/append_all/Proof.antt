@@ -8,7 +8,8 @@ use Rattle.replay.proofs.encoder.append_all.Statement.{statement}
 use Rattle.replay.proofs.encoder.append_all.Tie as tie
 
 abbrev Inv-loop : tie.InvT-loop
-Inv-loop size items fixed₀ variable₀ state₀ at₀ accepted₀ fixed variable state at accepted = (at ≤ length items) × (accepted ≤ at) × (length fixed ≡ length fixed₀) × (length variable ≡ length variable₀)
+Inv-loop size items fixed₀ variable₀ state₀ at₀ accepted₀ fixed variable state at accepted = (at ≤ length items) × (accepted ≤ at) ×
+    (length fixed ≡ length fixed₀) × (length variable ≡ length variable₀)
 
 abbrev μ-loop : tie.MeasureT-loop
 μ-loop size items fixed₀ variable₀ state₀ at₀ accepted₀ fixed variable state at accepted = length items - at

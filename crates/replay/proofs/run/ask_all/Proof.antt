@@ -8,7 +8,8 @@ use Rattle.replay.proofs.run.ask_all.Statement.{statement}
 use Rattle.replay.proofs.run.ask_all.Tie as tie
 
 abbrev Inv-loop : tie.InvT-loop
-Inv-loop b first₀ second₀ words₀ at₀ outcome₀ first second words at outcome = (at ≤ length b) × (length first ≡ length first₀) × (length second ≡ length second₀) × (length words ≡ length words₀)
+Inv-loop b first₀ second₀ words₀ at₀ outcome₀ first second words at outcome = (at ≤ length b) × (length first ≡ length first₀) ×
+    (length second ≡ length second₀) × (length words ≡ length words₀)
 
 abbrev μ-loop : tie.MeasureT-loop
 μ-loop b first₀ second₀ words₀ at₀ outcome₀ first second words at outcome = length b - at

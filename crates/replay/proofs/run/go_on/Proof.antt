@@ -10,7 +10,8 @@ enum-known-filled : tie.Need-enum-known-filled
 enum-known-filled c = search needs
 
 turn-requires : tie.Need-turn-requires
-turn-requires c κs = rw (c .before .before .before .before .before .filled .given .1) at (c .before .before .before .before .before .before .before .before .before .fill .ensures)
+turn-requires c κs = rw (c .before .before .before .before .before .filled .given .1) at
+    (c .before .before .before .before .before .before .before .before .before .fill .ensures)
 
 enum-told : tie.Need-enum-told
 enum-told c = search needs

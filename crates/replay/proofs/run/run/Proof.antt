@@ -8,7 +8,8 @@ use Rattle.replay.proofs.run.run.Statement.{statement}
 use Rattle.replay.proofs.run.run.Tie as tie
 
 abbrev Inv-loop : tie.InvT-loop
-Inv-loop fd b₀ first₀ second₀ words₀ state₀ turns₀ b first second words state turns = (state .have ≤ length b) × (length b ≡ length b₀) × (length first ≡ length first₀) × (length second ≡ length second₀) × (length words ≡ length words₀)
+Inv-loop fd b₀ first₀ second₀ words₀ state₀ turns₀ b first second words state turns = (state .have ≤ length b) × (length b ≡ length b₀) ×
+    (length first ≡ length first₀) × (length second ≡ length second₀) × (length words ≡ length words₀)
 
 abbrev μ-loop : tie.MeasureT-loop
 μ-loop fd b₀ first₀ second₀ words₀ state₀ turns₀ b first second words state turns = turns

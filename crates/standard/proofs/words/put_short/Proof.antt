@@ -43,7 +43,13 @@ same-length c = search needs
 
 returns : tie.Need-returns
 unfolding le
-returns c = rw (c .before .before .put-byte4 .ensures, c .before .before .before .before .before .before .put-byte3 .ensures, c .before .before .before .before .before .before .before .before .before .before .put-byte2 .ensures, c .before .before .before .before .before .before .before .before .before .before .before .before .before .before .put-byte .ensures) (simp unary-clauses)
+returns c = rw (
+  c .before .before .put-byte4 .ensures,
+  c .before .before .before .before .before .before .put-byte3 .ensures,
+  c .before .before .before .before .before .before .before .before .before .before .put-byte2 .ensures,
+  c .before .before .before .before .before .before .before .before .before .before .before .before .before .before .put-byte .ensures,
+)
+    (simp unary-clauses)
 
 pub put-short-spec : {M : Type 1} → statement M
 put-short-spec =

@@ -66,37 +66,68 @@ measure-item-below t =
     measure-item.Pre
 
 abbrev measure-fields-Inv-loop : measure-fields-lts.InvT-loop
-measure-fields-Inv-loop lens layout t a0 n contents bodies i0 j0 sum₀ a₀ left₀ i₀ j₀ sum a left i j = Measuring lens layout t a0 n contents bodies i0 j0 sum a left i j
+measure-fields-Inv-loop lens layout t a0 n contents bodies i0 j0 sum₀ a₀ left₀ i₀ j₀ sum a left i j =
+    Measuring lens layout t a0 n contents bodies i0 j0 sum a left i j
 
 abbrev measure-fields-μ-loop : measure-fields-lts.MeasureT-loop
 measure-fields-μ-loop lens layout t a0 n contents bodies i0 j0 sum₀ a₀ left₀ i₀ j₀ sum a left i j = left
 
 -- what `measure_fields` calls, at the measure t
 abbrev measure-fields-calls : ℕ → measure-fields-lts.Claims
-measure-fields-calls t = (word-at-reads.Asked, word-at-reads.Learnt, measure-item-below t, measure-item.Post, with-offset-reads.Asked, with-offset-reads.Learnt, add-reads.Asked, add-reads.Learnt)
+measure-fields-calls t = (
+  word-at-reads.Asked,
+  word-at-reads.Learnt,
+  measure-item-below t,
+  measure-item.Post,
+  with-offset-reads.Asked,
+  with-offset-reads.Learnt,
+  add-reads.Asked,
+  add-reads.Learnt,
+)
 
 -- what `measure_item` calls, at the measure t
 abbrev measure-item-calls : ℕ → measure-item-lts.Claims
-measure-item-calls t = (look-reads.Asked, look-reads.Learnt, measure-fields-below t, measure-fields.Post, select-reads.Asked, select-reads.Learnt, measure-item-below t, measure-item.Post, with-selector-reads.Asked, with-selector-reads.Learnt, measure-leaf-reads.Asked, measure-leaf-reads.Learnt)
+measure-item-calls t = (
+  look-reads.Asked,
+  look-reads.Learnt,
+  measure-fields-below t,
+  measure-fields.Post,
+  select-reads.Asked,
+  select-reads.Learnt,
+  measure-item-below t,
+  measure-item.Post,
+  with-selector-reads.Asked,
+  with-selector-reads.Learnt,
+  measure-leaf-reads.Asked,
+  measure-leaf-reads.Learnt,
+)
 
-measure-fields-loop-holds : (t : ℕ) → measure-fields-lts.Need-loop-holds (measure-fields-calls t) (measure-fields-at t) measure-fields.Post measure-fields-Inv-loop measure-fields-μ-loop
+measure-fields-loop-holds : (t : ℕ) → measure-fields-lts.Need-loop-holds (measure-fields-calls t) (measure-fields-at t) measure-fields.Post
+    measure-fields-Inv-loop measure-fields-μ-loop
 measure-fields-loop-holds t c =
     let c4 = c .before .before .before .before in
     measuring-none _ _ _ _ _ _ _ _ _ (c4 .pre .1)
 
-measure-fields-word-at-requires : (t : ℕ) → measure-fields-lts.Need-word-at-requires (measure-fields-calls t) (measure-fields-at t) measure-fields.Post measure-fields-Inv-loop measure-fields-μ-loop
+measure-fields-word-at-requires : (t : ℕ) → measure-fields-lts.Need-word-at-requires (measure-fields-calls t) (measure-fields-at t)
+    measure-fields.Post measure-fields-Inv-loop measure-fields-μ-loop
 measure-fields-word-at-requires t c κs = search needs
 
-measure-fields-measure-item-requires : (t : ℕ) → measure-fields-lts.Need-measure-item-requires (measure-fields-calls t) (measure-fields-at t) measure-fields.Post measure-fields-Inv-loop measure-fields-μ-loop
+measure-fields-measure-item-requires : (t : ℕ) → measure-fields-lts.Need-measure-item-requires (measure-fields-calls t) (measure-fields-at t)
+    measure-fields.Post measure-fields-Inv-loop measure-fields-μ-loop
 measure-fields-measure-item-requires t c κs =
     let c2 = c .before .before in
-    let c7 = c2 .before .before .before .before .before in
-    (omega (arith, row-below _ _ _ _ _ _ (c2 .loop .inv .row) (c .before .loop-test .taken) (c .word-at .ensures .0), c7 .pre .0), row-under _ _ _ _ _ _ (c2 .loop .inv .row) (c .before .loop-test .taken) (c .word-at .ensures .0))
+    let c7 = c2 .before .before .before .before .before in (
+      omega (arith, row-below _ _ _ _ _ _ (c2 .loop .inv .row) (c .before .loop-test .taken) (c .word-at .ensures .0), c7 .pre .0),
+      row-under _ _ _ _
+          _ _ (c2 .loop .inv .row) (c .before .loop-test .taken) (c .word-at .ensures .0),
+    )
 
-measure-fields-enum-known-r : (t : ℕ) → measure-fields-lts.Need-enum-known-r (measure-fields-calls t) (measure-fields-at t) measure-fields.Post measure-fields-Inv-loop measure-fields-μ-loop
+measure-fields-enum-known-r : (t : ℕ) → measure-fields-lts.Need-enum-known-r (measure-fields-calls t) (measure-fields-at t) measure-fields.Post
+    measure-fields-Inv-loop measure-fields-μ-loop
 measure-fields-enum-known-r t c = search needs
 
-measure-fields-mul-with-offset : (t : ℕ) → measure-fields-lts.Need-mul-with-offset (measure-fields-calls t) (measure-fields-at t) measure-fields.Post measure-fields-Inv-loop measure-fields-μ-loop
+measure-fields-mul-with-offset : (t : ℕ) → measure-fields-lts.Need-mul-with-offset (measure-fields-calls t) (measure-fields-at t) measure-fields.Post
+    measure-fields-Inv-loop measure-fields-μ-loop
 measure-fields-mul-with-offset t c =
     let c4 = c .before .before .before .before in
     omega (arith, c4 .word-at .ensures .1)
@@ -118,23 +149,28 @@ measure-fields-shared-slice-read-with-offset t c =
     let c7 = c6 .before in
     row-index _ _ _ _ _ _ (c7 .loop .inv .row) (c6 .loop-test .taken) (c5 .word-at .ensures .0)
 
-measure-fields-cast-with-offset : (t : ℕ) → measure-fields-lts.Need-cast-with-offset (measure-fields-calls t) (measure-fields-at t) measure-fields.Post measure-fields-Inv-loop measure-fields-μ-loop
+measure-fields-cast-with-offset : (t : ℕ) → measure-fields-lts.Need-cast-with-offset (measure-fields-calls t) (measure-fields-at t)
+    measure-fields.Post measure-fields-Inv-loop measure-fields-μ-loop
 measure-fields-cast-with-offset t c =
     let c5 = c .before .before .before .before .before in
     let c6 = c5 .before in
     let c7 = c6 .before in
     omega (arith, row-small _ _ _ _ _ _ (c7 .loop .inv .row) (c6 .loop-test .taken) (c5 .word-at .ensures .0))
 
-measure-fields-with-offset-requires : (t : ℕ) → measure-fields-lts.Need-with-offset-requires (measure-fields-calls t) (measure-fields-at t) measure-fields.Post measure-fields-Inv-loop measure-fields-μ-loop
+measure-fields-with-offset-requires : (t : ℕ) → measure-fields-lts.Need-with-offset-requires (measure-fields-calls t) (measure-fields-at t)
+    measure-fields.Post measure-fields-Inv-loop measure-fields-μ-loop
 measure-fields-with-offset-requires t c κs = search needs
 
-measure-fields-add-requires : (t : ℕ) → measure-fields-lts.Need-add-requires (measure-fields-calls t) (measure-fields-at t) measure-fields.Post measure-fields-Inv-loop measure-fields-μ-loop
+measure-fields-add-requires : (t : ℕ) → measure-fields-lts.Need-add-requires (measure-fields-calls t) (measure-fields-at t) measure-fields.Post
+    measure-fields-Inv-loop measure-fields-μ-loop
 measure-fields-add-requires t c κs = search needs
 
-measure-fields-enum-known-r-2 : (t : ℕ) → measure-fields-lts.Need-enum-known-r-2 (measure-fields-calls t) (measure-fields-at t) measure-fields.Post measure-fields-Inv-loop measure-fields-μ-loop
+measure-fields-enum-known-r-2 : (t : ℕ) → measure-fields-lts.Need-enum-known-r-2 (measure-fields-calls t) (measure-fields-at t) measure-fields.Post
+    measure-fields-Inv-loop measure-fields-μ-loop
 measure-fields-enum-known-r-2 t c = search needs
 
-measure-fields-returns : (t : ℕ) → measure-fields-lts.Need-returns (measure-fields-calls t) (measure-fields-at t) measure-fields.Post measure-fields-Inv-loop measure-fields-μ-loop
+measure-fields-returns : (t : ℕ) → measure-fields-lts.Need-returns (measure-fields-calls t) (measure-fields-at t) measure-fields.Post
+    measure-fields-Inv-loop measure-fields-μ-loop
 measure-fields-returns t c =
     let c3 = c .before .before .before in
     let c4 = c3 .before in
@@ -143,18 +179,22 @@ measure-fields-returns t c =
     measuring-stop _ _ _ _ _ _ _ _ _ _ _ _ _ _ _ (c6 .loop .inv) (c5 .loop-test .taken) (c4 .word-at .ensures .0) _
     (sym (c .before .r2 .given .1) ∙ c3 .measure-item .ensures)
 
-measure-fields-add-a : (t : ℕ) → measure-fields-lts.Need-add-a (measure-fields-calls t) (measure-fields-at t) measure-fields.Post measure-fields-Inv-loop measure-fields-μ-loop
+measure-fields-add-a : (t : ℕ) → measure-fields-lts.Need-add-a (measure-fields-calls t) (measure-fields-at t) measure-fields.Post
+    measure-fields-Inv-loop measure-fields-μ-loop
 measure-fields-add-a t c =
     let c9 = c .before .before .before .before .before .before .before .before .before in
     omega (arith, c9 .loop .inv .row .near)
 
-measure-fields-sub-left : (t : ℕ) → measure-fields-lts.Need-sub-left (measure-fields-calls t) (measure-fields-at t) measure-fields.Post measure-fields-Inv-loop measure-fields-μ-loop
+measure-fields-sub-left : (t : ℕ) → measure-fields-lts.Need-sub-left (measure-fields-calls t) (measure-fields-at t) measure-fields.Post
+    measure-fields-Inv-loop measure-fields-μ-loop
 measure-fields-sub-left t c = omega arith
 
-measure-fields-loop-less : (t : ℕ) → measure-fields-lts.Need-loop-less (measure-fields-calls t) (measure-fields-at t) measure-fields.Post measure-fields-Inv-loop measure-fields-μ-loop
+measure-fields-loop-less : (t : ℕ) → measure-fields-lts.Need-loop-less (measure-fields-calls t) (measure-fields-at t) measure-fields.Post
+    measure-fields-Inv-loop measure-fields-μ-loop
 measure-fields-loop-less t c = omega arith
 
-measure-fields-loop-again : (t : ℕ) → measure-fields-lts.Need-loop-again (measure-fields-calls t) (measure-fields-at t) measure-fields.Post measure-fields-Inv-loop measure-fields-μ-loop
+measure-fields-loop-again : (t : ℕ) → measure-fields-lts.Need-loop-again (measure-fields-calls t) (measure-fields-at t) measure-fields.Post
+    measure-fields-Inv-loop measure-fields-μ-loop
 measure-fields-loop-again t c =
     let c4 = c .before .before .before .before in
     let c6 = c4 .before .before in
@@ -162,9 +202,11 @@ measure-fields-loop-again t c =
     let c8 = c7 .before in
     let c9 = c8 .before in
     rw (c .add .ensures)
-    (measuring-next _ _ _ _ _ _ _ _ _ _ _ _ _ _ _ (c9 .loop .inv) (c8 .loop-test .taken) (c7 .word-at .ensures .0) _ (sym (c4 .r .given .1) ∙ c6 .measure-item .ensures) _ refl _ (c .before .with-offset .ensures))
+    (measuring-next _ _ _ _ _ _ _ _ _ _ _ _ _ _ _ (c9 .loop .inv) (c8 .loop-test .taken) (c7 .word-at .ensures .0) _
+    (sym (c4 .r .given .1) ∙ c6 .measure-item .ensures) _ refl _ (c .before .with-offset .ensures))
 
-measure-fields-returns-2 : (t : ℕ) → measure-fields-lts.Need-returns-2 (measure-fields-calls t) (measure-fields-at t) measure-fields.Post measure-fields-Inv-loop measure-fields-μ-loop
+measure-fields-returns-2 : (t : ℕ) → measure-fields-lts.Need-returns-2 (measure-fields-calls t) (measure-fields-at t) measure-fields.Post
+    measure-fields-Inv-loop measure-fields-μ-loop
 measure-fields-returns-2 t c = measuring-end _ _ _ _ _ _ _ _ _ _ _ _ _ _ (c .before .loop .inv) (c .loop-test .left)
 
 measure-item-look-requires : (t : ℕ) → measure-item-lts.Need-look-requires (measure-item-calls t) (measure-item-at t) measure-item.Post
@@ -196,7 +238,11 @@ measure-item-add-word t c =
     let c3 = c2 .before in
     let c8 = c3 .before .before .before .before .before in
     let c13 = c8 .before .before .before .before .before in
-    omega (arith, bare-item _ _ _ (c8 .look .ensures) (c3 .if2 .taken) _ (c13 .args .bodies .now) _ (c13 .args .j) (sym (c .enum-told .given .1) ∙ c2 .select .ensures) .2)
+    omega (
+      arith,
+      bare-item _ _ _ (c8 .look .ensures) (c3 .if2 .taken) _ (c13 .args .bodies .now) _ (c13 .args .j)
+          (sym (c .enum-told .given .1) ∙ c2 .select .ensures) .2,
+    )
 
 measure-item-enum-known-c : (t : ℕ) → measure-item-lts.Need-enum-known-c (measure-item-calls t) (measure-item-at t) measure-item.Post
 measure-item-enum-known-c t c = search needs
@@ -207,7 +253,11 @@ measure-item-add-word-2 t c =
     let c4 = c3 .before in
     let c9 = c4 .before .before .before .before .before in
     let c14 = c9 .before .before .before .before .before in
-    omega (arith, body-item _ _ _ (c9 .look .ensures) (c4 .if2 .taken) _ (c14 .args .bodies .now) _ (c14 .args .j) ((c14 .pre .1) .legal) _ (sym (c .before .c .given .1) ∙ c3 .select .ensures) .2)
+    omega (
+      arith,
+      body-item _ _ _ (c9 .look .ensures) (c4 .if2 .taken) _ (c14 .args .bodies .now) _ (c14 .args .j) ((c14 .pre .1) .legal) _
+          (sym (c .before .c .given .1) ∙ c3 .select .ensures) .2,
+    )
 
 measure-item-measure-item-requires : (t : ℕ) → measure-item-lts.Need-measure-item-requires (measure-item-calls t) (measure-item-at t) measure-item.Post
 measure-item-measure-item-requires t c κs =
@@ -240,7 +290,12 @@ measure-item-returns-2 t c =
     let c3 = c2 .before in
     let c8 = c3 .before .before .before .before .before in
     let c13 = c8 .before .before .before .before .before in
-    rw (bare-item _ _ _ (c8 .look .ensures) (c3 .if2 .taken) _ (c13 .args .bodies .now) _ (c13 .args .j) (sym (c .enum-told .given .1) ∙ c2 .select .ensures) .0, bare-item _ _ _ (c8 .look .ensures) (c3 .if2 .taken) _ (c13 .args .bodies .now) _ (c13 .args .j) (sym (c .enum-told .given .1) ∙ c2 .select .ensures) .1)
+    rw (
+      bare-item _ _ _ (c8 .look .ensures) (c3 .if2 .taken) _ (c13 .args .bodies .now) _ (c13 .args .j)
+          (sym (c .enum-told .given .1) ∙ c2 .select .ensures) .0,
+      bare-item _ _ _ (c8 .look .ensures) (c3 .if2 .taken) _ (c13 .args .bodies .now) _
+          (c13 .args .j) (sym (c .enum-told .given .1) ∙ c2 .select .ensures) .1,
+    )
 
 measure-item-returns-3 : (t : ℕ) → measure-item-lts.Need-returns-3 (measure-item-calls t) (measure-item-at t) measure-item.Post
 measure-item-returns-3 t c =
@@ -259,7 +314,8 @@ measure-item-returns-4 t c =
     let c4 = c3 .before in
     let c9 = c4 .before .before .before .before .before in
     let c14 = c9 .before .before .before .before .before in
-    rw (wrong-item _ _ _ (c9 .look .ensures) (c4 .if2 .taken) _ (c14 .args .bodies .now) _ (c14 .args .j) _ (sym (c .before .c2 .given .1) ∙ c3 .select .ensures))
+    rw (wrong-item _ _ _ (c9 .look .ensures) (c4 .if2 .taken) _ (c14 .args .bodies .now) _ (c14 .args .j) _
+    (sym (c .before .c2 .given .1) ∙ c3 .select .ensures))
 
 measure-item-returns-5 : (t : ℕ) → measure-item-lts.Need-returns-5 (measure-item-calls t) (measure-item-at t) measure-item.Post
 measure-item-returns-5 t c =

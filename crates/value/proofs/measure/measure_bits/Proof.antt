@@ -67,7 +67,14 @@ returns-2 c =
     let c3 = c .before .before .before in
     let c4 = c3 .before in
     let c5 = c4 .before in
-    rw (← c5 .raw-bytes .ensures, ← c4 .has .ensures, not-false (c4 .has .result) (c3 .if1 .left), lt-ltb _ _ (small-shifted _ _ (c .before .if2 .taken)), c .capped .ensures)
+    rw (
+      ← c5 .raw-bytes .ensures,
+      ← c4 .has .ensures,
+      not-false (c4 .has .result) (c3 .if1 .left),
+      lt-ltb _ _
+          (small-shifted _ _ (c .before .if2 .taken)),
+      c .capped .ensures,
+    )
 
 returns-3 : tie.Need-returns-3
 returns-3 c =

@@ -62,54 +62,91 @@ write-item-below t =
     and 5 write-item-kinds.ps (falls 5 write-item-kinds.ps _<_ μ-write-item t) write-item.Pre
 
 abbrev write-fields-Inv-loop : write-fields-lts.InvT-loop
-write-fields-Inv-loop out₀ start lens layout t a0 n contents bodies i0 j0 own p₀ q₀ a₀ left₀ i₀ j₀ out p q a left i j = Writing lens layout t contents bodies start own (start + length (join (partsFrom (rowOf layout t a0 n) contents bodies i0 j0))) (walkFields (rowOf layout t a0 n) contents bodies i0 j0) (sets out₀ start (join (partsFrom (rowOf layout t a0 n) contents bodies i0 j0))) out₀ out p q a left i j
+write-fields-Inv-loop out₀ start lens layout t a0 n contents bodies i0 j0 own p₀ q₀ a₀ left₀ i₀ j₀ out p q a left i j =
+    Writing lens layout t contents bodies start own (start + length (join (partsFrom (rowOf layout t a0 n) contents bodies i0 j0)))
+    (walkFields (rowOf layout t a0 n) contents bodies i0 j0) (sets out₀ start (join (partsFrom (rowOf layout t a0 n) contents bodies i0 j0))) out₀
+    out p q a left i j
 
 abbrev write-fields-μ-loop : write-fields-lts.MeasureT-loop
 write-fields-μ-loop out₀ start lens layout t a0 n contents bodies i0 j0 own p₀ q₀ a₀ left₀ i₀ j₀ out p q a left i j = left
 
 -- what `write_fields` calls, at the measure t
 abbrev write-fields-calls : ℕ → write-fields-lts.Claims
-write-fields-calls t = (portion-of-reads.Asked, portion-of-reads.Learnt, word-at-reads.Asked, word-at-reads.Learnt, begin-reads.Asked, begin-reads.Learnt, write-item-below t, write-item.Post, next-head-reads.Asked, next-head-reads.Learnt, next-tail-reads.Asked, next-tail-reads.Learnt)
+write-fields-calls t = (
+  portion-of-reads.Asked,
+  portion-of-reads.Learnt,
+  word-at-reads.Asked,
+  word-at-reads.Learnt,
+  begin-reads.Asked,
+  begin-reads.Learnt,
+  write-item-below t,
+  write-item.Post,
+  next-head-reads.Asked,
+  next-head-reads.Learnt,
+  next-tail-reads.Asked,
+  next-tail-reads.Learnt,
+)
 
 -- what `write_item` calls, at the measure t
 abbrev write-item-calls : ℕ → write-item-lts.Claims
-write-item-calls t = (look-reads.Asked, look-reads.Learnt, write-fields-below t, write-fields.Post, select-reads.Asked, select-reads.Learnt, put-selector-reads.Asked, put-selector-reads.Learnt, write-item-below t, write-item.Post, put-leaf-reads.Asked, put-leaf-reads.Learnt)
+write-item-calls t = (
+  look-reads.Asked,
+  look-reads.Learnt,
+  write-fields-below t,
+  write-fields.Post,
+  select-reads.Asked,
+  select-reads.Learnt,
+  put-selector-reads.Asked,
+  put-selector-reads.Learnt,
+  write-item-below t,
+  write-item.Post,
+  put-leaf-reads.Asked,
+  put-leaf-reads.Learnt,
+)
 
-write-fields-portion-of-requires : (t : ℕ) → write-fields-lts.Need-portion-of-requires (write-fields-calls t) (write-fields-at t) write-fields.Post write-fields-Inv-loop write-fields-μ-loop
+write-fields-portion-of-requires : (t : ℕ) → write-fields-lts.Need-portion-of-requires (write-fields-calls t) (write-fields-at t) write-fields.Post
+    write-fields-Inv-loop write-fields-μ-loop
 write-fields-portion-of-requires t c κs =
     let c5 = c .before .before .before .before .before in
     (c5 .pre .1 .row, c5 .pre .1 .short)
 
-write-fields-add-q : (t : ℕ) → write-fields-lts.Need-add-q (write-fields-calls t) (write-fields-at t) write-fields.Post write-fields-Inv-loop write-fields-μ-loop
+write-fields-add-q : (t : ℕ) → write-fields-lts.Need-add-q (write-fields-calls t) (write-fields-at t) write-fields.Post write-fields-Inv-loop
+    write-fields-μ-loop
 write-fields-add-q t c =
     let c6 = c .before .before .before .before .before .before in
     omega (arith, fields-fit _ _ _ _ _ _ _ _ _ _ _ _ (c6 .pre .1) (c .portion-of .ensures), c6 .good)
 
-write-fields-loop-holds : (t : ℕ) → write-fields-lts.Need-loop-holds (write-fields-calls t) (write-fields-at t) write-fields.Post write-fields-Inv-loop write-fields-μ-loop
+write-fields-loop-holds : (t : ℕ) → write-fields-lts.Need-loop-holds (write-fields-calls t) (write-fields-at t) write-fields.Post
+    write-fields-Inv-loop write-fields-μ-loop
 write-fields-loop-holds t c =
     let c6 = c .before .before .before .before .before .before in
     writing-none _ _ _ _ _ _ _ _ _ _ _ _ (c6 .pre .1) (c .portion-of .ensures)
 
-write-fields-word-at-requires : (t : ℕ) → write-fields-lts.Need-word-at-requires (write-fields-calls t) (write-fields-at t) write-fields.Post write-fields-Inv-loop write-fields-μ-loop
+write-fields-word-at-requires : (t : ℕ) → write-fields-lts.Need-word-at-requires (write-fields-calls t) (write-fields-at t) write-fields.Post
+    write-fields-Inv-loop write-fields-μ-loop
 write-fields-word-at-requires t c κs = search needs
 
-write-fields-mul-k : (t : ℕ) → write-fields-lts.Need-mul-k (write-fields-calls t) (write-fields-at t) write-fields.Post write-fields-Inv-loop write-fields-μ-loop
+write-fields-mul-k : (t : ℕ) → write-fields-lts.Need-mul-k (write-fields-calls t) (write-fields-at t) write-fields.Post write-fields-Inv-loop
+    write-fields-μ-loop
 write-fields-mul-k t c = omega (arith, c .word-at .ensures .1)
 
-write-fields-shared-slice-read-k : (t : ℕ) → write-fields-lts.Need-shared-slice-read-k (write-fields-calls t) (write-fields-at t) write-fields.Post write-fields-Inv-loop write-fields-μ-loop
+write-fields-shared-slice-read-k : (t : ℕ) → write-fields-lts.Need-shared-slice-read-k (write-fields-calls t) (write-fields-at t) write-fields.Post
+    write-fields-Inv-loop write-fields-μ-loop
 write-fields-shared-slice-read-k t c =
     let c2 = c .before .before in
     let c3 = c2 .before in
     row-index _ _ _ _ _ _ (c3 .loop .inv .row) (c2 .loop-test .taken) (c .before .word-at .ensures .0)
 
-write-fields-cast-k : (t : ℕ) → write-fields-lts.Need-cast-k (write-fields-calls t) (write-fields-at t) write-fields.Post write-fields-Inv-loop write-fields-μ-loop
+write-fields-cast-k : (t : ℕ) → write-fields-lts.Need-cast-k (write-fields-calls t) (write-fields-at t) write-fields.Post write-fields-Inv-loop
+    write-fields-μ-loop
 write-fields-cast-k t c =
     let c1 = c .before in
     let c2 = c1 .before in
     let c3 = c2 .before in
     omega (arith, row-small _ _ _ _ _ _ (c3 .loop .inv .row) (c2 .loop-test .taken) (c1 .word-at .ensures .0))
 
-write-fields-begin-requires : (t : ℕ) → write-fields-lts.Need-begin-requires (write-fields-calls t) (write-fields-at t) write-fields.Post write-fields-Inv-loop write-fields-μ-loop
+write-fields-begin-requires : (t : ℕ) → write-fields-lts.Need-begin-requires (write-fields-calls t) (write-fields-at t) write-fields.Post
+    write-fields-Inv-loop write-fields-μ-loop
 write-fields-begin-requires t c κs =
     let c2 = c .before .before in
     let c3 = c2 .before in
@@ -117,39 +154,59 @@ write-fields-begin-requires t c κs =
     let c11 = c4 .before .before .before .before .before .before .before in
     writing-order _ _ _ _ _ _ _ _ _ _ _ _ _ _ _ _ _ _ _ (c11 .pre .1 .walk) (c4 .loop .inv) (c3 .loop-test .taken) (c2 .word-at .ensures .0)
 
-write-fields-write-item-requires : (t : ℕ) → write-fields-lts.Need-write-item-requires (write-fields-calls t) (write-fields-at t) write-fields.Post write-fields-Inv-loop write-fields-μ-loop
+write-fields-write-item-requires : (t : ℕ) → write-fields-lts.Need-write-item-requires (write-fields-calls t) (write-fields-at t) write-fields.Post
+    write-fields-Inv-loop write-fields-μ-loop
 write-fields-write-item-requires t c κs =
     let c3 = c .before .before .before in
     let c6 = c3 .before .before .before in
     let c7 = c6 .before in
     let c8 = c7 .before in
-    let c15 = c8 .before .before .before .before .before .before .before in
-    (omega (arith, row-below _ _ _ _ _ _ (c8 .loop .inv .row) (c7 .loop-test .taken) (c6 .word-at .ensures .0), c15 .pre .0), (row-under _ _ _ _ _ _ (c8 .loop .inv .row) (c7 .loop-test .taken) (c6 .word-at .ensures .0), writing-upto _ _ _ _ _ _ _ _ _ _ _ _ _ _ _ _ _ _ _ (c15 .pre .1 .walk) (c8 .loop .inv) (c7 .loop-test .taken) (c6 .word-at .ensures .0), writing-room _ _ _ _ _ _ _ _ _ _ _ _ _ _ _ _ _ _ _ (c15 .pre .1 .walk) (c8 .loop .inv) (c7 .loop-test .taken) (c6 .word-at .ensures .0) _ refl _ _ (c3 .begin .ensures)))
+    let c15 = c8 .before .before .before .before .before .before .before in (
+      omega (arith, row-below _ _ _ _ _ _ (c8 .loop .inv .row) (c7 .loop-test .taken) (c6 .word-at .ensures .0), c15 .pre .0),
+      (
+        row-under _ _ _ _ _ _ (c8 .loop .inv .row) (c7 .loop-test .taken) (c6 .word-at .ensures .0),
+        writing-upto _ _ _ _ _ _ _ _ _ _ _ _ _ _ _ _ _
+            _ _ (c15 .pre .1 .walk) (c8 .loop .inv) (c7 .loop-test .taken) (c6 .word-at .ensures .0),
+        writing-room _ _ _ _ _ _ _ _ _ _ _ _ _ _ _ _ _ _ _
+            (c15 .pre .1 .walk) (c8 .loop .inv) (c7 .loop-test .taken) (c6 .word-at .ensures .0) _ refl _ _ (c3 .begin .ensures),
+      ),
+    )
 
-write-fields-next-head-requires : (t : ℕ) → write-fields-lts.Need-next-head-requires (write-fields-calls t) (write-fields-at t) write-fields.Post write-fields-Inv-loop write-fields-μ-loop
+write-fields-next-head-requires : (t : ℕ) → write-fields-lts.Need-next-head-requires (write-fields-calls t) (write-fields-at t) write-fields.Post
+    write-fields-Inv-loop write-fields-μ-loop
 write-fields-next-head-requires t c κs =
     let c9 = c .before .before .before .before .before .before .before .before .before in
     let c10 = c9 .before in
     let c11 = c10 .before in
     let c18 = c11 .before .before .before .before .before .before .before in
-    λ z. omega
-    (arith, writing-four _ _ _ _ _ _ _ _ _ _ _ _ _ _ _ _ _ _ _ (c18 .pre .1 .walk) (c11 .loop .inv) (c10 .loop-test .taken) (c9 .word-at .ensures .0) _ refl z, c11 .loop .inv .long, c18 .good)
+    λ z. omega (
+      arith,
+      writing-four _ _ _ _ _ _ _ _ _ _ _ _ _ _ _ _ _ _ _ (c18 .pre .1 .walk) (c11 .loop .inv) (c10 .loop-test .taken) (c9 .word-at .ensures .0)
+          _ refl z,
+      c11 .loop .inv .long,
+      c18 .good,
+    )
 
-write-fields-next-tail-requires : (t : ℕ) → write-fields-lts.Need-next-tail-requires (write-fields-calls t) (write-fields-at t) write-fields.Post write-fields-Inv-loop write-fields-μ-loop
+write-fields-next-tail-requires : (t : ℕ) → write-fields-lts.Need-next-tail-requires (write-fields-calls t) (write-fields-at t) write-fields.Post
+    write-fields-Inv-loop write-fields-μ-loop
 write-fields-next-tail-requires t c κs = search needs
 
-write-fields-add-a : (t : ℕ) → write-fields-lts.Need-add-a (write-fields-calls t) (write-fields-at t) write-fields.Post write-fields-Inv-loop write-fields-μ-loop
+write-fields-add-a : (t : ℕ) → write-fields-lts.Need-add-a (write-fields-calls t) (write-fields-at t) write-fields.Post write-fields-Inv-loop
+    write-fields-μ-loop
 write-fields-add-a t c =
     let c13 = c .before .before .before .before .before .before .before .before .before .before .before .before .before in
     omega (arith, c13 .loop .inv .row .near)
 
-write-fields-sub-left : (t : ℕ) → write-fields-lts.Need-sub-left (write-fields-calls t) (write-fields-at t) write-fields.Post write-fields-Inv-loop write-fields-μ-loop
+write-fields-sub-left : (t : ℕ) → write-fields-lts.Need-sub-left (write-fields-calls t) (write-fields-at t) write-fields.Post write-fields-Inv-loop
+    write-fields-μ-loop
 write-fields-sub-left t c = omega arith
 
-write-fields-loop-less : (t : ℕ) → write-fields-lts.Need-loop-less (write-fields-calls t) (write-fields-at t) write-fields.Post write-fields-Inv-loop write-fields-μ-loop
+write-fields-loop-less : (t : ℕ) → write-fields-lts.Need-loop-less (write-fields-calls t) (write-fields-at t) write-fields.Post write-fields-Inv-loop
+    write-fields-μ-loop
 write-fields-loop-less t c = omega arith
 
-write-fields-loop-again : (t : ℕ) → write-fields-lts.Need-loop-again (write-fields-calls t) (write-fields-at t) write-fields.Post write-fields-Inv-loop write-fields-μ-loop
+write-fields-loop-again : (t : ℕ) → write-fields-lts.Need-loop-again (write-fields-calls t) (write-fields-at t) write-fields.Post
+    write-fields-Inv-loop write-fields-μ-loop
 write-fields-loop-again t c =
     let c4 = c .before .before .before .before in
     let c8 = c4 .before .before .before .before in
@@ -158,12 +215,15 @@ write-fields-loop-again t c =
     let c13 = c12 .before in
     let c20 = c13 .before .before .before .before .before .before .before in
     rw (c .before .next-head .ensures, c .next-tail .ensures)
-    (writing-next _ _ _ _ _ _ _ _ _ _ _ _ _ _ _ _ _ _ _ (c20 .pre .1 .walk) (c13 .loop .inv) (c12 .loop-test .taken) (c11 .word-at .ensures .0) _ refl _ _ (c8 .begin .ensures) _ _ (c4 .write-item .ensures))
+    (writing-next _ _ _ _ _ _ _ _ _ _ _ _ _ _ _ _ _ _ _ (c20 .pre .1 .walk) (c13 .loop .inv) (c12 .loop-test .taken) (c11 .word-at .ensures .0) _
+    refl _ _ (c8 .begin .ensures) _ _ (c4 .write-item .ensures))
 
-write-fields-same-length : (t : ℕ) → write-fields-lts.Need-same-length (write-fields-calls t) (write-fields-at t) write-fields.Post write-fields-Inv-loop write-fields-μ-loop
+write-fields-same-length : (t : ℕ) → write-fields-lts.Need-same-length (write-fields-calls t) (write-fields-at t) write-fields.Post
+    write-fields-Inv-loop write-fields-μ-loop
 write-fields-same-length t c = c .before .loop .inv .long
 
-write-fields-returns : (t : ℕ) → write-fields-lts.Need-returns (write-fields-calls t) (write-fields-at t) write-fields.Post write-fields-Inv-loop write-fields-μ-loop
+write-fields-returns : (t : ℕ) → write-fields-lts.Need-returns (write-fields-calls t) (write-fields-at t) write-fields.Post write-fields-Inv-loop
+    write-fields-μ-loop
 write-fields-returns t c = writing-end _ _ _ _ _ _ _ _ _ _ _ _ _ _ _ _ _ _ (c .before .loop .inv) refl (c .loop-test .left)
 
 write-item-look-requires : (t : ℕ) → write-item-lts.Need-look-requires (write-item-calls t) (write-item-at t) write-item.Post
@@ -177,8 +237,11 @@ write-item-add-first t c =
 write-item-write-fields-requires : (t : ℕ) → write-item-lts.Need-write-fields-requires (write-item-calls t) (write-item-at t) write-item.Post
 write-item-write-fields-requires t c κs =
     let c4 = c .before .before .before .before in
-    let c10 = c4 .before .before .before .before .before .before in
-    (omega (arith, c10 .pre .0), container-ready _ _ _ _ (c4 .look .ensures) (c10 .pre .1 .0) (c .before .if1 .taken) _ _ _ _ _ _ (c10 .pre .1 .1) (c10 .pre .1 .2))
+    let c10 = c4 .before .before .before .before .before .before in (
+      omega (arith, c10 .pre .0),
+      container-ready _ _ _ _ (c4 .look .ensures) (c10 .pre .1 .0) (c .before .if1 .taken) _ _ _ _ _ _ (c10 .pre .1 .1)
+          (c10 .pre .1 .2),
+    )
 
 write-item-select-requires : (t : ℕ) → write-item-lts.Need-select-requires (write-item-calls t) (write-item-at t) write-item.Post
 write-item-select-requires t c κs =
@@ -207,7 +270,12 @@ write-item-add-word t c =
     let c7 = c6 .before in
     let c12 = c7 .before .before .before .before .before in
     let c18 = c12 .before .before .before .before .before .before in
-    omega (arith, bare-item _ _ _ (c12 .look .ensures) (c7 .if2 .taken) _ (c18 .args .bodies .now) _ (c18 .args .j) (sym (c4 .enum-told .given .1) ∙ c6 .select .ensures) .2, c18 .good)
+    omega (
+      arith,
+      bare-item _ _ _ (c12 .look .ensures) (c7 .if2 .taken) _ (c18 .args .bodies .now) _ (c18 .args .j)
+          (sym (c4 .enum-told .given .1) ∙ c6 .select .ensures) .2,
+      c18 .good,
+    )
 
 write-item-add-to : (t : ℕ) → write-item-lts.Need-add-to (write-item-calls t) (write-item-at t) write-item.Post
 write-item-add-to t c =
@@ -218,7 +286,11 @@ write-item-add-to t c =
     let c18 = c12 .before .before .before .before .before .before in
     let z = bare-item _ _ _ (c12 .look .ensures) (c7 .if2 .taken) _ (c18 .args .bodies .now) _ (c18 .args .j)
     (sym (c4 .enum-told .given .1) ∙ c6 .select .ensures) in
-    omega (arith, selector-need _ _ _ _ (c18 .args .contents .now) (c18 .args .i) _ _ (z .1) refl (z .2) (z .3) (node-ok _ _ _ _ (c12 .look .ensures) (c18 .pre .1 .0) .most (c7 .if2 .taken)) (c18 .pre .1 .2) .2)
+    omega (
+      arith,
+      selector-need _ _ _ _ (c18 .args .contents .now) (c18 .args .i) _ _ (z .1) refl (z .2) (z .3)
+          (node-ok _ _ _ _ (c12 .look .ensures) (c18 .pre .1 .0) .most (c7 .if2 .taken)) (c18 .pre .1 .2) .2,
+    )
 
 write-item-enum-known-c : (t : ℕ) → write-item-lts.Need-enum-known-c (write-item-calls t) (write-item-at t) write-item.Post
 write-item-enum-known-c t c = search needs
@@ -242,7 +314,12 @@ write-item-add-word-2 t c =
     let c8 = c7 .before in
     let c13 = c8 .before .before .before .before .before in
     let c19 = c13 .before .before .before .before .before .before in
-    omega (arith, body-item _ _ _ (c13 .look .ensures) (c8 .if2 .taken) _ (c19 .args .bodies .now) _ (c19 .args .j) ((c19 .pre .1 .0) .legal) _ (sym (c5 .c .given .1) ∙ c7 .select .ensures) .2, c19 .good)
+    omega (
+      arith,
+      body-item _ _ _ (c13 .look .ensures) (c8 .if2 .taken) _ (c19 .args .bodies .now) _ (c19 .args .j) ((c19 .pre .1 .0) .legal) _
+          (sym (c5 .c .given .1) ∙ c7 .select .ensures) .2,
+      c19 .good,
+    )
 
 write-item-add-to-2 : (t : ℕ) → write-item-lts.Need-add-to-2 (write-item-calls t) (write-item-at t) write-item.Post
 write-item-add-to-2 t c =
@@ -253,7 +330,11 @@ write-item-add-to-2 t c =
     let c19 = c13 .before .before .before .before .before .before in
     let z = body-item _ _ _ (c13 .look .ensures) (c8 .if2 .taken) _ (c19 .args .bodies .now) _ (c19 .args .j) ((c19 .pre .1 .0) .legal) _
     (sym (c5 .c .given .1) ∙ c7 .select .ensures) in
-    omega (arith, selector-need _ _ _ _ (c19 .args .contents .now) (c19 .args .i) _ _ (z .1) refl (z .2) (z .3) (node-ok _ _ _ _ (c13 .look .ensures) (c19 .pre .1 .0) .most (c8 .if2 .taken)) (c19 .pre .1 .2) .2)
+    omega (
+      arith,
+      selector-need _ _ _ _ (c19 .args .contents .now) (c19 .args .i) _ _ (z .1) refl (z .2) (z .3)
+          (node-ok _ _ _ _ (c13 .look .ensures) (c19 .pre .1 .0) .most (c8 .if2 .taken)) (c19 .pre .1 .2) .2,
+    )
 
 write-item-write-item-requires : (t : ℕ) → write-item-lts.Need-write-item-requires (write-item-calls t) (write-item-at t) write-item.Post
 write-item-write-item-requires t c κs =
@@ -264,8 +345,15 @@ write-item-write-item-requires t c κs =
     let c14 = c9 .before .before .before .before .before in
     let c20 = c14 .before .before .before .before .before .before in
     let z = body-item _ _ _ (c14 .look .ensures) (c9 .if2 .taken) _ (c20 .args .bodies .now) _ (c20 .args .j) ((c20 .pre .1 .0) .legal) _
-    (sym (c6 .c .given .1) ∙ c8 .select .ensures) in
-    (omega (arith, c20 .pre .0, z .4), (under-below _ _ _ _ (omega (arith, z .4)) (c20 .pre .1 .0), rw (z .0) at (c20 .pre .1 .1), body-room _ _ _ _ _ (z .1) (c20 .pre .1 .2) _ (c3 .put-selector2 .ensures)))
+    (sym (c6 .c .given .1) ∙ c8 .select .ensures) in (
+      omega (arith, c20 .pre .0, z .4),
+      (
+        under-below _ _ _ _ (omega (arith, z .4)) (c20 .pre .1 .0),
+        rw (z .0) at (c20 .pre .1 .1),
+        body-room _ _ _ _
+            _ (z .1) (c20 .pre .1 .2) _ (c3 .put-selector2 .ensures),
+      ),
+    )
 
 write-item-enum-told-2 : (t : ℕ) → write-item-lts.Need-enum-told-2 (write-item-calls t) (write-item-at t) write-item.Post
 write-item-enum-told-2 t c = search needs
@@ -328,7 +416,8 @@ write-item-returns-4 t c =
     let c3 = c2 .before in
     let c8 = c3 .before .before .before .before .before in
     let c14 = c8 .before .before .before .before .before .before in
-    absurd (rw (wrong-item _ _ _ (c8 .look .ensures) (c3 .if2 .taken) (c14 .args .contents .now) (c14 .args .bodies .now) (c14 .args .i) (c14 .args .j) _ (sym (c .enum-told2 .given .1) ∙ c2 .select .ensures)) at (c14 .pre .1 .1))
+    absurd (rw (wrong-item _ _ _ (c8 .look .ensures) (c3 .if2 .taken) (c14 .args .contents .now) (c14 .args .bodies .now) (c14 .args .i)
+    (c14 .args .j) _ (sym (c .enum-told2 .given .1) ∙ c2 .select .ensures)) at (c14 .pre .1 .1))
 
 write-item-same-length-4 : (t : ℕ) → write-item-lts.Need-same-length-4 (write-item-calls t) (write-item-at t) write-item.Post
 write-item-same-length-4 t c = search needs
