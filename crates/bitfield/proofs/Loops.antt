@@ -14,7 +14,7 @@ use lib.Pow.{pow-pos, pow-add}
 use lib.ListN.{length, getD, set, take, drop, replicate, take-append-drop, length-drop}
 use lib.Seq.{take-suc, drop-cons, append-snoc, set-at, length-take-le, drop-length, drop-drop}
 use Rattle.standard.specs.Bytes.{Bytes, le, num, numAt, four, wordAt}
-use Rattle.standard.proofs.Bytes.{num-bound, bytes-take}
+use Rattle.standard.proofs.Bytes.{word-there, num-bound, bytes-take}
 use Rattle.standard.proofs.Bits.{pow-bytes, num-append}
 use Rattle.bitfield.specs.Raw.{zipped, firsts, Raw}
 use Rattle.bitfield.specs.Facts.{Word}
@@ -244,11 +244,12 @@ four-drop l i h =
 
 pub word-halves : (l : List ℕ) (w x y : ℕ) → length l ≡ 256 → w < 32 → (x ≡ wordAt l (2 * w)) × (x < 2 ^ 32) → (y ≡ wordAt l (2 * w + 1)) × (y < 2 ^ 32)
     → Word l (8 * w) (x + 4294967296 * y)
-unfolding wordAt
 word-halves l w x y n h p q =
+    let even = word-there l (2 * w) (omega arith) in
+    let odd = word-there l (2 * w + 1) (omega arith) in
     let a : 4 * (2 * w) ≡ 8 * w = omega arith in
     let b : 4 * (2 * w + 1) ≡ 8 * w + 4 = omega arith in
     let c : 8 * w + 4 + 4 ≡ 8 * w + 8 = omega arith in
     let low = four-drop l (8 * w) (omega arith) in
     let high = rw c at (four-drop l (8 * w + 4) (omega arith)) in
-    record { small = omega arith; says = rw (p .0, q .0, a, b) (omega arith) }
+    record { small = omega arith; says = rw (p .0, q .0, ← even, ← odd, a, b) (omega arith) }

@@ -6,6 +6,10 @@ use native.Mathlib.Nat.{add-zero, pow-succ', one-le-pow}
 use native.Mathlib.Omega.{arith}
 use lib.ListN.{length, getD, take, drop, length-append, length-take, length-drop, drop-of-length-le}
 use lib.Seq.{getD-drop, take-at}
+use lib.Dec.{ltb}
+use mathlib.Core.Bool.{Bool, true, false}
+use borrow.Author.Tests.{lt-ltb, le-ltb}
+use Rattle.standard.specs.Choice.{pick}
 use Rattle.standard.specs.Bytes.{Bytes, le, num, numAt, four, wordAt}
 
 -- Bytes of parts.
@@ -111,9 +115,21 @@ take-bound zero l h = omega arith
 take-bound (suc w) [] h = one-le-pow (suc w) 256 (omega arith)
 take-bound (suc w) (x ∷ xs) h = rw (pow-succ' 256 w) (omega (arith, take-bound w xs (h .1), h .0))
 
+pub word-there : (l : List ℕ) (i : ℕ) → i < length l / 4 → four l (4 * i) ≡ wordAt l i
+unfolding wordAt
+word-there l i h = rw (lt-ltb i (length l / 4) h)
+
+pub word-past : (l : List ℕ) (i : ℕ) → length l / 4 ≤ i → 0 ≡ wordAt l i
+unfolding wordAt
+word-past l i h = rw (le-ltb i (length l / 4) h)
+
 pub word-bound : (l : List ℕ) (i : ℕ) → Bytes l → wordAt l i < 2 ^ 32
 unfolding wordAt numAt
-word-bound l i h = take-bound 4 (drop (4 * i) l) (bytes-drop (4 * i) l h)
+word-bound l i h = go (ltb i (length l / 4))
+  where
+    go : (c : Bool) → pick c (four l (4 * i)) 0 < 2 ^ 32
+    go true = take-bound 4 (drop (4 * i) l) (bytes-drop (4 * i) l h)
+    go false = omega arith
 
 -- What is known of a slice of bytes, index by index.
 pub bytes-known : (l : List ℕ) → ((i : ℕ) → getD l i 0 < 256) → Bytes l

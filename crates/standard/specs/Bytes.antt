@@ -4,6 +4,8 @@ use mathlib.Core.List.{List, [], _∷_}
 use Prim.Native.Nat.{ℕ, zero, suc, _+_, _*_, _/_, _%_, _<_, _≤_}
 use lib.ListN.{length, take, drop}
 use lib.Seq.{sets}
+use lib.Dec.{ltb}
+use Rattle.standard.specs.Choice.{pick}
 
 -- Every number of a list is a byte.
 unfoldable pub Bytes : List ℕ → Type 0
@@ -28,9 +30,9 @@ numAt w b p = num (take w (drop p b))
 abbrev pub four : List ℕ → ℕ → ℕ
 four b p = numAt 4 b p
 
--- The i-th word of a table that is lent as its bytes
+-- The i-th word of a table that is lent as its bytes; a word that is not there whole counts as 0
 unfoldable pub wordAt : List ℕ → ℕ → ℕ
-wordAt l i = four l (4 * i)
+wordAt l i = pick (ltb i (length l / 4)) (four l (4 * i)) 0
 
 -- The values x were stored in o from at on, up to r, which gives o′; the rest is kept.
 pub record Stored (o : List ℕ) (at : ℕ) (x : List ℕ) (r : ℕ) (o′ : List ℕ) : Type 0 where

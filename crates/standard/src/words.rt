@@ -50,15 +50,13 @@ pub fn four_at(b: &[u8], p: usize) -> usize
     }
 }
 
-// The i-th word of a table. A word that is there costs one comparison and one load.
+// The i-th word of a table: one comparison and one load.
 pub fn word_at(table: &[u8], i: usize) -> usize
     ensures { λ r. ⌜ (r ≡ wordAt (now (table .entry)) i) × (r < 2 ^ 32) ⌝ }
 {
     let whole = table.len() / 4;
     if i < whole {
         whole_at(table, 4 * i)
-    } else if i == whole {
-        four_at(table, 4 * i)
     } else {
         0
     }

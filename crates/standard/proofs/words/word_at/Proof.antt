@@ -1,7 +1,7 @@
--- The word is there whole, in part or not at all. Assumes nothing.
+-- The word is there whole, or it counts as 0. Assumes nothing.
 use native.Mathlib.Omega.{arith}
-use Rattle.standard.specs.Bytes.{wordAt}
-use Rattle.standard.proofs.Bytes.{four-past}
+use mathlib.Core.Path.{_∙_}
+use Rattle.standard.proofs.Bytes.{word-there, word-past}
 use borrow.Author.Needs.{needs}
 use Rattle.standard.proofs.words.word_at.Statement.{statement}
 use Rattle.standard.proofs.words.word_at.Tie as tie
@@ -12,32 +12,11 @@ mul-whole-at c = search needs
 whole-at-requires : tie.Need-whole-at-requires
 whole-at-requires c κs = search needs
 
-mul-four-at : tie.Need-mul-four-at
-mul-four-at c = search needs
-
-four-at-requires : tie.Need-four-at-requires
-four-at-requires c κs = search needs
-
 returns : tie.Need-returns
-unfolding wordAt
-returns c = c .whole-at .ensures
+returns c = (c .whole-at .ensures .0 ∙ word-there _ _ (omega arith), c .whole-at .ensures .1)
 
 returns-2 : tie.Need-returns-2
-unfolding wordAt
-returns-2 c = c .four-at .ensures
-
-returns-3 : tie.Need-returns-3
-unfolding wordAt
-returns-3 c = (four-past _ _ (omega arith), omega arith)
+returns-2 c = (word-past _ _ (omega arith), omega arith)
 
 pub word-at-spec : {M : Type 1} → statement M
-word-at-spec =
-    tie.close
-    (tie.spec
-    mul-whole-at
-    whole-at-requires
-    mul-four-at
-    four-at-requires
-    returns
-    returns-2
-    returns-3)
+word-at-spec = tie.close (tie.spec mul-whole-at whole-at-requires returns returns-2)
