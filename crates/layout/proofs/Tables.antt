@@ -6,19 +6,18 @@ use Prim.Native.Nat.{ℕ, zero, suc, _+_, _-_, _*_, _/_, _%_, _≤_, _<_, _^_}
 use native.Mathlib.Nat.{add-zero}
 use native.Mathlib.Omega.{arith}
 use borrow.Author.Tests.{eqb-true, eqb-false, ltb-true, ltb-false, leb-true, lt-ltb, le-ltb, ne-eqb, eq-eqb, le-leb, lt-leb}
-use lib.ListN.{length, getD}
+use lib.ListN.{length, getD, replicate}
 use lib.Dec.{eqb, leb, ltb}
 use Rattle.standard.specs.Choice.{pick, andAlso, orElse}
 use Rattle.standard.specs.Bytes.{Bytes, wordAt}
 use Rattle.standard.specs.Types.{Ty, Tys, head, heads, width, portion, LegalTy}
 use Rattle.standard.specs.declared.Head.{Head}
 use Rattle.standard.proofs.Bytes.{word-bound}
-use Rattle.layout.specs.Tree.{nodeOf, fields, trees, treeOf, lenOf, headOf, filled}
-use Rattle.layout.specs.Table.{onward, count, mayName, refs, many, containerEnd, leafWord, leafEnd, bodyEnd, typesEnd, tableOf, withLengths}
+use Rattle.layout.specs.Tree.{nodeOf, fields, trees, treeOf, lenOf, headOf, lengths, filled}
+use Rattle.layout.specs.Table.{onward, count, mayName, refs, many, containerEnd, leafWord, leafEnd, bodyEnd, typesEnd, typesOf, tableOf, lengthsOf}
 use Rattle.layout.specs.Legal.{Lower, LowerOrBare, LegalNode, Legal}
-use Rattle.layout.specs.Steps.{Known, Typed}
+use Rattle.layout.specs.Steps.{Known, Typed, Tabled}
 use Rattle.layout.specs.declared.Node.{Node}
-use Rattle.layout.specs.declared.Table.{Table}
 use Rattle.layout.specs.declared.Checked.{Checked}
 use Rattle.layout.specs.declared.Checked.the-variants.{Bad, Upto}
 use Rattle.layout.proofs.Facts.{fields-first, fields-none, heads-first, lower-here, lower-rest, filled-get, length-filled, head-len, legal-below, legal-more}
@@ -293,6 +292,12 @@ checking-end l lens n t at g h =
 pub typed-bad : (l : List ℕ) (n i : ℕ) (lens : List ℕ) → Bad i ≡ typesEnd l n 0 (n + 1) → Typed l n (Bad i) lens
 typed-bad l n i lens h = record { gives = h; found = λ e q. bad-upto i e q }
 
+pub tabled-bad : (l : List ℕ) (i : ℕ) (lens : List ℕ) → Bad i ≡ tableOf l → Tabled l (Bad i) lens
+tabled-bad l i lens h = record { gives = h; found = λ n q. bad-upto i n q }
+
+pub tabled : (l : List ℕ) (n : ℕ) (lens : List ℕ) → Upto n ≡ tableOf l → lens ≡ filled l n → Tabled l (Upto n) lens
+tabled l n lens h f = record { gives = h; found = λ m q. rw (← upto-inj n m q) f }
+
 -- The types of an accepted table are legal.
 types-legal : (l : List ℕ) (k t at e : ℕ) → Bytes l → Legal l t → typesEnd l k t at ≡ Upto e → Legal l (t + k)
 unfolding typesEnd
@@ -308,36 +313,49 @@ no-types : (l : List ℕ) → Legal l 0
 unfolding Legal
 no-types l t h = absurd (omega arith)
 
-pub table-legal : (l : List ℕ) (n : ℕ) → Bytes l → tableOf l ≡ Upto n → Legal l n × (1 ≤ n) × (n ≤ 64)
-unfolding tableOf
-table-legal l n b h =
+-- The number of types, where there is one.
+pub types-say : (l : List ℕ) (n : ℕ) → typesOf l ≡ Upto n → (1 ≤ n) × (n ≤ 64) × (n < count l)
+unfolding typesOf
+types-say l n h =
     let p = upto-left (eqb (length l % 4) 0) _ (count l) n h in
     let q = upto-left (ltb 0 (count l)) _ 0 n (p .1) in
     let r = upto-left (andAlso (ltb 0 (wordAt l 0)) (leb (wordAt l 0) 64)) _ 0 n (q .1) in
-    let s = upto-left (ltb (wordAt l 0) (count l)) _ (count l) n (r .1) in
-    let u = upto-onward (typesEnd l (wordAt l 0) 0 (wordAt l 0 + 1)) _ n (s .1) in
-    let v = upto-left (eqb (u .0) (count l)) (Upto (wordAt l 0)) (u .0) n (u .2) in
+    let s = upto-left (ltb (wordAt l 0) (count l)) (Upto (wordAt l 0)) (count l) n (r .1) in
     let w = both-true (ltb 0 (wordAt l 0)) (leb (wordAt l 0) 64) (r .0) in
-    let e : wordAt l 0 ≡ n = upto-inj (wordAt l 0) n (v .1) in
+    let e : wordAt l 0 ≡ n = upto-inj (wordAt l 0) n (s .1) in
+    let some : 1 ≤ wordAt l 0 = omega (arith, ltb-true 0 (wordAt l 0) (w .0)) in
+    let few : wordAt l 0 ≤ 64 = leb-true (wordAt l 0) 64 (w .1) in
+    let there : wordAt l 0 < count l = ltb-true (wordAt l 0) (count l) (s .0) in
+    (omega arith, omega arith, omega arith)
+
+-- Before the first type nothing is known, and nothing is asked.
+pub nothing-known : (l : List ℕ) → Known (replicate 64 0) l 0
+unfolding filled lengths
+nothing-known l = record { found = refl; legal = no-types l; few = omega arith }
+
+pub table-legal : (l : List ℕ) (n : ℕ) → Bytes l → tableOf l ≡ Upto n → Legal l n × (1 ≤ n) × (n ≤ 64)
+unfolding tableOf
+table-legal l n b h =
+    let p = upto-onward (typesOf l) _ n h in
+    let q = upto-onward (typesEnd l (p .0) 0 (p .0 + 1)) _ n (p .2) in
+    let r = upto-left (eqb (q .0) (count l)) (Upto (p .0)) (q .0) n (q .2) in
+    let e : p .0 ≡ n = upto-inj (p .0) n (r .1) in
+    let s = types-say l (p .0) (p .1) in
     let none : Legal l 0 = no-types l in
-    let z : 0 + wordAt l 0 ≡ n = omega arith in (
-      rw z at (types-legal l (wordAt l 0) 0 (wordAt l 0 + 1) (u .0) b none (u .1)),
-      omega (arith, ltb-true 0 (wordAt l 0) (w .0)),
-      omega
-          (arith, leb-true (wordAt l 0) 64 (w .1)),
-    )
+    let z : 0 + p .0 ≡ n = omega arith in
+    (rw z at (types-legal l (p .0) 0 (p .0 + 1) (q .0) b none (q .1)), omega (arith, s .0), omega (arith, s .1))
 
--- What `table_of` gives.
-with-checked : (x : Checked) (l : List ℕ) → withLengths x l .checked ≡ x
-with-checked (Bad w) l = refl
-with-checked (Upto n) l = refl
+-- What `table_of` leaves.
+pub table-known : (l lens : List ℕ) (n : ℕ) → Bytes l → tableOf l ≡ Upto n → lens ≡ lengthsOf (tableOf l) l → Known lens l n × (1 ≤ n)
+table-known l lens n b h e =
+    let g = table-legal l n b h in
+    (record { found = e ∙ rw h; legal = g .0; few = g .2 }, g .1)
 
-module _ (l : List ℕ) (r : Table) (e : r ≡ withLengths (tableOf l) l) where
-  pub table-checked : r .checked ≡ tableOf l
-  table-checked = rw e (with-checked (tableOf l) l)
-
-  pub table-known : (n : ℕ) → Bytes l → r .checked ≡ Upto n → Known (r .lens) l n × (1 ≤ n)
-  table-known n b h =
-      let q : tableOf l ≡ Upto n = sym table-checked ∙ h in
-      let g = table-legal l n b q in
-      (record { found = rw (e, q); legal = g .0; few = g .2 }, g .1)
+pub table-length : (l lens : List ℕ) (n : ℕ) → tableOf l ≡ Upto n → lens ≡ lengthsOf (tableOf l) l → 64 ≡ length lens
+unfolding tableOf
+table-length l lens n h e =
+    let p = upto-onward (typesOf l) _ n h in
+    let q = upto-onward (typesEnd l (p .0) 0 (p .0 + 1)) _ n (p .2) in
+    let r = upto-left (eqb (q .0) (count l)) (Upto (p .0)) (q .0) n (q .2) in
+    let few : n ≤ 64 = omega (arith, types-say l (p .0) (p .1) .1, upto-inj (p .0) n (r .1)) in
+    sym (ap length e ∙ rw h (length-filled l n few))

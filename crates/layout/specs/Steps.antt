@@ -7,7 +7,7 @@ use Rattle.standard.specs.Choice.{pick}
 use Rattle.standard.specs.Bytes.{Bytes}
 use Rattle.standard.specs.Types.{Tys, head, headAll, heads, portion}
 use Rattle.layout.specs.Tree.{leafOf, treeOf, lenOf, filled}
-use Rattle.layout.specs.Table.{typesEnd}
+use Rattle.layout.specs.Table.{typesEnd, tableOf}
 use Rattle.layout.specs.Legal.{Legal}
 use Rattle.layout.specs.declared.Node.{Node}
 use Rattle.layout.specs.declared.Sizes.{Sizes}
@@ -42,3 +42,8 @@ pub record Ended (l : List ℕ) (t : ℕ) (x r : Checked) (lens′ : List ℕ) :
 pub record Typed (l : List ℕ) (n : ℕ) (r : Checked) (lens′ : List ℕ) : Type 0 where
   pub gives : r ≡ typesEnd l n 0 (n + 1)
   pub found : (e : ℕ) → r ≡ Upto e → lens′ ≡ filled l n
+
+-- r is what the table l says; if it is legal, lens′ has its types' lengths.
+pub record Tabled (l : List ℕ) (r : Checked) (lens′ : List ℕ) : Type 0 where
+  pub gives : r ≡ tableOf l
+  pub found : (n : ℕ) → r ≡ Upto n → lens′ ≡ filled l n

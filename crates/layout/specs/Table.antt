@@ -12,7 +12,6 @@ use Rattle.standard.specs.declared.Refusal.the-variants.{BadLayout}
 use Rattle.layout.specs.Tree.{fields, trees, filled}
 use Rattle.layout.specs.declared.Checked.{Checked}
 use Rattle.layout.specs.declared.Checked.the-variants.{Bad, Upto}
-use Rattle.layout.specs.declared.Table.{Table}
 
 abbrev pub onward : Checked → (ℕ → Checked) → Checked
 onward (Bad w) k = Bad w
@@ -79,24 +78,28 @@ typesEnd l (suc k) t at =
     (onward (bodyEnd l t at) (λ e. typesEnd l k (t + 1) e))
     (Bad (1 + t))
 
--- "A cut last layout word is 20 at it, first"; "word 0; presence of words 1 to T; then for each type ..; then leftover words". What is
--- found is the number of types, or the first bad word.
-unfoldable pub tableOf : List ℕ → Checked
-tableOf l =
+-- "A cut last layout word is 20 at it, first"; "word 0; presence of words 1 to T": the number of types, or the first bad word
+unfoldable pub typesOf : List ℕ → Checked
+typesOf l =
     pick (eqb (length l % 4) 0)
     (pick (ltb 0 (count l))
     (pick (andAlso (ltb 0 (wordAt l 0)) (leb (wordAt l 0) 64))
-    (pick (ltb (wordAt l 0) (count l))
-    (onward (typesEnd l (wordAt l 0) 0 (wordAt l 0 + 1)) (λ e. pick (eqb e (count l)) (Upto (wordAt l 0)) (Bad e)))
-    (Bad (count l)))
+    (pick (ltb (wordAt l 0) (count l)) (Upto (wordAt l 0)) (Bad (count l)))
     (Bad 0))
     (Bad 0))
     (Bad (count l))
 
--- With the types' fixed lengths, where the table is legal
-abbrev pub withLengths : Checked → List ℕ → Table
-withLengths (Bad w) l = record { checked = Bad w; lens = replicate 64 0 }
-withLengths (Upto n) l = record { checked = Upto n; lens = filled l n }
+-- "then for each type ..; then leftover words": the number of types of a legal table, or the first bad word
+unfoldable pub tableOf : List ℕ → Checked
+tableOf l =
+    onward (typesOf l) (λ n.
+    onward (typesEnd l n 0 (n + 1)) (λ e.
+    pick (eqb e (count l)) (Upto n) (Bad e)))
+
+-- The types' fixed lengths where the table is legal, and nothing else
+abbrev pub lengthsOf : Checked → List ℕ → List ℕ
+lengthsOf (Bad w) l = replicate 64 0
+lengthsOf (Upto n) l = filled l n
 
 abbrev pub toldOf : Checked → Told
 toldOf (Bad w) = Told.Refused (BadLayout w)

@@ -3,14 +3,13 @@ use standard::Refusal;
 use standard::Told;
 use standard::words::word_at;
 ghost use mathlib.Core.Path.{_≡_};
-ghost use mathlib.Core.List.{[]};
 ghost use Prim.Native.Nat.{_+_, _≤_, _<_, _^_};
 ghost use Rattle.standard.specs.Bytes.{wordAt};
 ghost use Rattle.standard.specs.Types.{isWidth, width};
 ghost use Rattle.layout.specs.Tree.{nodeOf, fields, trees, headOf};
-ghost use Rattle.layout.specs.Table.{count, mayName, refs, many, containerEnd, leafWord, leafEnd, bodyEnd, typesEnd, tableOf, withLengths, toldOf};
+ghost use Rattle.layout.specs.Table.{count, mayName, refs, many, containerEnd, leafWord, leafEnd, bodyEnd, typesEnd, typesOf, tableOf, lengthsOf, toldOf};
 ghost use Rattle.layout.specs.Legal.{Lower, Legal};
-ghost use Rattle.layout.specs.Steps.{Known, leafLen, sizesOf, Lengthened, Ended, Typed};
+ghost use Rattle.layout.specs.Steps.{Known, leafLen, sizesOf, Lengthened, Ended, Typed, Tabled};
 
 // What stands in an option's place where it has no body.
 pub const NO_BODY: usize = 4294967295;
@@ -26,12 +25,6 @@ pub struct Node {
 pub enum Checked {
     Bad(usize),
     Upto(usize),
-}
-
-// The number of types, or the first bad word; and the types' fixed lengths, 0 for a type of variable size.
-pub struct Table {
-    pub checked: Checked,
-    pub lens: [u32; 64],
 }
 
 // What some fields take of a fixed portion, and how long they are, 0 if one of them is of variable size.
@@ -329,50 +322,67 @@ fn types_end(lens: &mut [u32; 64], layout: &[u8], n: usize) -> Checked
     Checked::Upto(at)
 }
 
-fn refused(w: usize) -> Table
-    ensures { λ r. ⌜ r ≡ withLengths (Checked.Bad w) [] ⌝ }
-{
-    Table {
-        checked: Checked::Bad(w),
-        lens: [0; 64],
-    }
-}
-
-// The number of types of a legal table with their lengths, or the first bad word.
-pub fn table_of(layout: &[u8]) -> Table
-    ensures { λ r. ⌜ r ≡ withLengths (tableOf (now (layout .entry))) (now (layout .entry)) ⌝ }
+// The first tests: whole words, the number of types, and that each has a start word.
+fn types_of(layout: &[u8]) -> Checked
+    ensures { λ r. ⌜ r ≡ typesOf (now (layout .entry)) ⌝ }
 {
     let words = layout.len() / 4;
     if layout.len() % 4 != 0 {
-        return refused(words);
+        return Checked::Bad(words);
     }
     if words == 0 {
-        return refused(0);
+        return Checked::Bad(0);
     }
     let n = word_at(layout, 0);
     if n == 0 {
-        return refused(0);
+        return Checked::Bad(0);
     }
     if n > 64 {
-        return refused(0);
+        return Checked::Bad(0);
     }
     if n >= words {
-        return refused(words);
+        return Checked::Bad(words);
     }
-    let mut lens = [0u32; 64];
-    let c = types_end(&mut lens, layout, n);
-    match c {
-        Checked::Bad(w) => refused(w),
-        Checked::Upto(e) => {
-            if e == words {
-                Table {
-                    checked: Checked::Upto(n),
-                    lens,
+    Checked::Upto(n)
+}
+
+// The whole table, from lengths that are all 0.
+fn table_end(lens: &mut [u32; 64], layout: &[u8]) -> Checked
+    requires { ⌜ Known (now lens) (now layout) 0 ⌝ }
+    ensures { λ r. ⌜ Tabled (now (layout .entry)) r (now (lens .exit)) ⌝ }
+{
+    let begun = types_of(layout);
+    match begun {
+        Checked::Bad(w) => Checked::Bad(w),
+        Checked::Upto(n) => {
+            let c = types_end(lens, layout, n);
+            match c {
+                Checked::Bad(w) => Checked::Bad(w),
+                Checked::Upto(e) => {
+                    if e == layout.len() / 4 {
+                        Checked::Upto(n)
+                    } else {
+                        Checked::Bad(e)
+                    }
                 }
-            } else {
-                refused(e)
             }
         }
+    }
+}
+
+// The number of types of a legal table, or the first bad word. `lens` gets the types' lengths, and 0 for all others.
+pub fn table_of(lens: &mut [u32; 64], layout: &[u8]) -> Checked
+    ensures { λ r. ⌜ r ≡ tableOf (now (layout .entry)) ⌝ }
+    ensures { λ _. ⌜ now (lens .exit) ≡ lengthsOf (tableOf (now (layout .entry))) (now (layout .entry)) ⌝ }
+{
+    *lens = [0; 64];
+    let c = table_end(lens, layout);
+    match c {
+        Checked::Bad(w) => {
+            *lens = [0; 64];
+            Checked::Bad(w)
+        }
+        Checked::Upto(n) => Checked::Upto(n),
     }
 }
 
@@ -380,8 +390,8 @@ pub fn table_of(layout: &[u8]) -> Table
 pub fn layout_check(layout: &[u8]) -> Told
     ensures { λ r. ⌜ r ≡ toldOf (tableOf (now (layout .entry))) ⌝ }
 {
-    let table = table_of(layout);
-    let c = table.checked;
+    let mut lens = [0u32; 64];
+    let c = table_of(&mut lens, layout);
     match c {
         Checked::Bad(w) => Told::Refused(Refusal::BadLayout(w)),
         Checked::Upto(_) => Told::Fine,

@@ -59,11 +59,11 @@ fn check_under(lens: &[u32], layout: &[u8], n: usize, message: &[u8]) -> Answer
 pub fn check(layout: &[u8], message: &[u8]) -> Answer
     ensures { λ r. ⌜ r ≡ checkMessage (now (layout .entry)) (now (message .entry)) ⌝ }
 {
-    let table = table_of(layout);
-    let c = table.checked;
+    let mut lens = [0u32; 64];
+    let c = table_of(&mut lens, layout);
     match c {
         Checked::Bad(w) => Answer::Refused(Refusal::BadLayout(w), 0, 0),
-        Checked::Upto(n) => check_under(&table.lens, layout, n, message),
+        Checked::Upto(n) => check_under(&lens, layout, n, message),
     }
 }
 
@@ -94,11 +94,11 @@ pub fn list(layout: &[u8], message: &[u8], records: &mut [u8]) -> Listed
     ensures { λ r. ⌜ r ≡ listMessage (now (layout .entry)) (now (message .entry)) (now (records .entry)) ⌝ }
     ensures { λ _. ⌜ now (records .exit) ≡ listedRecords (now (layout .entry)) (now (message .entry)) (now (records .entry)) ⌝ }
 {
-    let table = table_of(layout);
-    let c = table.checked;
+    let mut lens = [0u32; 64];
+    let c = table_of(&mut lens, layout);
     match c {
         Checked::Bad(w) => Listed::Refused(Refusal::BadLayout(w), 0, 0),
-        Checked::Upto(n) => list_under(records, &table.lens, layout, n, message),
+        Checked::Upto(n) => list_under(records, &lens, layout, n, message),
     }
 }
 
@@ -142,10 +142,10 @@ pub fn unfold(layout: &[u8], message: &[u8], contents: &mut [u32], bodies: &mut 
     ensures { λ _. ⌜ now (contents .exit) ≡ unfoldedWords (now (layout .entry)) (now (message .entry)) (now (contents .entry)) (now (bodies .entry)) ⌝ }
     ensures { λ _. ⌜ now (bodies .exit) ≡ unfoldedBytes (now (layout .entry)) (now (message .entry)) (now (contents .entry)) (now (bodies .entry)) ⌝ }
 {
-    let table = table_of(layout);
-    let c = table.checked;
+    let mut lens = [0u32; 64];
+    let c = table_of(&mut lens, layout);
     match c {
         Checked::Bad(w) => Unfolded::Refused(Refusal::BadLayout(w), 0, 0),
-        Checked::Upto(n) => unfold_under(contents, bodies, &table.lens, layout, n, message),
+        Checked::Upto(n) => unfold_under(contents, bodies, &lens, layout, n, message),
     }
 }

@@ -55,11 +55,7 @@ pub fn word_at(table: &[u8], i: usize) -> usize
     ensures { λ r. ⌜ (r ≡ wordAt (now (table .entry)) i) × (r < 2 ^ 32) ⌝ }
 {
     let whole = table.len() / 4;
-    if i < whole {
-        whole_at(table, 4 * i)
-    } else {
-        0
-    }
+    if i < whole { whole_at(table, 4 * i) } else { 0 }
 }
 
 fn put_byte(out: &mut [u8], at: usize, x: u8)

@@ -66,10 +66,10 @@ pub fn write(layout: &[u8], contents: &[u32], bodies: &[u8], out: &mut [u8]) -> 
     ensures { λ r. ⌜ r ≡ writeMessage (now (layout .entry)) (now (contents .entry)) (now (bodies .entry)) (now (out .entry)) ⌝ }
     ensures { λ _. ⌜ now (out .exit) ≡ writtenBytes (now (layout .entry)) (now (contents .entry)) (now (bodies .entry)) (now (out .entry)) ⌝ }
 {
-    let table = table_of(layout);
-    let c = table.checked;
+    let mut lens = [0u32; 64];
+    let c = table_of(&mut lens, layout);
     match c {
         Checked::Bad(w) => Written::Refused(Refusal::BadLayout(w)),
-        Checked::Upto(n) => write_under(out, &table.lens, layout, n, contents, bodies),
+        Checked::Upto(n) => write_under(out, &lens, layout, n, contents, bodies),
     }
 }

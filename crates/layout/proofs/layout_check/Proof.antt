@@ -1,7 +1,6 @@
 -- As the table goes. Assumes nothing.
 use mathlib.Core.Path.{_≡_, refl, sym, ap, _∙_}
 use Rattle.layout.specs.Table.{toldOf}
-use Rattle.layout.proofs.Tables.{table-checked}
 use borrow.Author.Needs.{needs}
 use Rattle.layout.proofs.layout_check.Statement.{statement}
 use Rattle.layout.proofs.layout_check.Tie as tie
@@ -17,13 +16,14 @@ enum-told c = search needs
 
 returns : tie.Need-returns
 returns c =
-    let c3 = c .before .before .before in
-    ap toldOf (sym (c .before .c .given .1) ∙ table-checked _ _ (c3 .table-of .ensures))
+    let c1 = c .before in
+    let c3 = c1 .before .before in
+    ap toldOf (sym (c1 .c .given .1) ∙ c3 .table-of .ensures .0)
 
 returns-2 : tie.Need-returns-2
 returns-2 c =
     let c2 = c .before .before in
-    ap toldOf (sym (c .enum-told .given .1) ∙ table-checked _ _ (c2 .table-of .ensures))
+    ap toldOf (sym (c .enum-told .given .1) ∙ c2 .table-of .ensures .0)
 
 pub layout-check-spec : {M : Type 1} → statement M
 layout-check-spec = tie.close (tie.spec table-of-requires enum-known-c enum-told returns returns-2)

@@ -1,7 +1,7 @@
 -- As the table goes. Assumes nothing.
 use mathlib.Core.Path.{_≡_, refl, sym, ap, _∙_}
 use Rattle.standard.proofs.Bytes.{bytes-known}
-use Rattle.layout.proofs.Tables.{table-checked, table-known}
+use Rattle.layout.proofs.Tables.{table-known, table-length}
 use Rattle.message.specs.Check.{checkMessage}
 use Rattle.message.proofs.Rows.{under-table}
 use borrow.Author.Needs.{needs}
@@ -17,14 +17,19 @@ enum-known-c c = search needs
 enum-known-c-2 : tie.Need-enum-known-c-2
 enum-known-c-2 c = search needs
 
+slice-aggregate-check-under : tie.Need-slice-aggregate-check-under
+slice-aggregate-check-under c =
+    let c2 = c .before .before in
+    let c4 = c2 .before .before in
+    table-length _ _ _ (sym (c4 .table-of .ensures .0) ∙ c2 .c2 .given .1) (c4 .table-of .ensures .1)
+
 check-under-requires : tie.Need-check-under-requires
 check-under-requires c κs =
     let c2 = c .before .before in
     let c4 = c2 .before .before in
-    let c6 = c4 .before .before in
-    let c8 = c6 .before .before in
-    let b = bytes-known _ (λ i. c8 .shared-slice-known .given i .fits) in
-    let k = table-known _ _ (c6 .table-of .ensures) _ b (c4 .c2 .given .1) in
+    let c7 = c4 .before .before .before in
+    let b = bytes-known _ (λ i. c7 .shared-slice-known .given i .fits) in
+    let k = table-known _ _ _ b (sym (c4 .table-of .ensures .0) ∙ c2 .c2 .given .1) (c4 .table-of .ensures .1) in
     (under-table _ _ _ (k .0), k .1)
 
 returns : tie.Need-returns
@@ -32,15 +37,14 @@ unfolding checkMessage
 returns c =
     let c1 = c .before in
     let c3 = c1 .before .before in
-    rw (← table-checked _ _ (c3 .table-of .ensures), c1 .c .given .1)
+    rw (← c3 .table-of .ensures .0, c1 .c .given .1)
 
 returns-2 : tie.Need-returns-2
 unfolding checkMessage
 returns-2 c =
-    let c2 = c .before .before in
-    let c5 = c2 .before .before .before in
-    let c7 = c5 .before .before in
-    rw (← table-checked _ _ (c7 .table-of .ensures), c5 .c2 .given .1) (c .check-under .ensures)
+    let c3 = c .before .before .before in
+    let c5 = c3 .before .before in
+    rw (← c5 .table-of .ensures .0, c3 .c2 .given .1) (c .check-under .ensures)
 
 pub check-spec : {M : Type 1} → statement M
 check-spec =
@@ -49,6 +53,7 @@ check-spec =
     table-of-requires
     enum-known-c
     enum-known-c-2
+    slice-aggregate-check-under
     check-under-requires
     returns
     returns-2)

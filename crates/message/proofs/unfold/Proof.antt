@@ -1,7 +1,8 @@
 -- As the table goes. Assumes nothing.
+use mathlib.Core.Path.{sym, _∙_}
 use borrow.Author.Needs.{needs}
 use Rattle.standard.proofs.Bytes.{bytes-known}
-use Rattle.layout.proofs.Tables.{table-checked, table-known}
+use Rattle.layout.proofs.Tables.{table-known, table-length}
 use Rattle.message.specs.Check.{checkMessage}
 use Rattle.message.specs.Unfold.{unfoldMessage, unfoldedWords, unfoldedBytes}
 use Rattle.message.proofs.Rows.{under-table}
@@ -17,14 +18,19 @@ enum-known-c c = search needs
 enum-known-c-2 : tie.Need-enum-known-c-2
 enum-known-c-2 c = search needs
 
+slice-aggregate-unfold-under : tie.Need-slice-aggregate-unfold-under
+slice-aggregate-unfold-under c =
+    let c4 = c .before .before .before .before in
+    let c6 = c4 .before .before in
+    table-length _ _ _ (sym (c6 .table-of .ensures .0) ∙ c4 .c2 .given .1) (c6 .table-of .ensures .1)
+
 unfold-under-requires : tie.Need-unfold-under-requires
 unfold-under-requires c κs =
-    let c2 = c .before .before in
-    let c6 = c2 .before .before .before .before in
-    let c8 = c6 .before .before in
-    let c12 = c8 .before .before .before .before in
-    let b = bytes-known _ (λ i. c12 .shared-slice-known .given i .fits) in
-    let k = table-known _ _ (c8 .table-of .ensures) _ b (c6 .c2 .given .1) in
+    let c4 = c .before .before .before .before in
+    let c6 = c4 .before .before in
+    let c11 = c6 .before .before .before .before .before in
+    let b = bytes-known _ (λ i. c11 .shared-slice-known .given i .fits) in
+    let k = table-known _ _ _ b (sym (c6 .table-of .ensures .0) ∙ c4 .c2 .given .1) (c6 .table-of .ensures .1) in
     (under-table _ _ _ (k .0), k .1)
 
 returns : tie.Need-returns
@@ -32,7 +38,7 @@ unfolding unfoldMessage unfoldedWords unfoldedBytes checkMessage
 returns c =
     let c1 = c .before in
     let c3 = c1 .before .before in
-    let e = table-checked _ _ (c3 .table-of .ensures) in
+    let e = c3 .table-of .ensures .0 in
     (rw (← e, c1 .c .given .1), (rw (← e, c1 .c .given .1), rw (← e, c1 .c .given .1)))
 
 same-length : tie.Need-same-length
@@ -44,13 +50,12 @@ same-length-2 c = search needs
 returns-2 : tie.Need-returns-2
 unfolding unfoldMessage unfoldedWords unfoldedBytes checkMessage
 returns-2 c =
-    let c2 = c .before .before in
-    let c4 = c2 .before .before in
-    let c11 = c4 .before .before .before .before .before .before .before in
-    let c13 = c11 .before .before in
-    let e = table-checked _ _ (c13 .table-of .ensures) in
+    let c4 = c .before .before .before .before in
+    let c9 = c4 .before .before .before .before .before in
+    let c11 = c9 .before .before in
+    let e = c11 .table-of .ensures .0 in
     let u = c4 .unfold-under .ensures in
-    (rw (← e, c11 .c2 .given .1) (u .0), (rw (← e, c11 .c2 .given .1) (u .1 .0), rw (← e, c11 .c2 .given .1) (u .1 .1)))
+    (rw (← e, c9 .c2 .given .1) (u .0), (rw (← e, c9 .c2 .given .1) (u .1 .0), rw (← e, c9 .c2 .given .1) (u .1 .1)))
 
 pub unfold-spec : {M : Type 1} → statement M
 unfold-spec =
@@ -59,6 +64,7 @@ unfold-spec =
     table-of-requires
     enum-known-c
     enum-known-c-2
+    slice-aggregate-unfold-under
     unfold-under-requires
     returns
     same-length
