@@ -17,7 +17,7 @@ use Rattle.standard.specs.declared.Head.{Head}
 use Rattle.standard.specs.declared.Head.the-variants.{Fixed, Variable}
 use Rattle.standard.proofs.Laws.{fixed-some}
 use Rattle.layout.specs.Tree.{nodeOf, leafOf, fromNode, fields, options, trees, treeOf, lenOf, headOf, lengths, filled}
-use Rattle.layout.specs.Legal.{Lower, LegalNode, Legal, Laid}
+use Rattle.layout.specs.Legal.{Lower, LegalNode, Legal}
 use Rattle.layout.specs.declared.Node.{Node}
 
 -- What holds of each number below n, and of n, holds below n + 1.

@@ -33,11 +33,3 @@ pub record LegalNode (l : List ℕ) (t : ℕ) (n : Node) : Type 0 where
 -- The types below n are legal.
 unfoldable pub Legal : List ℕ → ℕ → Type 0
 Legal l n = (t : ℕ) → t < n → LegalNode l t (nodeOf l t)
-
--- n fields of a type t whose lower types are legal: the words from at on.
-pub record Laid (l : List ℕ) (t at n : ℕ) : Type 0 where
-  pub legal : Legal l t
-  pub few : t ≤ 64
-  pub near : at + n < 2 ^ 34
-  pub lower : Lower l t at n
-  pub short : portion (heads (fields l (trees l t) at n)) < 2 ^ 32

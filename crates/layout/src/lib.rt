@@ -4,6 +4,7 @@ use standard::Told;
 use standard::words::word_at;
 ghost use mathlib.Core.Path.{_≡_};
 ghost use Prim.Native.Nat.{_+_, _≤_, _<_, _^_};
+ghost use lib.ListN.{set};
 ghost use Rattle.standard.specs.Bytes.{wordAt};
 ghost use Rattle.standard.specs.Types.{isWidth, width};
 ghost use Rattle.layout.specs.Tree.{nodeOf, fields, trees, headOf};
@@ -154,26 +155,6 @@ fn leaf_ok(kind: usize, w: usize) -> bool
     true
 }
 
-// A leaf with one word behind its kind.
-fn leaf_end(layout: &[u8], at: usize) -> Checked
-    requires { ⌜ at ≤ 2 ^ 61 ⌝ }
-    ensures { λ r. ⌜ r ≡ leafEnd (now (layout .entry)) at ⌝ }
-{
-    let words = layout.len() / 4;
-    let next = at + 1;
-    if next >= words {
-        return Checked::Bad(words);
-    }
-    let kind = word_at(layout, at);
-    let w = word_at(layout, next);
-    let ok = leaf_ok(kind, w);
-    if ok {
-        Checked::Upto(at + 2)
-    } else {
-        Checked::Bad(next)
-    }
-}
-
 // The fixed length of a type that holds no fields.
 fn leaf_len(n: Node) -> usize
     requires { ⌜ n .second < 2 ^ 32 ⌝ }
@@ -192,6 +173,32 @@ fn leaf_len(n: Node) -> usize
         return (n.second + 7) / 8;
     }
     0
+}
+
+// Remembers the fixed length of the type t, which holds no fields.
+fn keep(lens: &mut [u32; 64], t: usize, n: Node)
+    requires { ⌜ (t < 64) × (n .second < 2 ^ 32) ⌝ }
+    ensures { λ _. ⌜ now (lens .exit) ≡ set (now (lens .entry)) t (leafLen n) ⌝ }
+{
+    lens[t] = leaf_len(n) as u32;
+}
+
+// A leaf with one word behind its kind; its length goes to `lens`.
+fn leaf_end(lens: &mut [u32; 64], layout: &[u8], t: usize, n: Node) -> Checked
+    requires { ⌜ Known (now lens) (now layout) t × (t < 64) × (n .at < 2 ^ 32) × (n .at ≡ wordAt (now layout) (1 + t)) × (n .kind ≡ wordAt (now layout) (n .at)) × (n .second ≡ wordAt (now layout) (n .at + 1)) × (n .second < 2 ^ 32) × (n .kind < 6) ⌝ }
+    ensures { λ r. ⌜ Ended (now (layout .entry)) t (leafEnd (now (layout .entry)) (n .at)) r (now (lens .exit)) ⌝ }
+{
+    let words = layout.len() / 4;
+    let next = n.at + 1;
+    if next >= words {
+        return Checked::Bad(words);
+    }
+    let ok = leaf_ok(n.kind, n.second);
+    if !ok {
+        return Checked::Bad(next);
+    }
+    keep(lens, t, n);
+    Checked::Upto(next + 1)
 }
 
 // The fixed length of the type t: remembered below `known`, or worked out from the lower types of its fields and remembered.
@@ -282,15 +289,17 @@ fn body_end(lens: &mut [u32; 64], layout: &[u8], t: usize, at: usize) -> Checked
         return container_end(lens, layout, t, at);
     }
     let second = word_at(layout, at + 1);
-    lens[t] = leaf_len(Node { kind, at, second }) as u32;
+    let n = Node { kind, at, second };
     if kind == 7 {
+        keep(lens, t, n);
         return many_end(layout, t, at, true, 128);
     }
     if kind == 1 {
+        keep(lens, t, n);
         return Checked::Upto(at + 1);
     }
     if kind < 6 {
-        return leaf_end(layout, at);
+        return leaf_end(lens, layout, t, n);
     }
     Checked::Bad(at)
 }

@@ -1,7 +1,11 @@
 -- By the tests, in the order of the definition. Assumes nothing.
-use borrow.Author.Tests.{lt-ltb, le-ltb}
-use Rattle.layout.specs.Table.{count, leafEnd}
+use mathlib.Core.Path.{_≡_, refl, sym, ap, _∙_}
+use Prim.Native.Nat.{_+_}
+use native.Mathlib.Omega.{arith}
+use borrow.Author.Tests.{lt-ltb, le-ltb, not-true, not-false}
 use borrow.Author.Needs.{needs}
+use Rattle.layout.specs.Table.{count, leafEnd}
+use Rattle.layout.proofs.Lengths.{leaf-found, ended, ended-bad}
 use Rattle.layout.proofs.leaf_end.Statement.{statement}
 use Rattle.layout.proofs.leaf_end.Tie as tie
 
@@ -10,35 +14,36 @@ add-next c = search needs
 
 returns : tie.Need-returns
 unfolding leafEnd count
-returns c = rw (le-ltb _ _ (c .if1 .taken))
-
-word-at-requires : tie.Need-word-at-requires
-word-at-requires c κs = search needs
-
-word-at-requires-2 : tie.Need-word-at-requires-2
-word-at-requires-2 c κs = search needs
+returns c = ended-bad _ _ _ _ _ (rw (le-ltb _ _ (c .if1 .taken)))
 
 leaf-ok-requires : tie.Need-leaf-ok-requires
 leaf-ok-requires c κs = search needs
-
-add-t11 : tie.Need-add-t11
-add-t11 c = search needs
 
 returns-2 : tie.Need-returns-2
 unfolding leafEnd count
 returns-2 c =
     let c2 = c .before .before in
-    let c3 = c2 .before in
-    let c4 = c3 .before in
-    rw (lt-ltb _ _ (c4 .if1 .left), ← c3 .word-at .ensures .0, ← c2 .word-at2 .ensures .0, ← c .before .leaf-ok .ensures, c .if2 .taken)
+    let start = c2 .before .before .before in
+    ended-bad _ _ _ _ _
+    (rw (lt-ltb _ _ (c2 .if1 .left), ← start .pre .4, ← start .pre .5, ← c .before .leaf-ok .ensures, not-true (c .before .leaf-ok .result) (c .if2 .taken)))
+
+keep-requires : tie.Need-keep-requires
+keep-requires c κs = search needs
+
+add-t8 : tie.Need-add-t8
+add-t8 c = search needs
 
 returns-3 : tie.Need-returns-3
 unfolding leafEnd count
 returns-3 c =
     let c2 = c .before .before in
-    let c3 = c2 .before in
-    let c4 = c3 .before in
-    rw (lt-ltb _ _ (c4 .if1 .left), ← c3 .word-at .ensures .0, ← c2 .word-at2 .ensures .0, ← c .before .leaf-ok .ensures, c .if2 .left)
+    let c4 = c2 .before .before in
+    let start = c4 .before .before .before in
+    let two : start .args .n .at + 1 + 1 ≡ start .args .n .at + 2 = omega arith in
+    ended _ _ _ _ _
+    (rw (lt-ltb _ _ (c4 .if1 .left), ← start .pre .4, ← start .pre .5, ← c2 .before .leaf-ok .ensures, not-false (c2 .before .leaf-ok .result) (c2 .if2 .left), two))
+    (c .keep .ensures ∙ leaf-found _ _ _ (start .pre .3) _ _ _ _ (start .pre .4) (start .pre .5) (λ z. omega (arith, start .pre .7)) refl
+    (start .pre .0 .found) (start .pre .1))
 
 pub leaf-end-spec : {M : Type 1} → statement M
 leaf-end-spec =
@@ -46,9 +51,8 @@ leaf-end-spec =
     (tie.spec
     add-next
     returns
-    word-at-requires
-    word-at-requires-2
     leaf-ok-requires
-    add-t11
     returns-2
+    keep-requires
+    add-t8
     returns-3)
