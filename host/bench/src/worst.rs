@@ -5,16 +5,14 @@
 //! is told beside what is lent: the table's words and the message's bytes.
 
 mod calls;
+#[path = "../../cartwhisker/tests/making/mod.rs"]
+mod making;
 mod stack;
 
-use calls::{check, list, thread_time, zeros};
-use cartwhisker::{Layout, Type};
+use calls::{check, list, records, thread_time};
+use cartwhisker::Layout;
+use making::{containers, legal, one, unions, zeros, FIELDS, GREATEST, OPTIONS, TYPES};
 use std::time::Duration;
-
-const TYPES: usize = 64;
-const FIELDS: usize = 64;
-const OPTIONS: usize = 128;
-const GREATEST: u32 = u32::MAX;
 
 /// A listing above so many records is not made: a buffer for it is not what is measured.
 const MOST_RECORDS: u64 = 1 << 25;
@@ -35,37 +33,6 @@ impl Case {
     fn new(name: &'static str, layout: Layout, message: Vec<u8>) -> Self {
         Self { name, layout, message }
     }
-}
-
-/// A layout of one type.
-fn one(add: impl FnOnce(&mut Layout) -> Type) -> Layout {
-    let mut layout = Layout::new();
-    add(&mut layout);
-    layout
-}
-
-/// Types up to `types` in all, each a container of `fields` fields of the type below.
-fn containers(mut layout: Layout, types: usize, fields: usize) -> Layout {
-    while layout.kinds().len() < types {
-        let below = layout.message().expect("a type to start from");
-        layout.container(vec![below; fields]);
-    }
-    layout
-}
-
-/// Types up to `types` in all, each a union: the first half of the options have the type below as
-/// their body, the others have none.
-fn unions(mut layout: Layout, types: usize, options: usize) -> Layout {
-    while layout.kinds().len() < types {
-        let below = layout.message().expect("a type to start from");
-        layout.union((0..options).map(|selector| (selector < options / 2).then_some(below)));
-    }
-    layout
-}
-
-/// Free bytes below containers of 64 fields: each offset takes 4 bytes whatever it leads to.
-fn legal(types: usize) -> Layout {
-    containers(one(|layout| layout.free_bytes(GREATEST)), types, FIELDS)
 }
 
 /// Tables that are read to their end, or to the first fixed portion above the greatest.
@@ -251,7 +218,7 @@ fn listing(table: &[u8], message: &[u8], items: u64) -> Option<f64> {
 /// The number of the refusal, or 0, and the items of what is accepted.
 fn answer(table: &[u8], message: &[u8]) -> (u64, u64) {
     match check(table, message) {
-        0 => (0, calls::records(table, message)),
+        0 => (0, records(table, message)),
         number => (number, 0),
     }
 }
@@ -380,18 +347,18 @@ mod tests {
             tables().iter().map(|case| number(&case.layout, &case.message)).collect();
         assert_eq!(told, [2, 2, 2, 4, 20, 1, 3, 3, 3, 0]);
         for case in nests(TYPES) {
-            assert_eq!(calls::records(&case.layout.bytes(), &case.message), 64, "{}", case.name);
+            assert_eq!(records(&case.layout.bytes(), &case.message), 64, "{}", case.name);
         }
     }
 
     #[test]
     fn the_items_that_are_spoken_of() {
-        let records = |(layout, message): (Layout, Option<Vec<u8>>)| {
-            calls::records(&layout.bytes(), &message.expect("a short message"))
+        let items = |(layout, message): (Layout, Option<Vec<u8>>)| {
+            records(&layout.bytes(), &message.expect("a short message"))
         };
-        assert_eq!(records(booleans(2, 0)), 1 + 64 + 4_096);
-        assert_eq!(records(offsets(2)), 1 + 64 + 4_096);
-        assert_eq!(records(booleans(2, 61)), 1 + 64 + 62 * 4_096);
+        assert_eq!(items(booleans(2, 0)), 1 + 64 + 4_096);
+        assert_eq!(items(offsets(2)), 1 + 64 + 4_096);
+        assert_eq!(items(booleans(2, 61)), 1 + 64 + 62 * 4_096);
         assert_eq!(booleans(2, 61).0.kinds().len(), TYPES);
         assert_eq!(booleans(3, 60).0.kinds().len(), TYPES);
     }

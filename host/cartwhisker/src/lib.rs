@@ -131,6 +131,12 @@ pub fn check(layout: &[u8], message: &[u8]) -> Result<(), Refusal> {
     }
 }
 
+/// The number of [`check`]'s refusal, or 0 for an accepted message: one call whatever the answer,
+/// where the number is all that is asked.
+pub fn check_number(layout: &[u8], message: &[u8]) -> u32 {
+    calls::check(layout, message, Which::Number) as u32
+}
+
 /// Whether the layout is a legal table; if not, refusal 20 with its first bad word.
 pub fn check_layout(layout: &[u8]) -> Result<(), Refusal> {
     // A bad table is told before anything of the message.
@@ -214,5 +220,21 @@ pub fn list_into(layout: &[u8], message: &[u8], records: &mut [u8]) -> Result<us
     match calls::list(layout, message, records, Which::Number) {
         0 => Ok(calls::list(layout, message, records, Which::A) as usize),
         number => Err(refusal(number, |which| calls::list(layout, message, records, which))),
+    }
+}
+
+/// Like [`list_into`], with the number of the refusal, or 0, alone: one call whatever the answer.
+pub fn list_number(layout: &[u8], message: &[u8], records: &mut [u8]) -> u32 {
+    calls::list(layout, message, records, Which::Number) as u32
+}
+
+/// How many records the listing has: what a buffer for [`list_into`] must have room for.
+pub fn record_count(layout: &[u8], message: &[u8]) -> Result<usize, Refusal> {
+    // Every message has an item, so an empty buffer is always short: refusal 22 comes last and says
+    // how many are needed.
+    match list_into(layout, message, &mut []) {
+        Ok(count) => Ok(count),
+        Err(refusal) if refusal.number == 22 => Ok(refusal.a as usize),
+        Err(refusal) => Err(refusal),
     }
 }

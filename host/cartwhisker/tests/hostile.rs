@@ -4,17 +4,14 @@
 //! A type that names the one below it 64 times has 64 times as many leaves. Who works a type out
 //! anew for each field that names it never ends here.
 
+mod making;
+
 use cartwhisker::{
     check, check_layout, list_into, listing, Layout, Record, Refusal, Type, RECORD_BYTES,
 };
+use making::{containers, legal, one, unions, zeros, FIELDS, GREATEST, OPTIONS, TYPES};
 use std::hint::black_box;
 use std::time::{Duration, Instant};
-
-/// The most types, fields and options of a table, and the greatest word.
-const TYPES: usize = 64;
-const FIELDS: usize = 64;
-const OPTIONS: usize = 128;
-const GREATEST: u32 = u32::MAX;
 
 /// No call here takes a tenth of this. Work that doubles with each type would take years.
 const AT_ONCE: Duration = Duration::from_millis(50);
@@ -49,50 +46,10 @@ fn told(table: &[u8], message: &[u8]) -> Result<Vec<Record>, Refusal> {
     listed
 }
 
-/// Types up to `types` in all, each a container of `fields` fields of the type below.
-fn containers(mut layout: Layout, types: usize, fields: usize) -> Layout {
-    while layout.kinds().len() < types {
-        let below = layout.message().expect("a type to start from");
-        layout.container(vec![below; fields]);
-    }
-    layout
-}
-
-/// Types up to `types` in all, each a union: the first half of the options have the type below as
-/// their body, the others have none.
-fn unions(mut layout: Layout, types: usize, options: usize) -> Layout {
-    while layout.kinds().len() < types {
-        let below = layout.message().expect("a type to start from");
-        layout.union((0..options).map(|selector| (selector < options / 2).then_some(below)));
-    }
-    layout
-}
-
-fn one(add: impl FnOnce(&mut Layout) -> Type) -> Layout {
-    let mut layout = Layout::new();
-    add(&mut layout);
-    layout
-}
-
-/// 64 types, free bytes and 63 containers of 64 fields each: legal, as an offset takes 4 bytes
-/// whatever it leads to.
-fn legal(types: usize) -> Layout {
-    containers(one(|layout| layout.free_bytes(GREATEST)), types, FIELDS)
-}
-
-/// Zero bytes that take no memory before they are touched, as many as the machine gives: `length`
-/// or, where that cannot be had, the greatest half, quarter and so on.
-fn zeros(length: usize) -> Vec<u8> {
-    let whole = std::alloc::Layout::array::<u8>(length).expect("a length above 0");
-    // SAFETY: the layout has a length above 0. The memory is zeroed, so `length` bytes are there,
-    // and a vector of bytes frees it with the very layout that it was allocated with.
-    unsafe {
-        let start = std::alloc::alloc_zeroed(whole);
-        if !start.is_null() {
-            return Vec::from_raw_parts(start, length, length);
-        }
-    }
-    zeros(length / 2)
+/// Zero bytes, as many as the machine gives: `length` or, where that cannot be had, the greatest
+/// half, quarter and so on.
+fn most_zeros(length: usize) -> Vec<u8> {
+    zeros(length).unwrap_or_else(|| most_zeros(length / 2))
 }
 
 #[test]
@@ -192,7 +149,7 @@ fn the_longest_table() {
     assert_eq!(told(&longer, &[]), refused(20, words as u64, 0, 0, 0));
     let cut = &table[..table.len() - 4];
     assert_eq!(told(cut, &[]), refused(20, words as u64 - 1, 0, 0, 0));
-    let garbage = zeros(1 << 30);
+    let garbage = most_zeros(1 << 30);
     assert_eq!(told(&garbage, &[]), refused(20, 0, 0, 0, 0));
 }
 
@@ -249,7 +206,7 @@ fn a_container_of_64_fixed_fields_of_the_greatest_length() {
     let table = of(length).bytes();
     assert_eq!(told(&table, &[]), refused(1, 0, u64::from(length), 1, 0));
     // A message of that length where the machine has it; nothing of it is read.
-    let message = zeros(length as usize * FIELDS);
+    let message = most_zeros(length as usize * FIELDS);
     let length = message.len() / FIELDS;
     let message = &message[..length * FIELDS];
     let records = told(&of(length as u32).bytes(), message).unwrap();
@@ -260,7 +217,7 @@ fn a_container_of_64_fixed_fields_of_the_greatest_length() {
 
 #[test]
 fn the_greatest_message() {
-    let message = zeros(1 << 32);
+    let message = most_zeros(1 << 32);
     for add in [Layout::free_bytes, Layout::fixed_bytes] {
         let fits = (message.len() - 1).min(GREATEST as usize);
         let table = one(|layout| add(layout, fits as u32)).bytes();
@@ -347,12 +304,12 @@ fn time_is_linear_in_the_message() {
 fn time_does_not_grow_with_what_is_not_read() {
     let takes = |table: &[u8], message: &[u8]| assert!(check(table, message).is_ok());
     let free = one(|layout| layout.free_bytes(GREATEST)).bytes();
-    let bytes = zeros(1 << 30);
+    let bytes = most_zeros(1 << 30);
     let times = growth(|| takes(&free, &bytes[..1]), || takes(&free, &bytes));
     assert!(times < EIGHT_TIMES, "{times} times as long on a thousand million free bytes");
     // Of a bit list that has its set bit the last byte is read, and of a bit vector too.
     let list = one(|layout| layout.bit_list(GREATEST)).bytes();
-    let mut bits = zeros(1 << 29);
+    let mut bits = most_zeros(1 << 29);
     let last = bits.len() - 1;
     bits[last] = 0x80;
     let times = growth(|| takes(&list, &[0x80]), || takes(&list, &bits));

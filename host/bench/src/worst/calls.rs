@@ -1,81 +1,24 @@
-//! The two C calls as they are, zeroed memory, and a clock of this thread's own.
-//!
-//! The safe calls of `cartwhisker` ask more than once where there is more to tell. Here each call
-//! is one.
+//! The calls that ask once and give one number, and a clock of this thread's own.
 
 use std::ffi::{c_int, c_long};
 use std::hint::black_box;
 use std::time::Duration;
 
-// The archive that `cartwhisker` links defines both; see its include/cartwhisker.h.
-extern "C" {
-    fn cartwhisker_check(
-        layout: *const u8,
-        layout_len: usize,
-        message: *const u8,
-        message_len: usize,
-        which: u32,
-    ) -> u64;
-
-    fn cartwhisker_list(
-        layout: *const u8,
-        layout_len: usize,
-        message: *const u8,
-        message_len: usize,
-        records: *mut u8,
-        records_len: usize,
-        which: u32,
-    ) -> u64;
-}
-
 /// The number of the refusal, or 0.
 #[inline(never)]
 pub fn check(layout: &[u8], message: &[u8]) -> u64 {
-    let (layout, message) = (black_box(layout), black_box(message));
-    // SAFETY: each address and length are those of one slice that is borrowed until the call is
-    // over. The call is proved to read nothing else and to write nothing.
-    unsafe { cartwhisker_check(layout.as_ptr(), layout.len(), message.as_ptr(), message.len(), 0) }
-}
-
-/// The answer's number 0 or 1: the number of the refusal, or the count of records.
-fn listed(layout: &[u8], message: &[u8], records: &mut [u8], which: u32) -> u64 {
-    let (layout, message) = (black_box(layout), black_box(message));
-    // SAFETY: as above; `records` is borrowed alone, and the call is proved to write nothing else.
-    unsafe {
-        cartwhisker_list(
-            layout.as_ptr(),
-            layout.len(),
-            message.as_ptr(),
-            message.len(),
-            records.as_mut_ptr(),
-            records.len(),
-            which,
-        )
-    }
+    u64::from(cartwhisker::check_number(black_box(layout), black_box(message)))
 }
 
 /// Lists, and gives the number of the refusal, or 0.
 #[inline(never)]
 pub fn list(layout: &[u8], message: &[u8], records: &mut [u8]) -> u64 {
-    listed(layout, message, records, 0)
+    u64::from(cartwhisker::list_number(black_box(layout), black_box(message), records))
 }
 
-/// The records of an accepted message: what the listing needs, as it says where there is no room.
+/// The records of an accepted message.
 pub fn records(layout: &[u8], message: &[u8]) -> u64 {
-    listed(layout, message, &mut [], 1)
-}
-
-/// So many zero bytes, which take no memory before they are touched; none where the machine has
-/// not so many.
-pub fn zeros(length: usize) -> Option<Vec<u8>> {
-    let whole = std::alloc::Layout::array::<u8>(length).ok().filter(|whole| whole.size() > 0);
-    let Some(whole) = whole else { return Some(Vec::new()) };
-    // SAFETY: the layout has a length above 0. The memory is zeroed, so `length` bytes are there,
-    // and a vector of bytes frees it with the very layout that it was allocated with.
-    unsafe {
-        let start = std::alloc::alloc_zeroed(whole);
-        (!start.is_null()).then(|| Vec::from_raw_parts(start, length, length))
-    }
+    cartwhisker::record_count(layout, message).expect("an accepted message") as u64
 }
 
 #[repr(C)]
