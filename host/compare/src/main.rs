@@ -27,8 +27,8 @@ const USAGE: &str = "usage:
       until there are N (200000); with --part only each OF-th case from number K on is written
   compare cases --sample --out FILE [--ops LIST] [--seed S] [--bytes B]
       a part of them that takes at most B bytes (640000)
-  compare document --out FILE [--seed S]
-      cases whose answers are document 01's and not the crate's
+  compare document [--sample] --out FILE [--seed S]
+      cases whose answers are document 01's and not the crate's, or three of each operation and number
   compare published --out FILE
       the public standard's examples and the shapes of its tests, answered by its rules
   compare pairs --replay PROGRAM [--most N]
@@ -193,9 +193,8 @@ fn write_sample(options: &Options) -> io::Result<()> {
 
 fn write_document(options: &Options) -> io::Result<()> {
     let mut cases = Cases::create(&options.out, (0, 1))?;
-    collect(&mut cases, |take| {
-        document::cases(options.seed, &mut |case| take(Made::Answered(case)))
-    })?;
+    let make = if options.sample { document::sample } else { document::cases };
+    collect(&mut cases, |take| make(options.seed, &mut |case| take(Made::Answered(case))))?;
     cases.end()
 }
 

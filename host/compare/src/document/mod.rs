@@ -13,6 +13,7 @@ mod encoder_states;
 use crate::format::{number, Case, Head, Part};
 use crate::ops::{self, Kind};
 use crate::rng::Rng;
+use std::collections::{BTreeMap, BTreeSet};
 
 /// Where the cases go.
 pub type Take<'a> = &'a mut dyn FnMut(Case);
@@ -25,6 +26,19 @@ pub fn cases(seed: u64, take: Take) {
     builder_states::cases(&mut Rng::for_op(seed, 52), take);
     encoder::cases(take);
     encoder_states::cases(&mut Rng::for_op(seed, 61), take);
+}
+
+/// Of each operation and each number of its answers the first case, the one in the middle and the
+/// last: a part that is kept in the repository.
+pub fn sample(seed: u64, take: Take) {
+    let mut groups: BTreeMap<(u32, u64), Vec<Case>> = BTreeMap::new();
+    cases(seed, &mut |case| groups.entry((case.op, case.head.number)).or_default().push(case));
+    for group in groups.into_values() {
+        let last = group.len() - 1;
+        let kept = BTreeSet::from([0, last / 2, last]);
+        let places = group.into_iter().enumerate();
+        places.filter(|(place, _)| kept.contains(place)).for_each(|(_, case)| take(case));
+    }
 }
 
 /// "`encode_length` above it is 21", where "it" is 4,294,967,295.
@@ -64,6 +78,18 @@ mod tests {
     fn every_refusal_of_our_own_is_there() {
         let found: Vec<u64> = tally().refusals().into_keys().collect();
         assert_eq!(found, [1, 2, 4, 5, 6, 7, 14, 21, 22, 23, 24, 26]);
+    }
+
+    #[test]
+    fn a_sample_has_every_refusal_of_every_operation() {
+        let of = |make: fn(u64, Take)| {
+            let mut found = BTreeMap::<(u32, u64), u32>::new();
+            make(1, &mut |case| *found.entry((case.op, case.head.number)).or_default() += 1);
+            found
+        };
+        let (all, kept) = (of(cases), of(sample));
+        assert!(all.keys().eq(kept.keys()));
+        assert!(kept.values().all(|count| *count <= 3));
     }
 
     #[test]
