@@ -1,4 +1,4 @@
-//! The header and the archive from C. Without a C compiler there is nothing to ask.
+//! The header and the archive from C.
 
 use std::path::Path;
 use std::process::Command;
@@ -6,10 +6,6 @@ use std::process::Command;
 #[test]
 fn the_worked_bid_from_c() {
     let compiler = std::env::var("CC").unwrap_or("cc".to_string());
-    if Command::new(&compiler).arg("--version").output().is_err() {
-        eprintln!("there is no C compiler: {compiler}");
-        return;
-    }
     let here = Path::new(env!("CARGO_MANIFEST_DIR"));
     let program = Path::new(env!("CARGO_TARGET_TMPDIR")).join("bid");
     let built = Command::new(&compiler)
@@ -20,7 +16,7 @@ fn the_worked_bid_from_c() {
         .arg(here.join("tests/bid.c"))
         .arg(env!("CARTWHISKER_ARCHIVE"))
         .output()
-        .expect("a compiler");
+        .expect("a C compiler: cc, or the one that CC names");
     assert!(built.status.success(), "{}", String::from_utf8_lossy(&built.stderr));
     let run = Command::new(&program).output().expect("a program");
     assert_eq!(run.status.code(), Some(0));
