@@ -24,7 +24,7 @@ use Rattle.decode.specs.Builder.{layOut}
 use Rattle.decode.specs.Unions.{selectorOf, splitUnion}
 use Rattle.decode.specs.declared.union_selector.UnionSelector.{UnionSelector}
 use Rattle.decode.specs.declared.union_selector.SelectorResult.{SelectorResult}
-use Rattle.layout.specs.Tree.{nodeOf, leafOf, fields, options, trees, treeOf}
+use Rattle.layout.specs.Tree.{nodeOf, leafOf, fields, options, trees, treeOf, lenOf}
 use Rattle.layout.specs.Legal.{LowerOrBare, LegalNode, Legal}
 use Rattle.layout.specs.declared.Node.{Node}
 use Rattle.layout.proofs.Facts.{trees-get, as-container, as-union, as-leaf, legal-node, fields-first, fields-none}
@@ -36,7 +36,7 @@ use Rattle.message.specs.declared.Answer.the-variants.{Accepted, Refused
 use Rattle.message.specs.declared.items.Choice.{Choice}
 use Rattle.message.proofs.Answers.{then-assoc}
 use Rattle.message.proofs.Bounds.{counts-small}
-use Rattle.message.proofs.Rows.{under-below, row-under, row-next, span-ok, span-length}
+use Rattle.message.proofs.Rows.{under-below, row-below, row-under, row-next, first-fits, span-ok, span-length}
 
 plus-zero : (a : Counts) → plus a (record { records = 0; words = 0; bytes = 0 }) ≡ a
 plus-zero a = simp add-zero
@@ -110,7 +110,7 @@ module _ (lens l : List ℕ) (t a₀ n : ℕ) (b : List ℕ) (s : ℕ) (sum : Co
       (readFields (rowOf l t (a + 1) (left - 1)) b (w .next) s)) ≡ andThen (one 0 0) (readFields (rowOf l t a₀ n) b 0 s)
   reading-first = rw (fields-read lens l t a left f b p (g .row) z e w q s) at (g .same)
 
-  -- where the first field lies, what it counts, and what it gives if it is plain
+  -- where the first field lies, and what it counts
   pub reading-span : (w .from ≤ w .to) × (w .to ≤ length b) × (length (part b w) ≡ w .to - w .from)
   reading-span =
       let k = span-ok lens l t a left f b p (g .row) z e (g .ranges) w q in
@@ -119,14 +119,6 @@ module _ (lens l : List ℕ) (t a₀ n : ℕ) (b : List ℕ) (s : ℕ) (sum : Co
   pub reading-item : (c : Counts) → s + length b < 2 ^ 32 → Accepted c ≡ readItem (treeOf l f) (part b w) (s + w .from) → Small c (2 ^ 40)
   reading-item c h i =
       item-small lens l f (part b w) (s + w .from) c (row-under lens l t a left f (g .row) z e) (omega (arith, reading-span)) i
-
-  pub reading-plain : (k : ℕ) → isPlain k ≡ true → k ≡ nodeOf l f .kind → one 0 (w .to - w .from) ≡ readItem (treeOf l f) (part b w) (s + w .from)
-  reading-plain k h i =
-      let m = nodeOf l f .second in
-      let x = plain-type l f (nodeOf l f) refl (sym (ap isPlain i) ∙ h) in
-      let y : w ≡ spanOf (Fixed m) (headsOf l t (a + 1) (left - 1)) b p = q ∙ ap (λ (d : Head). spanOf d (headsOf l t (a + 1) (left - 1)) b p) (x .0) in
-      let v : w .to - w .from ≡ p + m - p = ap (λ (d : Span). d .to - d .from) y in
-      exact-read m f (part b w) (s + w .from) (w .to - w .from) (reading-span .2) (omega (arith, v)) ∙ sym (x .1 (part b w) (s + w .from))
 
   pub reading-next : (c : Counts) → s + length b < 2 ^ 32 → Accepted c ≡ readItem (treeOf l f) (part b w) (s + w .from) →
       Reading lens l t a₀ n b s (plus sum c) (a + 1) (left - 1) (w .next)
@@ -145,6 +137,27 @@ module _ (lens l : List ℕ) (t a₀ n : ℕ) (b : List ℕ) (s : ℕ) (sum : Co
   pub reading-stop : (r : Refusal) (u v : ℕ) → Refused r u v ≡ readItem (treeOf l f) (part b w) (s + w .from) →
       Refused r u v ≡ andThen (one 0 0) (readFields (rowOf l t a₀ n) b 0 s)
   reading-stop r u v h = rw (← h) at reading-first
+
+-- A plain field: its length stands in the table, and of its bytes nothing else is asked.
+module _ (lens l : List ℕ) (t a₀ n : ℕ) (b : List ℕ) (s : ℕ) (sum : Counts) (a left p f : ℕ) (g : Reading lens l t a₀ n b s sum a left p)
+    (z : 0 < left) (e : f ≡ wordAt l a) (d : Node) (i : d ≡ nodeOf l f) (h : isPlain (d .kind) ≡ true) (k : ℕ) (q : k ≡ getD lens f 0) where
+  plain-length : k ≡ d .second
+  plain-length = q ∙ g .row .under .found f (row-below lens l t a left f (g .row) z e) ∙ ap lenOf (plain-type l f d i h .0)
+
+  plain-head : Fixed k ≡ head (treeOf l f)
+  plain-head = ap Fixed plain-length ∙ sym (plain-type l f d i h .0)
+
+  pub plain-fits : p + k ≤ length b
+  plain-fits = first-fits lens l t a left f b p (g .row) z e (g .ranges) k plain-head
+
+  pub plain-next : s + length b < 2 ^ 32 → Reading lens l t a₀ n b s (plus sum (record { records = 1; words = 0; bytes = k })) (a + 1) (left - 1) (p + k)
+  plain-next m =
+      let w : Span = record { from = p; to = p + k; next = p + k } in
+      let v : w ≡ spanOf (head (treeOf l f)) (headsOf l t (a + 1) (left - 1)) b p = rw (← plain-head) in
+      let y : length (part b w) ≡ k = reading-span lens l t a₀ n b s sum a left p f g z e w v .2 ∙ omega arith in
+      let x : one 0 k ≡ readItem (treeOf l f) (part b w) (s + p) =
+      exact-read (d .second) f (part b w) (s + p) k y plain-length ∙ sym (plain-type l f d i h .1 (part b w) (s + p)) in
+      reading-next lens l t a₀ n b s sum a left p f g z e w v (record { records = 1; words = 0; bytes = k }) m x
 
 pub reading-end : (lens l : List ℕ) (t a₀ n : ℕ) (b : List ℕ) (s : ℕ) (sum : Counts) (a left p : ℕ) → Reading lens l t a₀ n b s sum a left p →
     left ≤ 0 → Accepted sum ≡ andThen (one 0 0) (readFields (rowOf l t a₀ n) b 0 s)

@@ -10,7 +10,6 @@ use decode::split_union_bytes;
 use decode::union_selector::SelectorResult;
 use layout::NO_BODY;
 use layout::Node;
-use layout::kind_of;
 use layout::look;
 use standard::Refusal;
 use standard::Told;
@@ -20,7 +19,7 @@ ghost use Prim.Native.Nat.{_+_, _≤_, _<_, _^_};
 ghost use lib.ListN.{length};
 ghost use Rattle.standard.specs.Types.{boolean, freeBytes, bitVector, bitList};
 ghost use Rattle.standard.specs.Parts.{InRange};
-ghost use Rattle.layout.specs.Tree.{leafOf, treeOf};
+ghost use Rattle.layout.specs.Tree.{nodeOf, leafOf, treeOf};
 ghost use Rattle.message.specs.Read.{rawBytes, one, plus, andThen, readExact, readItem, readFields};
 ghost use Rattle.message.specs.declared.Counts.{Counts};
 ghost use Rattle.message.specs.declared.Answer.the-variants.{Accepted};
@@ -263,6 +262,18 @@ pub(crate) fn item_check(lens: &[u32], layout: &[u8], t: usize, b: &[u8], start:
     }
 }
 
+// Checks the item b of a field whose type t has the words n: a leaf needs no second look at the table.
+fn field_item(lens: &[u32], layout: &[u8], n: Node, t: usize, b: &[u8], start: usize) -> Answer
+    requires { ⌜ Under (now lens) (now layout) (t + 1) × (start + length (now b) < 2 ^ 32) × (n ≡ nodeOf (now layout) t) ⌝ }
+    ensures { λ r. ⌜ r ≡ readItem (treeOf (now (layout .entry)) t) (now (b .entry)) start ⌝ }
+{
+    if n.kind < 6 {
+        leaf_check(n, t, b, start)
+    } else {
+        item_check(lens, layout, t, b, start)
+    }
+}
+
 // Checks the n fields of type t that the words from a0 on name, and counts them with their container.
 fn field_check(
     lens: &[u32],
@@ -286,20 +297,24 @@ fn field_check(
     let mut p = 0;
     while left > 0 {
         let f = word_at(layout, a);
+        let node = look(layout, f);
+        let plain = is_plain(node.kind);
+        if plain {
+            let k = lens[f] as usize;
+            sum = one_more(sum, k);
+            p += k;
+            a += 1;
+            left -= 1;
+            continue;
+        }
         let w = locate(lens, layout, t, a, left, f, b, p);
         let from = w.from;
         let to = w.to;
         p = w.next;
         a += 1;
         left -= 1;
-        let plain = is_plain(kind_of(layout, f));
-        if plain {
-            let bytes = to - from;
-            sum = one_more(sum, bytes);
-            continue;
-        }
         let at = start + from;
-        let r = item_check(lens, layout, f, &b[from..to], at);
+        let r = field_item(lens, layout, node, f, &b[from..to], at);
         match r {
             Answer::Accepted(c) => {
                 sum = add(sum, c);

@@ -1,4 +1,4 @@
--- Items and fields call each other; the type number falls. The loop over the fields keeps `Reading`. Assumes nothing.
+-- Items, fields and the item of a field call each other; the type number falls. The loop over the fields keeps `Reading`. Assumes nothing.
 use mathlib.Core.Path.{_≡_, refl, sym, ap, _∙_}
 use native.Mathlib.Omega.{arith}
 use borrow.Author.Needs.{needs}
@@ -7,19 +7,22 @@ use lib.ListN.{length-take, length-drop}
 use Rattle.decode.proofs.Register.{layout-ranges}
 use Rattle.layout.proofs.Facts.{as-leaf, as-container}
 use Rattle.message.specs.Read.{one, andThen}
-use Rattle.message.proofs.Rows.{row-below, row-under, under-below}
-use Rattle.message.proofs.Bodies.{Reading, reading-small, reading-span, reading-item, reading-plain, reading-next, reading-stop, reading-end}
-use Rattle.message.proofs.Bodies.{item-small, small-more, node-ok, container-row, container-on, container-stop, bare-read, wrong-read, body-below, body-read}
+use Rattle.message.proofs.Rows.{row-below, row-index, row-small, row-under, under-below}
+use Rattle.message.proofs.Bodies.{Reading, reading-small, reading-span, reading-item, plain-fits, plain-next, reading-next, reading-stop, reading-end}
+use Rattle.message.proofs.Bodies.{item-small, small-more, node-ok, container-row, container-on, container-stop}
+use Rattle.message.proofs.Bodies.{bare-read, wrong-read, body-below, body-read}
 use Prim.Native.Nat.{ℕ, _<_}
 use borrow.Fn.Kinds.{In}
 use borrow.Fn.PlainCycle.{Measures, is, falls, and}
 use Rattle.message.proofs.items.field_check.Reads as field-check
 use Rattle.message.proofs.items.field_check.Kinds as field-check-kinds
-use Rattle.message.proofs.items.+field_check+item_check.Lts-field_check as field-check-lts
+use Rattle.message.proofs.items.+field_check+field_item+item_check.Lts-field_check as field-check-lts
+use Rattle.message.proofs.items.field_item.Reads as field-item
+use Rattle.message.proofs.items.field_item.Kinds as field-item-kinds
+use Rattle.message.proofs.items.+field_check+field_item+item_check.Lts-field_item as field-item-lts
 use Rattle.message.proofs.items.item_check.Reads as item-check
 use Rattle.message.proofs.items.item_check.Kinds as item-check-kinds
-use Rattle.message.proofs.items.+field_check+item_check.Lts-item_check as item-check-lts
-use Rattle.layout.proofs.kind_of.Reads as kind-of-reads
+use Rattle.message.proofs.items.+field_check+field_item+item_check.Lts-item_check as item-check-lts
 use Rattle.layout.proofs.look.Reads as look-reads
 use Rattle.message.proofs.fields.container_told.Reads as container-told-reads
 use Rattle.message.proofs.fields.locate.Reads as locate-reads
@@ -31,14 +34,17 @@ use Rattle.message.proofs.items.one_more.Reads as one-more-reads
 use Rattle.message.proofs.items.select.Reads as select-reads
 use Rattle.message.proofs.items.with_selector.Reads as with-selector-reads
 use Rattle.standard.proofs.words.word_at.Reads as word-at-reads
-use Rattle.message.proofs.items.+field_check+item_check.{statement}
-use Rattle.message.proofs.items.+field_check+item_check.Tie.{close}
+use Rattle.message.proofs.items.+field_check+field_item+item_check.{statement}
+use Rattle.message.proofs.items.+field_check+field_item+item_check.Tie.{close}
 
 abbrev μ-field-check : Measures 3 field-check-kinds.ps ℕ
-μ-field-check κs a = 2 * a .1 .1 .0
+μ-field-check κs a = 3 * a .1 .1 .0
+
+abbrev μ-field-item : Measures 3 field-item-kinds.ps ℕ
+μ-field-item κs a = 3 * a .1 .1 .1 .0 + 2
 
 abbrev μ-item-check : Measures 3 item-check-kinds.ps ℕ
-μ-item-check κs a = 2 * a .1 .1 .0 + 1
+μ-item-check κs a = 3 * a .1 .1 .0 + 1
 
 abbrev field-check-at : ℕ → In 3 field-check-kinds.ps
 field-check-at t =
@@ -47,6 +53,14 @@ field-check-at t =
 abbrev field-check-below : ℕ → In 3 field-check-kinds.ps
 field-check-below t =
     and 3 field-check-kinds.ps (falls 3 field-check-kinds.ps _<_ μ-field-check t) field-check.Pre
+
+abbrev field-item-at : ℕ → In 3 field-item-kinds.ps
+field-item-at t =
+    and 3 field-item-kinds.ps (is 3 field-item-kinds.ps μ-field-item t) field-item.Pre
+
+abbrev field-item-below : ℕ → In 3 field-item-kinds.ps
+field-item-below t =
+    and 3 field-item-kinds.ps (falls 3 field-item-kinds.ps _<_ μ-field-item t) field-item.Pre
 
 abbrev item-check-at : ℕ → In 3 item-check-kinds.ps
 item-check-at t =
@@ -67,19 +81,23 @@ abbrev field-check-calls : ℕ → field-check-lts.Claims
 field-check-calls t = (
   word-at-reads.Asked,
   word-at-reads.Learnt,
-  locate-reads.Asked,
-  locate-reads.Learnt,
-  kind-of-reads.Asked,
-  kind-of-reads.Learnt,
+  look-reads.Asked,
+  look-reads.Learnt,
   is-plain-reads.Asked,
   is-plain-reads.Learnt,
   one-more-reads.Asked,
   one-more-reads.Learnt,
-  item-check-below t,
-  item-check.Post,
+  locate-reads.Asked,
+  locate-reads.Learnt,
+  field-item-below t,
+  field-item.Post,
   add-reads.Asked,
   add-reads.Learnt,
 )
+
+-- what `field_item` calls, at the measure t
+abbrev field-item-calls : ℕ → field-item-lts.Claims
+field-item-calls t = (leaf-check-reads.Asked, leaf-check-reads.Learnt, item-check-below t, item-check.Post)
 
 -- what `item_check` calls, at the measure t
 abbrev item-check-calls : ℕ → item-check-lts.Claims
@@ -102,8 +120,8 @@ item-check-calls t = (
   leaf-check-reads.Learnt,
 )
 
-field-check-loop-holds : (t : ℕ) → field-check-lts.Need-loop-holds (field-check-calls t) (field-check-at t) field-check.Post field-check-Inv-loop
-    field-check-μ-loop
+field-check-loop-holds : (t : ℕ) → field-check-lts.Need-loop-holds (field-check-calls t) (field-check-at t) field-check.Post
+    field-check-Inv-loop field-check-μ-loop
 field-check-loop-holds t c =
     let c3 = c .before .before .before in
     record {
@@ -113,166 +131,194 @@ field-check-loop-holds t c =
       records = omega arith;
       words = omega arith;
       bytes = omega arith;
-      same =
-          refl;
+      same = refl;
     }
 
 field-check-word-at-requires : (t : ℕ) → field-check-lts.Need-word-at-requires (field-check-calls t) (field-check-at t) field-check.Post
     field-check-Inv-loop field-check-μ-loop
 field-check-word-at-requires t c κs = search needs
 
-field-check-locate-requires : (t : ℕ) → field-check-lts.Need-locate-requires (field-check-calls t) (field-check-at t) field-check.Post
+field-check-look-requires : (t : ℕ) → field-check-lts.Need-look-requires (field-check-calls t) (field-check-at t) field-check.Post
     field-check-Inv-loop field-check-μ-loop
-field-check-locate-requires t c κs =
-    let c2 = c .before .before in
-    (c2 .loop .inv .row, c .before .loop-test .taken, c .word-at .ensures .0, c2 .loop .inv .ranges)
-
-field-check-add-a : (t : ℕ) → field-check-lts.Need-add-a (field-check-calls t) (field-check-at t) field-check.Post field-check-Inv-loop field-check-μ-loop
-field-check-add-a t c =
-    let c3 = c .before .before .before in
-    omega (arith, c3 .loop .inv .row .near)
-
-field-check-sub-left : (t : ℕ) → field-check-lts.Need-sub-left (field-check-calls t) (field-check-at t) field-check.Post field-check-Inv-loop field-check-μ-loop
-field-check-sub-left t c = omega arith
-
-field-check-kind-of-requires : (t : ℕ) → field-check-lts.Need-kind-of-requires (field-check-calls t) (field-check-at t) field-check.Post
-    field-check-Inv-loop field-check-μ-loop
-field-check-kind-of-requires t c κs = search needs
+field-check-look-requires t c κs = search needs
 
 field-check-is-plain-requires : (t : ℕ) → field-check-lts.Need-is-plain-requires (field-check-calls t) (field-check-at t) field-check.Post
     field-check-Inv-loop field-check-μ-loop
 field-check-is-plain-requires t c κs = search needs
 
-field-check-sub-bytes : (t : ℕ) → field-check-lts.Need-sub-bytes (field-check-calls t) (field-check-at t) field-check.Post field-check-Inv-loop
-    field-check-μ-loop
-field-check-sub-bytes t c =
-    let c3 = c .before .before .before in
-    let c4 = c3 .before in
+field-check-mul-k : (t : ℕ) → field-check-lts.Need-mul-k (field-check-calls t) (field-check-at t) field-check.Post field-check-Inv-loop field-check-μ-loop
+field-check-mul-k t c = omega (arith, c .before .before .before .word-at .ensures .1)
+
+field-check-shared-slice-read-k : (t : ℕ) → field-check-lts.Need-shared-slice-read-k (field-check-calls t) (field-check-at t) field-check.Post
+    field-check-Inv-loop field-check-μ-loop
+field-check-shared-slice-read-k t c =
+    let c4 = c .before .before .before .before in
     let c5 = c4 .before in
     let c6 = c5 .before in
-    reading-span _ _ _ _ _ _ _ _ _ _ _ _ (c6 .loop .inv) (c5 .loop-test .taken) (c4 .word-at .ensures .0) _ (c3 .locate .ensures) .0
+    row-index _ _ _ _ _ _ (c6 .loop .inv .row) (c5 .loop-test .taken) (c4 .word-at .ensures .0)
+
+field-check-cast-k : (t : ℕ) → field-check-lts.Need-cast-k (field-check-calls t) (field-check-at t) field-check.Post field-check-Inv-loop field-check-μ-loop
+field-check-cast-k t c =
+    let c4 = c .before .before .before .before in
+    let c5 = c4 .before in
+    let c6 = c5 .before in
+    omega (arith, row-small _ _ _ _ _ _ (c6 .loop .inv .row) (c5 .loop-test .taken) (c4 .word-at .ensures .0))
 
 field-check-one-more-requires : (t : ℕ) → field-check-lts.Need-one-more-requires (field-check-calls t) (field-check-at t) field-check.Post
     field-check-Inv-loop field-check-μ-loop
 field-check-one-more-requires t c κs =
-    let c3 = c .before .before .before in
-    let c4 = c3 .before in
+    let c4 = c .before .before .before .before in
     let c5 = c4 .before in
     let c6 = c5 .before in
     let c10 = c6 .before .before .before .before in
-    let span = reading-span _ _ _ _ _ _ _ _ _ _ _ _ (c6 .loop .inv) (c5 .loop-test .taken) (c4 .word-at .ensures .0) _ (c3 .locate .ensures) in
-    (reading-small _ _ _ _ _ _ _ _ _ _ _ (c10 .pre .1 .1) (c6 .loop .inv), omega (arith, span, c10 .pre .1 .2))
+    let short = row-small _ _ _ _ _ _ (c6 .loop .inv .row) (c5 .loop-test .taken) (c4 .word-at .ensures .0) in
+    (reading-small _ _ _ _ _ _ _ _ _ _ _ (c10 .pre .1 .1) (c6 .loop .inv), short)
 
-field-check-loop-less : (t : ℕ) → field-check-lts.Need-loop-less (field-check-calls t) (field-check-at t) field-check.Post field-check-Inv-loop
-    field-check-μ-loop
-field-check-loop-less t c = omega arith
-
-field-check-loop-again : (t : ℕ) → field-check-lts.Need-loop-again (field-check-calls t) (field-check-at t) field-check.Post field-check-Inv-loop
-    field-check-μ-loop
-field-check-loop-again t c =
-    let c1 = c .before in
-    let c2 = c1 .before in
+field-check-add-p : (t : ℕ) → field-check-lts.Need-add-p (field-check-calls t) (field-check-at t) field-check.Post field-check-Inv-loop field-check-μ-loop
+field-check-add-p t c =
+    let c2 = c .before .before in
     let c3 = c2 .before in
     let c4 = c3 .before in
     let c5 = c4 .before in
     let c6 = c5 .before in
     let c7 = c6 .before in
     let c11 = c7 .before .before .before .before in
-    let told =
-    reading-plain _ _ _ _ _ _ _ _ _ _ _ _ (c7 .loop .inv) (c6 .loop-test .taken) (c5 .word-at .ensures .0) _ (c4 .locate .ensures) _
-    (sym (c2 .is-plain .ensures) ∙ c1 .if1 .taken) (c3 .kind-of .ensures) in
-    rw (c .one-more .ensures)
-    (reading-next _ _ _ _ _ _ _ _ _ _ _ _ (c7 .loop .inv) (c6 .loop-test .taken) (c5 .word-at .ensures .0) _ (c4 .locate .ensures) _ (c11 .pre .1 .2) told)
+    omega (
+      arith,
+      plain-fits _ _ _ _ _ _ _ _ _ _ _ _ (c7 .loop .inv) (c6 .loop-test .taken) (c5 .word-at .ensures .0) _ (c4 .look .ensures)
+          (sym (c3 .is-plain .ensures) ∙ c2 .if1 .taken) _ refl,
+      c11 .pre .1 .2,
+    )
 
-field-check-add-at : (t : ℕ) → field-check-lts.Need-add-at (field-check-calls t) (field-check-at t) field-check.Post field-check-Inv-loop field-check-μ-loop
-field-check-add-at t c =
-    let c3 = c .before .before .before in
-    let c4 = c3 .before in
-    let c5 = c4 .before in
-    let c6 = c5 .before in
-    let c10 = c6 .before .before .before .before in
-    omega (arith, reading-span _ _ _ _ _ _ _ _ _ _ _ _ (c6 .loop .inv) (c5 .loop-test .taken) (c4 .word-at .ensures .0) _ (c3 .locate .ensures), c10 .pre .1 .2)
+field-check-add-a : (t : ℕ) → field-check-lts.Need-add-a (field-check-calls t) (field-check-at t) field-check.Post field-check-Inv-loop field-check-μ-loop
+field-check-add-a t c =
+    let c7 = c .before .before .before .before .before .before .before in
+    omega (arith, c7 .loop .inv .row .near)
 
-field-check-sub-item-check : (t : ℕ) → field-check-lts.Need-sub-item-check (field-check-calls t) (field-check-at t) field-check.Post
+field-check-sub-left : (t : ℕ) → field-check-lts.Need-sub-left (field-check-calls t) (field-check-at t) field-check.Post field-check-Inv-loop field-check-μ-loop
+field-check-sub-left t c = omega arith
+
+field-check-loop-less : (t : ℕ) → field-check-lts.Need-loop-less (field-check-calls t) (field-check-at t) field-check.Post
     field-check-Inv-loop field-check-μ-loop
-field-check-sub-item-check t c =
-    let c3 = c .before .before .before in
-    let c4 = c3 .before in
-    let c5 = c4 .before in
-    let c6 = c5 .before in
-    reading-span _ _ _ _ _ _ _ _ _ _ _ _ (c6 .loop .inv) (c5 .loop-test .taken) (c4 .word-at .ensures .0) _ (c3 .locate .ensures) .0
+field-check-loop-less t c = omega arith
 
-field-check-part-item-check-start : (t : ℕ) → field-check-lts.Need-part-item-check-start (field-check-calls t) (field-check-at t) field-check.Post
+field-check-loop-again : (t : ℕ) → field-check-lts.Need-loop-again (field-check-calls t) (field-check-at t) field-check.Post
     field-check-Inv-loop field-check-μ-loop
-field-check-part-item-check-start t c =
-    let c3 = c .before .before .before in
+field-check-loop-again t c =
+    let c2 = c .before .before in
+    let c3 = c2 .before in
     let c4 = c3 .before in
-    let c5 = c4 .before in
-    let c6 = c5 .before in
-    reading-span _ _ _ _ _ _ _ _ _ _ _ _ (c6 .loop .inv) (c5 .loop-test .taken) (c4 .word-at .ensures .0) _ (c3 .locate .ensures) .0
-
-field-check-part-item-check-end : (t : ℕ) → field-check-lts.Need-part-item-check-end (field-check-calls t) (field-check-at t) field-check.Post
-    field-check-Inv-loop field-check-μ-loop
-field-check-part-item-check-end t c =
-    let c3 = c .before .before .before in
-    let c4 = c3 .before in
-    let c5 = c4 .before in
-    let c6 = c5 .before in
-    reading-span _ _ _ _ _ _ _ _ _ _ _ _ (c6 .loop .inv) (c5 .loop-test .taken) (c4 .word-at .ensures .0) _ (c3 .locate .ensures) .1
-
-field-check-item-check-requires : (t : ℕ) → field-check-lts.Need-item-check-requires (field-check-calls t) (field-check-at t) field-check.Post
-    field-check-Inv-loop field-check-μ-loop
-field-check-item-check-requires t c κs =
-    let c4 = c .before .before .before .before in
     let c5 = c4 .before in
     let c6 = c5 .before in
     let c7 = c6 .before in
     let c11 = c7 .before .before .before .before in
-    let span = reading-span _ _ _ _ _ _ _ _ _ _ _ _ (c7 .loop .inv) (c6 .loop-test .taken) (c5 .word-at .ensures .0) _ (c4 .locate .ensures) in (
+    rw (c .one-more .ensures)
+    (plain-next _ _ _ _ _ _ _ _ _ _ _ _ (c7 .loop .inv) (c6 .loop-test .taken) (c5 .word-at .ensures .0) _ (c4 .look .ensures)
+    (sym (c3 .is-plain .ensures) ∙ c2 .if1 .taken) _ refl (c11 .pre .1 .2))
+
+field-check-locate-requires : (t : ℕ) → field-check-lts.Need-locate-requires (field-check-calls t) (field-check-at t) field-check.Post
+    field-check-Inv-loop field-check-μ-loop
+field-check-locate-requires t c κs =
+    let c3 = c .before .before .before in
+    let c4 = c3 .before in
+    let c5 = c4 .before in
+    (c5 .loop .inv .row, c4 .loop-test .taken, c3 .word-at .ensures .0, c5 .loop .inv .ranges)
+
+field-check-add-a-2 : (t : ℕ) → field-check-lts.Need-add-a-2 (field-check-calls t) (field-check-at t) field-check.Post field-check-Inv-loop field-check-μ-loop
+field-check-add-a-2 t c =
+    let c6 = c .before .before .before .before .before .before in
+    omega (arith, c6 .loop .inv .row .near)
+
+field-check-sub-left-2 : (t : ℕ) → field-check-lts.Need-sub-left-2 (field-check-calls t) (field-check-at t) field-check.Post
+    field-check-Inv-loop field-check-μ-loop
+field-check-sub-left-2 t c = omega arith
+
+field-check-add-at : (t : ℕ) → field-check-lts.Need-add-at (field-check-calls t) (field-check-at t) field-check.Post field-check-Inv-loop field-check-μ-loop
+field-check-add-at t c =
+    let c4 = c .before .before .before .before in
+    let c5 = c4 .before in
+    let c6 = c5 .before in
+    let c10 = c6 .before .before .before .before in
+    omega (arith, reading-span _ _ _ _ _ _ _ _ _ _ _ _ (c6 .loop .inv) (c5 .loop-test .taken) (c4 .word-at .ensures .0) _ (c .locate .ensures), c10 .pre .1 .2)
+
+field-check-sub-field-item : (t : ℕ) → field-check-lts.Need-sub-field-item (field-check-calls t) (field-check-at t) field-check.Post
+    field-check-Inv-loop field-check-μ-loop
+field-check-sub-field-item t c =
+    let c4 = c .before .before .before .before in
+    let c5 = c4 .before in
+    let c6 = c5 .before in
+    reading-span _ _ _ _ _ _ _ _ _ _ _ _ (c6 .loop .inv) (c5 .loop-test .taken) (c4 .word-at .ensures .0) _ (c .locate .ensures) .0
+
+field-check-part-field-item-start : (t : ℕ) → field-check-lts.Need-part-field-item-start (field-check-calls t) (field-check-at t) field-check.Post
+    field-check-Inv-loop field-check-μ-loop
+field-check-part-field-item-start t c =
+    let c4 = c .before .before .before .before in
+    let c5 = c4 .before in
+    let c6 = c5 .before in
+    reading-span _ _ _ _ _ _ _ _ _ _ _ _ (c6 .loop .inv) (c5 .loop-test .taken) (c4 .word-at .ensures .0) _ (c .locate .ensures) .0
+
+field-check-part-field-item-end : (t : ℕ) → field-check-lts.Need-part-field-item-end (field-check-calls t) (field-check-at t) field-check.Post
+    field-check-Inv-loop field-check-μ-loop
+field-check-part-field-item-end t c =
+    let c4 = c .before .before .before .before in
+    let c5 = c4 .before in
+    let c6 = c5 .before in
+    reading-span _ _ _ _ _ _ _ _ _ _ _ _ (c6 .loop .inv) (c5 .loop-test .taken) (c4 .word-at .ensures .0) _ (c .locate .ensures) .1
+
+field-check-field-item-requires : (t : ℕ) → field-check-lts.Need-field-item-requires (field-check-calls t) (field-check-at t) field-check.Post
+    field-check-Inv-loop field-check-μ-loop
+field-check-field-item-requires t c κs =
+    let c1 = c .before in
+    let c4 = c1 .before .before .before in
+    let c5 = c4 .before in
+    let c6 = c5 .before in
+    let c7 = c6 .before in
+    let c11 = c7 .before .before .before .before in
+    let span = reading-span _ _ _ _ _ _ _ _ _ _ _ _ (c7 .loop .inv) (c6 .loop-test .taken) (c5 .word-at .ensures .0) _ (c1 .locate .ensures) in (
       omega (arith, row-below _ _ _ _ _ _ (c7 .loop .inv .row) (c6 .loop-test .taken) (c5 .word-at .ensures .0), c11 .pre .0),
       (
         row-under _ _ _ _ _ _ (c7 .loop .inv .row) (c6 .loop-test .taken) (c5 .word-at .ensures .0),
         omega (arith, span, c11 .pre .1 .2),
+        c4 .look .ensures,
       ),
     )
 
-field-check-enum-known-r : (t : ℕ) → field-check-lts.Need-enum-known-r (field-check-calls t) (field-check-at t) field-check.Post field-check-Inv-loop
-    field-check-μ-loop
+field-check-enum-known-r : (t : ℕ) → field-check-lts.Need-enum-known-r (field-check-calls t) (field-check-at t) field-check.Post
+    field-check-Inv-loop field-check-μ-loop
 field-check-enum-known-r t c = search needs
 
-field-check-add-requires : (t : ℕ) → field-check-lts.Need-add-requires (field-check-calls t) (field-check-at t) field-check.Post field-check-Inv-loop
-    field-check-μ-loop
+field-check-add-requires : (t : ℕ) → field-check-lts.Need-add-requires (field-check-calls t) (field-check-at t) field-check.Post
+    field-check-Inv-loop field-check-μ-loop
 field-check-add-requires t c κs =
     let c1 = c .before in
     let c3 = c1 .before .before in
-    let c8 = c3 .before .before .before .before .before in
-    let c9 = c8 .before in
+    let c5 = c3 .before .before in
+    let c9 = c5 .before .before .before .before in
     let c10 = c9 .before in
     let c11 = c10 .before in
     let c15 = c11 .before .before .before .before in
-    let told = sym (c1 .r .given .1) ∙ c3 .item-check .ensures in (
-      reading-small _ _ _ _ _ _ _ _ _ _ _ (c15 .pre .1 .1) (c11 .loop .inv),
-      small-more _ (reading-item
-          _ _ _ _ _ _ _ _ _ _ _ _ (c11 .loop .inv) (c10 .loop-test .taken) (c9 .word-at .ensures .0) _ (c8 .locate .ensures) _ (c15 .pre .1 .2) told),
-    )
+    let told = sym (c1 .r .given .1) ∙ c3 .field-item .ensures in
+    let counts =
+    reading-item _ _ _ _ _ _ _ _ _ _ _ _ (c11 .loop .inv) (c10 .loop-test .taken) (c9 .word-at .ensures .0) _ (c5 .locate .ensures) _ (c15 .pre .1 .2) told in
+    (reading-small _ _ _ _ _ _ _ _ _ _ _ (c15 .pre .1 .1) (c11 .loop .inv), small-more _ counts)
 
-field-check-loop-less-2 : (t : ℕ) → field-check-lts.Need-loop-less-2 (field-check-calls t) (field-check-at t) field-check.Post field-check-Inv-loop
-    field-check-μ-loop
+field-check-loop-less-2 : (t : ℕ) → field-check-lts.Need-loop-less-2 (field-check-calls t) (field-check-at t) field-check.Post
+    field-check-Inv-loop field-check-μ-loop
 field-check-loop-less-2 t c = omega arith
 
-field-check-loop-again-2 : (t : ℕ) → field-check-lts.Need-loop-again-2 (field-check-calls t) (field-check-at t) field-check.Post field-check-Inv-loop
-    field-check-μ-loop
+field-check-loop-again-2 : (t : ℕ) → field-check-lts.Need-loop-again-2 (field-check-calls t) (field-check-at t) field-check.Post
+    field-check-Inv-loop field-check-μ-loop
 field-check-loop-again-2 t c =
     let c2 = c .before .before in
     let c4 = c2 .before .before in
-    let c9 = c4 .before .before .before .before .before in
-    let c10 = c9 .before in
+    let c6 = c4 .before .before in
+    let c10 = c6 .before .before .before .before in
     let c11 = c10 .before in
     let c12 = c11 .before in
     let c16 = c12 .before .before .before .before in
-    let told = sym (c2 .r .given .1) ∙ c4 .item-check .ensures in
+    let told = sym (c2 .r .given .1) ∙ c4 .field-item .ensures in
     rw (c .add .ensures)
-    (reading-next _ _ _ _ _ _ _ _ _ _ _ _ (c12 .loop .inv) (c11 .loop-test .taken) (c10 .word-at .ensures .0) _ (c9 .locate .ensures) _ (c16 .pre .1 .2) told)
+    (reading-next _ _ _ _ _ _ _ _ _ _ _ _ (c12 .loop .inv) (c11 .loop-test .taken) (c10 .word-at .ensures .0) _ (c6 .locate .ensures) _ (c16 .pre .1 .2) told)
 
 field-check-enum-known-r-2 : (t : ℕ) → field-check-lts.Need-enum-known-r-2 (field-check-calls t) (field-check-at t) field-check.Post
     field-check-Inv-loop field-check-μ-loop
@@ -282,16 +328,33 @@ field-check-returns : (t : ℕ) → field-check-lts.Need-returns (field-check-ca
 field-check-returns t c =
     let c1 = c .before in
     let c3 = c1 .before .before in
-    let c8 = c3 .before .before .before .before .before in
-    let c9 = c8 .before in
+    let c5 = c3 .before .before in
+    let c9 = c5 .before .before .before .before in
     let c10 = c9 .before in
     let c11 = c10 .before in
-    reading-stop _ _ _ _ _ _ _ _ _ _ _ _ (c11 .loop .inv) (c10 .loop-test .taken) (c9 .word-at .ensures .0) _ (c8 .locate .ensures) _ _ _
-    (sym (c1 .r2 .given .1) ∙ c3 .item-check .ensures)
+    reading-stop _ _ _ _ _ _ _ _ _ _ _ _ (c11 .loop .inv) (c10 .loop-test .taken) (c9 .word-at .ensures .0) _ (c5 .locate .ensures) _ _ _
+    (sym (c1 .r2 .given .1) ∙ c3 .field-item .ensures)
 
-field-check-returns-2 : (t : ℕ) → field-check-lts.Need-returns-2 (field-check-calls t) (field-check-at t) field-check.Post field-check-Inv-loop
-    field-check-μ-loop
+field-check-returns-2 : (t : ℕ) → field-check-lts.Need-returns-2 (field-check-calls t) (field-check-at t) field-check.Post
+    field-check-Inv-loop field-check-μ-loop
 field-check-returns-2 t c = reading-end _ _ _ _ _ _ _ _ _ _ _ (c .before .loop .inv) (c .loop-test .left)
+
+field-item-leaf-check-requires : (t : ℕ) → field-item-lts.Need-leaf-check-requires (field-item-calls t) (field-item-at t) field-item.Post
+field-item-leaf-check-requires t c κs = search needs
+
+field-item-item-check-requires : (t : ℕ) → field-item-lts.Need-item-check-requires (field-item-calls t) (field-item-at t) field-item.Post
+field-item-item-check-requires t c κs =
+    let c5 = c .before .before .before .before .before in
+    (omega (arith, c5 .pre .0), (c5 .pre .1 .0, c5 .pre .1 .1))
+
+field-item-returns : (t : ℕ) → field-item-lts.Need-returns (field-item-calls t) (field-item-at t) field-item.Post
+field-item-returns t c =
+    let c1 = c .before in
+    let c6 = c1 .before .before .before .before .before in
+    rw (as-leaf _ _ _ (c6 .pre .1 .2) (λ (q : _ ≡ 6). omega (arith, c1 .if1 .taken)) (λ (q : _ ≡ 7). omega (arith, c1 .if1 .taken))) (c .leaf-check .ensures)
+
+field-item-returns-2 : (t : ℕ) → field-item-lts.Need-returns-2 (field-item-calls t) (field-item-at t) field-item.Post
+field-item-returns-2 t c = c .item-check .ensures
 
 item-check-look-requires : (t : ℕ) → item-check-lts.Need-look-requires (item-check-calls t) (item-check-at t) item-check.Post
 item-check-look-requires t c κs = search needs
@@ -464,28 +527,34 @@ item-check-returns-6 t c =
     let c6 = c3 .before .before .before in
     rw (as-leaf _ _ _ (c6 .look .ensures) (c3 .if1 .left) (c .before .if2 .left)) (c .leaf-check .ensures)
 
-pub +field-check+item-check-spec : {M : Type 1} → statement M
-+field-check+item-check-spec = close μ-field-check μ-item-check (λ t. field-check-lts.spec (field-check-calls t)
+pub +field-check+field-item+item-check-spec : {M : Type 1} → statement M
++field-check+field-item+item-check-spec =
+    close μ-field-check μ-field-item μ-item-check (λ t. field-check-lts.spec (field-check-calls t)
     (field-check-at t)
     field-check.Post
     field-check-Inv-loop
     field-check-μ-loop
     (field-check-loop-holds t)
     (field-check-word-at-requires t)
-    (field-check-locate-requires t)
+    (field-check-look-requires t)
+    (field-check-is-plain-requires t)
+    (field-check-mul-k t)
+    (field-check-shared-slice-read-k t)
+    (field-check-cast-k t)
+    (field-check-one-more-requires t)
+    (field-check-add-p t)
     (field-check-add-a t)
     (field-check-sub-left t)
-    (field-check-kind-of-requires t)
-    (field-check-is-plain-requires t)
-    (field-check-sub-bytes t)
-    (field-check-one-more-requires t)
     (field-check-loop-less t)
     (field-check-loop-again t)
+    (field-check-locate-requires t)
+    (field-check-add-a-2 t)
+    (field-check-sub-left-2 t)
     (field-check-add-at t)
-    (field-check-sub-item-check t)
-    (field-check-part-item-check-start t)
-    (field-check-part-item-check-end t)
-    (field-check-item-check-requires t)
+    (field-check-sub-field-item t)
+    (field-check-part-field-item-start t)
+    (field-check-part-field-item-end t)
+    (field-check-field-item-requires t)
     (field-check-enum-known-r t)
     (field-check-add-requires t)
     (field-check-loop-less-2 t)
@@ -493,6 +562,13 @@ pub +field-check+item-check-spec : {M : Type 1} → statement M
     (field-check-enum-known-r-2 t)
     (field-check-returns t)
     (field-check-returns-2 t))
+    (λ t. field-item-lts.spec (field-item-calls t)
+    (field-item-at t)
+    field-item.Post
+    (field-item-leaf-check-requires t)
+    (field-item-item-check-requires t)
+    (field-item-returns t)
+    (field-item-returns-2 t))
     λ t. item-check-lts.spec (item-check-calls t)
     (item-check-at t)
     item-check.Post
