@@ -157,9 +157,17 @@ pub record Seeking (lens l : List ℕ) (t a₀ n : ℕ) (b : List ℕ) (p₀ a l
 
 module _ (lens l : List ℕ) (t a₀ n : ℕ) (b : List ℕ) (p₀ a left p f k : ℕ) (g : Seeking lens l t a₀ n b p₀ a left p) (z : 0 < left)
     (e : f ≡ wordAt l a) (q : k ≡ getD lens f 0) where
-  pub seeking-found : k ≡ 0 → four b p ≡ next (headsOf l t a₀ n) b p₀
-  unfolding next
-  seeking-found v = rw (row-heads lens l t a left f (g .row) z e Variable (row-variable lens l t a left f (g .row) z e k q v)) at (g .same)
+  module _ (v : k ≡ 0) where
+    seeking-offset : headsOf l t a left ≡ Variable ∷ headsOf l t (a + 1) (left - 1)
+    seeking-offset = row-heads lens l t a left f (g .row) z e Variable (row-variable lens l t a left f (g .row) z e k q v)
+
+    pub seeking-room : p + 4 ≤ length b
+    unfolding InRange
+    seeking-room = (rw seeking-offset at (g .ranges)) .0
+
+    pub seeking-found : four b p ≡ next (headsOf l t a₀ n) b p₀
+    unfolding next
+    seeking-found = rw seeking-offset at (g .same)
 
   module _ (v : k ≡ 0 → ⊥) where
     seeking-heads : headsOf l t a left ≡ Fixed k ∷ headsOf l t (a + 1) (left - 1)

@@ -5,9 +5,9 @@ use standard::Told;
 use standard::words::four_at;
 use standard::words::word_at;
 ghost use mathlib.Core.Path.{_≡_};
-ghost use Prim.Native.Nat.{_+_, _-_, _<_, _^_};
+ghost use Prim.Native.Nat.{_+_, _-_, _≤_, _<_, _^_};
 ghost use lib.ListN.{length};
-ghost use Rattle.standard.specs.Bytes.{wordAt};
+ghost use Rattle.standard.specs.Bytes.{four, wordAt};
 ghost use Rattle.standard.specs.Types.{head, container};
 ghost use Rattle.standard.specs.Parts.{next, spanOf, InRange};
 ghost use Rattle.decode.specs.Builder.{buildAt, layOut};
@@ -96,6 +96,14 @@ pub(crate) fn container_told(
     lay_out(lens, layout, t, a0, n, b)
 }
 
+// The offset at p, whose four bytes are there: it needs no way for one that is cut off.
+fn offset_at(b: &[u8], p: usize) -> usize
+    requires { ⌜ p + 4 ≤ length (now b) ⌝ }
+    ensures { λ r. ⌜ r ≡ four (now (b .entry)) p ⌝ }
+{
+    four_at(&b[p..p + 4], 0)
+}
+
 // Where the next variable item starts, from the field at the position p0 on.
 fn next_start(
     lens: &[u32],
@@ -116,7 +124,7 @@ fn next_start(
         let f = word_at(layout, a);
         let k = lens[f] as usize;
         if k == 0 {
-            return four_at(b, p);
+            return offset_at(b, p);
         }
         p += k;
         a += 1;
@@ -141,7 +149,7 @@ pub(crate) fn locate(
 {
     let k = lens[f] as usize;
     if k == 0 {
-        let from = four_at(b, p);
+        let from = offset_at(b, p);
         let next = p + 4;
         let after = a + 1;
         let rest = left - 1;

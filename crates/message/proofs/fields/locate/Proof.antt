@@ -21,8 +21,11 @@ cast-k c =
     let c4 = c .before .before .before .before in
     omega (arith, row-small _ _ _ _ _ _ (c4 .pre .0) (c4 .pre .1) (c4 .pre .2))
 
-four-at-requires : tie.Need-four-at-requires
-four-at-requires c κs = search needs
+offset-at-requires : tie.Need-offset-at-requires
+offset-at-requires c κs =
+    let c5 = c .before .before .before .before .before in
+    first-room _ _ _ _ _ _ _ _ (c5 .pre .0) (c5 .pre .1) (c5 .pre .2) (c5 .pre .3)
+    (row-variable _ _ _ _ _ _ (c5 .pre .0) (c5 .pre .1) (c5 .pre .2) _ refl (c .if1 .taken))
 
 add-next : tie.Need-add-next
 add-next c =
@@ -55,9 +58,8 @@ returns c =
     let c7 = c2 .before .before .before .before .before in
     rw (
       ← row-variable _ _ _ _ _ _ (c7 .pre .0) (c7 .pre .1) (c7 .pre .2) _ refl (c2 .if1 .taken),
-      ← c .before .four-at .ensures .0,
-      ← c .next-start
-          .ensures,
+      ← c .before .offset-at .ensures,
+      ← c .next-start .ensures,
     )
 
 add-to : tie.Need-add-to
@@ -81,7 +83,7 @@ locate-spec =
     mul-k
     shared-slice-read-k
     cast-k
-    four-at-requires
+    offset-at-requires
     add-next
     add-after
     sub-rest

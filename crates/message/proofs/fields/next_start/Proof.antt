@@ -2,7 +2,7 @@
 use mathlib.Core.Path.{_≡_, refl, sym, ap, _∙_}
 use native.Mathlib.Omega.{arith}
 use borrow.Author.Needs.{needs}
-use Rattle.message.proofs.Rows.{Seeking, row-small, row-index, seeking-found, seeking-fits, seeking-next, seeking-end}
+use Rattle.message.proofs.Rows.{Seeking, row-small, row-index, seeking-room, seeking-found, seeking-fits, seeking-next, seeking-end}
 use Rattle.message.proofs.fields.next_start.Statement.{statement}
 use Rattle.message.proofs.fields.next_start.Tie as tie
 
@@ -31,11 +31,12 @@ cast-k c =
     let c3 = c2 .before in
     omega (arith, row-small _ _ _ _ _ _ (c3 .loop .inv .row) (c2 .loop-test .taken) (c1 .word-at .ensures .0))
 
-four-at-requires : tie.Need-four-at-requires Inv-loop μ-loop
-four-at-requires c κs = search needs
+offset-at-requires : tie.Need-offset-at-requires Inv-loop μ-loop
+offset-at-requires c κs = seeking-room _ _ _ _ _ _ _ _ _ _ _ _ (c .before .before .before .before .loop .inv)
+    (c .before .before .before .loop-test .taken) (c .before .before .word-at .ensures .0) refl (c .if1 .taken)
 
 returns : tie.Need-returns Inv-loop μ-loop
-returns c = c .four-at .ensures .0 ∙ seeking-found _ _ _ _ _ _ _ _ _ _ _ _ (c .before .before .before .before .before .loop .inv)
+returns c = c .offset-at .ensures ∙ seeking-found _ _ _ _ _ _ _ _ _ _ _ _ (c .before .before .before .before .before .loop .inv)
     (c .before .before .before .before .loop-test .taken) (c .before .before .before .word-at .ensures .0) refl (c .before .if1 .taken)
 
 add-p : tie.Need-add-p Inv-loop μ-loop
@@ -72,7 +73,7 @@ next-start-spec =
     mul-k
     shared-slice-read-k
     cast-k
-    four-at-requires
+    offset-at-requires
     returns
     add-p
     add-a
