@@ -4,6 +4,7 @@ pub mod Unions
 pub mod Rows
 pub mod Leaves
 pub mod Fills
+pub mod Plain
 pub mod Calls
 pub mod Forms
 pub mod Values

@@ -1,6 +1,7 @@
 // The form of a value measured: its first fault, or how far it goes and how long what it says is. Nothing is written.
 use layout::NO_BODY;
 use layout::Node;
+use layout::kind_of;
 use layout::look;
 use standard::Refusal;
 use standard::words::word_at;
@@ -14,7 +15,7 @@ ghost use Rattle.standard.specs.Parts.{join};
 ghost use Rattle.standard.specs.declared.Refusal.the-variants.{BadValue};
 ghost use Rattle.layout.specs.Tree.{leafOf, treeOf, headOf};
 ghost use Rattle.message.specs.Read.{rawBytes};
-ghost use Rattle.message.specs.Steps.{Under, Row, rowOf};
+ghost use Rattle.message.specs.Steps.{Under, Row, rowOf, isPlain};
 ghost use Rattle.value.specs.Walk.{upto, wrong, withBody, walkBits, walkItem, walkFields};
 ghost use Rattle.value.specs.Write.{writeItem, partsFrom};
 ghost use Rattle.value.specs.Steps.{cap, measured, selected, extra, choose, chosenAt};
@@ -68,6 +69,16 @@ pub(crate) fn raw_bytes(bits: usize) -> usize
         return 1;
     }
     q
+}
+
+// A number or fixed bytes: as many body bytes as the type's length says, and no contents word.
+pub(crate) fn is_plain(kind: usize) -> bool
+    ensures { λ r. ⌜ r ≡ isPlain kind ⌝ }
+{
+    if kind == 0 {
+        return true;
+    }
+    kind == 2
 }
 
 // Whether the bodies have n bytes from j on.
@@ -309,20 +320,33 @@ fn measure_fields(
     let mut j = j0;
     while left > 0 {
         let f = word_at(layout, a);
-        let r = measure_item(lens, layout, f, contents, bodies, i, j);
+        let k = lens[f] as usize;
+        a += 1;
+        left -= 1;
+        let plain = is_plain(kind_of(layout, f));
+        if plain {
+            if !has(bodies, j, k) {
+                return Measured::Wrong(Refusal::BadValue(1, bodies.len()));
+            }
+            j += k;
+            sum = add(sum, k);
+            continue;
+        }
+        let n = look(layout, f);
+        let r = if n.kind < 6 {
+            measure_leaf(n, contents, bodies, i, j)
+        } else {
+            measure_item(lens, layout, f, contents, bodies, i, j)
+        };
         match r {
             Measured::Upto(m) => {
-                let own = with_offset(lens[f] as usize, m.len);
+                let own = with_offset(k, m.len);
                 sum = add(sum, own);
                 i = m.word;
                 j = m.byte;
             }
-            Measured::Wrong(x) => {
-                return Measured::Wrong(x);
-            }
+            Measured::Wrong(x) => return Measured::Wrong(x),
         }
-        a += 1;
-        left -= 1;
     }
     Measured::Upto(Mark {
         word: i,

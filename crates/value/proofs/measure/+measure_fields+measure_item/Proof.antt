@@ -1,5 +1,5 @@
 -- Items and fields call each other; the type number falls. The loop over the fields keeps `Measuring`. Assumes nothing.
-use Rattle.value.proofs.Walks.{measured-says, measured-wrong, selected-item}
+use Rattle.value.proofs.Walks.{selected-item}
 use Rattle.value.proofs.Rows.{Measuring, measuring-none, measuring-next, measuring-stop, measuring-end, container-walk, container-write}
 use mathlib.Core.Path.{_≡_, refl, sym, ap, _∙_}
 use native.Mathlib.Omega.{arith}
@@ -8,10 +8,15 @@ use Prim.Native.Nat.{_+_, _*_}
 use Rattle.layout.proofs.Facts.{as-leaf}
 use Rattle.message.proofs.Rows.{row-below, row-under, row-small, row-index, under-below}
 use Rattle.message.proofs.Bodies.{node-ok, container-row}
-use Rattle.value.specs.Steps.{selected}
-use Rattle.value.proofs.Walks.{measured-says, measured-wrong, selected-measured}
+use Rattle.value.specs.Steps.{measured}
 use Rattle.value.proofs.Unions.{bare-item, body-item, wrong-item, leaf-walk, leaf-write}
-use Rattle.value.proofs.Rows.{Measuring, measuring-next, measuring-stop, measuring-end, container-walk, container-write}
+use Rattle.value.proofs.Plain.{below-measured, plain-field, measuring-plain, measuring-short}
+use mathlib.Core.Logic.{⊎-elim}
+use borrow.Author.Tests.{leb-true, not-true, not-false}
+use lib.ListN.{length, getD}
+use Rattle.layout.specs.Tree.{treeOf}
+use Rattle.value.specs.Walk.{walkItem}
+use Rattle.value.specs.Write.{writeItem}
 use Prim.Native.Nat.{ℕ, _<_}
 use borrow.Fn.Kinds.{In}
 use borrow.Fn.PlainCycle.{Measures, is, falls, and}
@@ -22,8 +27,11 @@ use Rattle.value.proofs.measure.measure_item.Reads as measure-item
 use Rattle.value.proofs.measure.measure_item.Kinds as measure-item-kinds
 use Rattle.value.proofs.measure.+measure_fields+measure_item.Lts-measure_item as measure-item-lts
 use Rattle.layout.proofs.look.Reads as look-reads
+use Rattle.layout.proofs.kind_of.Reads as kind-of-reads
 use Rattle.standard.proofs.words.word_at.Reads as word-at-reads
 use Rattle.value.proofs.measure.add.Reads as add-reads
+use Rattle.value.proofs.measure.has.Reads as has-reads
+use Rattle.value.proofs.measure.is_plain.Reads as is-plain-reads
 use Rattle.value.proofs.measure.measure_leaf.Reads as measure-leaf-reads
 use Rattle.value.proofs.measure.select.Reads as select-reads
 use Rattle.value.proofs.measure.with_offset.Reads as with-offset-reads
@@ -77,12 +85,22 @@ abbrev measure-fields-calls : ℕ → measure-fields-lts.Claims
 measure-fields-calls t = (
   word-at-reads.Asked,
   word-at-reads.Learnt,
+  kind-of-reads.Asked,
+  kind-of-reads.Learnt,
+  is-plain-reads.Asked,
+  is-plain-reads.Learnt,
+  has-reads.Asked,
+  has-reads.Learnt,
+  add-reads.Asked,
+  add-reads.Learnt,
+  look-reads.Asked,
+  look-reads.Learnt,
+  measure-leaf-reads.Asked,
+  measure-leaf-reads.Learnt,
   measure-item-below t,
   measure-item.Post,
   with-offset-reads.Asked,
   with-offset-reads.Learnt,
-  add-reads.Asked,
-  add-reads.Learnt,
 )
 
 -- what `measure_item` calls, at the measure t
@@ -108,86 +126,82 @@ measure-fields-loop-holds t c =
     let c4 = c .before .before .before .before in
     measuring-none _ _ _ _ _ _ _ _ _ (c4 .pre .1)
 
-measure-fields-word-at-requires : (t : ℕ) → measure-fields-lts.Need-word-at-requires (measure-fields-calls t) (measure-fields-at t)
-    measure-fields.Post measure-fields-Inv-loop measure-fields-μ-loop
+measure-fields-word-at-requires : (t : ℕ) → measure-fields-lts.Need-word-at-requires (measure-fields-calls t) (measure-fields-at t) measure-fields.Post
+    measure-fields-Inv-loop measure-fields-μ-loop
 measure-fields-word-at-requires t c κs = search needs
 
-measure-fields-measure-item-requires : (t : ℕ) → measure-fields-lts.Need-measure-item-requires (measure-fields-calls t) (measure-fields-at t)
-    measure-fields.Post measure-fields-Inv-loop measure-fields-μ-loop
-measure-fields-measure-item-requires t c κs =
-    let c2 = c .before .before in
-    let c7 = c2 .before .before .before .before .before in (
-      omega (arith, row-below _ _ _ _ _ _ (c2 .loop .inv .row) (c .before .loop-test .taken) (c .word-at .ensures .0), c7 .pre .0),
-      row-under _ _ _ _
-          _ _ (c2 .loop .inv .row) (c .before .loop-test .taken) (c .word-at .ensures .0),
-    )
-
-measure-fields-enum-known-r : (t : ℕ) → measure-fields-lts.Need-enum-known-r (measure-fields-calls t) (measure-fields-at t) measure-fields.Post
+measure-fields-mul-k : (t : ℕ) → measure-fields-lts.Need-mul-k (measure-fields-calls t) (measure-fields-at t) measure-fields.Post
     measure-fields-Inv-loop measure-fields-μ-loop
-measure-fields-enum-known-r t c = search needs
+measure-fields-mul-k t c = omega (arith, c .word-at .ensures .1)
 
-measure-fields-mul-with-offset : (t : ℕ) → measure-fields-lts.Need-mul-with-offset (measure-fields-calls t) (measure-fields-at t) measure-fields.Post
+measure-fields-shared-slice-read-k : (t : ℕ) → measure-fields-lts.Need-shared-slice-read-k (measure-fields-calls t) (measure-fields-at t) measure-fields.Post
     measure-fields-Inv-loop measure-fields-μ-loop
-measure-fields-mul-with-offset t c =
-    let c4 = c .before .before .before .before in
-    omega (arith, c4 .word-at .ensures .1)
+measure-fields-shared-slice-read-k t c =
+    let c1 = c .before in
+    let c2 = c1 .before in
+    let c3 = c2 .before in
+    row-index _ _ _ _ _ _ (c3 .loop .inv .row) (c2 .loop-test .taken) (c1 .word-at .ensures .0)
 
-measure-fields-shared-slice-read-with-offset :
-    (t : ℕ) → measure-fields-lts.Need-shared-slice-read-with-offset (
-      word-at-reads.Asked,
-      word-at-reads.Learnt,
-      measure-item-below t,
-      measure-item.Post,
-      with-offset-reads.Asked,
-      with-offset-reads.Learnt,
-      add-reads.Asked,
-      add-reads.Learnt,
-    ) (measure-fields-at t) measure-fields.Post measure-fields-Inv-loop measure-fields-μ-loop
-measure-fields-shared-slice-read-with-offset t c =
-    let c5 = c .before .before .before .before .before in
-    let c6 = c5 .before in
-    let c7 = c6 .before in
-    row-index _ _ _ _ _ _ (c7 .loop .inv .row) (c6 .loop-test .taken) (c5 .word-at .ensures .0)
-
-measure-fields-cast-with-offset : (t : ℕ) → measure-fields-lts.Need-cast-with-offset (measure-fields-calls t) (measure-fields-at t)
-    measure-fields.Post measure-fields-Inv-loop measure-fields-μ-loop
-measure-fields-cast-with-offset t c =
-    let c5 = c .before .before .before .before .before in
-    let c6 = c5 .before in
-    let c7 = c6 .before in
-    omega (arith, row-small _ _ _ _ _ _ (c7 .loop .inv .row) (c6 .loop-test .taken) (c5 .word-at .ensures .0))
-
-measure-fields-with-offset-requires : (t : ℕ) → measure-fields-lts.Need-with-offset-requires (measure-fields-calls t) (measure-fields-at t)
-    measure-fields.Post measure-fields-Inv-loop measure-fields-μ-loop
-measure-fields-with-offset-requires t c κs = search needs
-
-measure-fields-add-requires : (t : ℕ) → measure-fields-lts.Need-add-requires (measure-fields-calls t) (measure-fields-at t) measure-fields.Post
+measure-fields-cast-k : (t : ℕ) → measure-fields-lts.Need-cast-k (measure-fields-calls t) (measure-fields-at t) measure-fields.Post
     measure-fields-Inv-loop measure-fields-μ-loop
-measure-fields-add-requires t c κs = search needs
-
-measure-fields-enum-known-r-2 : (t : ℕ) → measure-fields-lts.Need-enum-known-r-2 (measure-fields-calls t) (measure-fields-at t) measure-fields.Post
-    measure-fields-Inv-loop measure-fields-μ-loop
-measure-fields-enum-known-r-2 t c = search needs
-
-measure-fields-returns : (t : ℕ) → measure-fields-lts.Need-returns (measure-fields-calls t) (measure-fields-at t) measure-fields.Post
-    measure-fields-Inv-loop measure-fields-μ-loop
-measure-fields-returns t c =
-    let c3 = c .before .before .before in
-    let c4 = c3 .before in
-    let c5 = c4 .before in
-    let c6 = c5 .before in
-    measuring-stop _ _ _ _ _ _ _ _ _ _ _ _ _ _ _ (c6 .loop .inv) (c5 .loop-test .taken) (c4 .word-at .ensures .0) _
-    (sym (c .before .r2 .given .1) ∙ c3 .measure-item .ensures)
+measure-fields-cast-k t c =
+    let c1 = c .before in
+    let c2 = c1 .before in
+    let c3 = c2 .before in
+    omega (arith, row-small _ _ _ _ _ _ (c3 .loop .inv .row) (c2 .loop-test .taken) (c1 .word-at .ensures .0))
 
 measure-fields-add-a : (t : ℕ) → measure-fields-lts.Need-add-a (measure-fields-calls t) (measure-fields-at t) measure-fields.Post
     measure-fields-Inv-loop measure-fields-μ-loop
 measure-fields-add-a t c =
-    let c9 = c .before .before .before .before .before .before .before .before .before in
-    omega (arith, c9 .loop .inv .row .near)
+    let c3 = c .before .before .before in
+    omega (arith, c3 .loop .inv .row .near)
 
 measure-fields-sub-left : (t : ℕ) → measure-fields-lts.Need-sub-left (measure-fields-calls t) (measure-fields-at t) measure-fields.Post
     measure-fields-Inv-loop measure-fields-μ-loop
 measure-fields-sub-left t c = omega arith
+
+measure-fields-kind-of-requires : (t : ℕ) → measure-fields-lts.Need-kind-of-requires (measure-fields-calls t) (measure-fields-at t) measure-fields.Post
+    measure-fields-Inv-loop measure-fields-μ-loop
+measure-fields-kind-of-requires t c κs = search needs
+
+measure-fields-is-plain-requires : (t : ℕ) → measure-fields-lts.Need-is-plain-requires (measure-fields-calls t) (measure-fields-at t) measure-fields.Post
+    measure-fields-Inv-loop measure-fields-μ-loop
+measure-fields-is-plain-requires t c κs = search needs
+
+measure-fields-has-requires : (t : ℕ) → measure-fields-lts.Need-has-requires (measure-fields-calls t) (measure-fields-at t) measure-fields.Post
+    measure-fields-Inv-loop measure-fields-μ-loop
+measure-fields-has-requires t c κs = search needs
+
+measure-fields-returns : (t : ℕ) → measure-fields-lts.Need-returns (measure-fields-calls t) (measure-fields-at t) measure-fields.Post
+    measure-fields-Inv-loop measure-fields-μ-loop
+measure-fields-returns t c =
+    let c1 = c .before in
+    let c2 = c1 .before in
+    let c3 = c2 .before in
+    let c4 = c3 .before in
+    let c6 = c4 .before .before in
+    let c7 = c6 .before in
+    let c8 = c7 .before in
+    let field =
+    plain-field _ _ _ _ _ _ (c8 .loop .inv .row) (c7 .loop-test .taken) (c6 .word-at .ensures .0) _ refl _ (c4 .kind-of .ensures)
+    (sym (c3 .is-plain .ensures) ∙ c2 .if1 .taken) in
+    measuring-short _ _ _ _ _ _ _ _ _ _ _ _ _ _ _ (c8 .loop .inv) (c7 .loop-test .taken) (c6 .word-at .ensures .0) _ refl field
+    (sym (c1 .has .ensures) ∙ not-true (c1 .has .result) (c .if2 .taken))
+
+measure-fields-add-j : (t : ℕ) → measure-fields-lts.Need-add-j (measure-fields-calls t) (measure-fields-at t) measure-fields.Post
+    measure-fields-Inv-loop measure-fields-μ-loop
+measure-fields-add-j t c =
+    let c1 = c .before in
+    let c6 = c1 .before .before .before .before .before in
+    let c8 = c6 .before .before in
+    let args = c8 .before .before .before .before .before .args in
+    let there = leb-true (c8 .loop .j + getD (args .lens .now) (c6 .word-at .result) 0) (length (args .bodies .now))
+    (sym (c1 .has .ensures) ∙ not-false (c1 .has .result) (c .if2 .left)) in
+    omega (arith, there, c8 .before .before .before .before .before .good)
+
+measure-fields-add-requires : (t : ℕ) → measure-fields-lts.Need-add-requires (measure-fields-calls t) (measure-fields-at t) measure-fields.Post
+    measure-fields-Inv-loop measure-fields-μ-loop
+measure-fields-add-requires t c κs = search needs
 
 measure-fields-loop-less : (t : ℕ) → measure-fields-lts.Need-loop-less (measure-fields-calls t) (measure-fields-at t) measure-fields.Post
     measure-fields-Inv-loop measure-fields-μ-loop
@@ -196,18 +210,101 @@ measure-fields-loop-less t c = omega arith
 measure-fields-loop-again : (t : ℕ) → measure-fields-lts.Need-loop-again (measure-fields-calls t) (measure-fields-at t) measure-fields.Post
     measure-fields-Inv-loop measure-fields-μ-loop
 measure-fields-loop-again t c =
-    let c4 = c .before .before .before .before in
-    let c6 = c4 .before .before in
-    let c7 = c6 .before in
+    let c2 = c .before .before in
+    let c3 = c2 .before in
+    let c4 = c3 .before in
+    let c5 = c4 .before in
+    let c7 = c5 .before .before in
     let c8 = c7 .before in
     let c9 = c8 .before in
+    let field =
+    plain-field _ _ _ _ _ _ (c9 .loop .inv .row) (c8 .loop-test .taken) (c7 .word-at .ensures .0) _ refl _ (c5 .kind-of .ensures)
+    (sym (c4 .is-plain .ensures) ∙ c3 .if1 .taken) in
     rw (c .add .ensures)
-    (measuring-next _ _ _ _ _ _ _ _ _ _ _ _ _ _ _ (c9 .loop .inv) (c8 .loop-test .taken) (c7 .word-at .ensures .0) _
-    (sym (c4 .r .given .1) ∙ c6 .measure-item .ensures) _ refl _ (c .before .with-offset .ensures))
+    (measuring-plain _ _ _ _ _ _ _ _ _ _ _ _ _ _ _ (c9 .loop .inv) (c8 .loop-test .taken) (c7 .word-at .ensures .0) _ refl field
+    (sym (c2 .has .ensures) ∙ not-false (c2 .has .result) (c .before .if2 .left)))
+
+measure-fields-look-requires : (t : ℕ) → measure-fields-lts.Need-look-requires (measure-fields-calls t) (measure-fields-at t) measure-fields.Post
+    measure-fields-Inv-loop measure-fields-μ-loop
+measure-fields-look-requires t c κs = search needs
+
+measure-fields-measure-leaf-requires : (t : ℕ) → measure-fields-lts.Need-measure-leaf-requires (measure-fields-calls t) (measure-fields-at t) measure-fields.Post
+    measure-fields-Inv-loop measure-fields-μ-loop
+measure-fields-measure-leaf-requires t c κs = search needs
+
+measure-fields-measure-item-requires : (t : ℕ) → measure-fields-lts.Need-measure-item-requires (measure-fields-calls t) (measure-fields-at t) measure-fields.Post
+    measure-fields-Inv-loop measure-fields-μ-loop
+measure-fields-measure-item-requires t c κs =
+    let c7 = c .before .before .before .before .before .before .before in
+    let c8 = c7 .before in
+    let c9 = c8 .before in
+    let c14 = c9 .before .before .before .before .before in (
+      omega (arith, row-below _ _ _ _ _ _ (c9 .loop .inv .row) (c8 .loop-test .taken) (c7 .word-at .ensures .0), c14 .pre .0),
+      row-under _ _ _ _ _ _ (c9 .loop .inv .row) (c8 .loop-test .taken) (c7 .word-at .ensures .0),
+    )
+
+-- What is measured of a field that is not plain, whichever way.
+measure-fields-told : (t : ℕ) → (c : measure-fields-lts.Joined3 (measure-fields-calls t) (measure-fields-at t) measure-fields.Post
+    measure-fields-Inv-loop measure-fields-μ-loop) →
+    let c7 = c .before .before .before .before .before .before .before in
+    let c9 = c7 .before .before in
+    let args = c9 .before .before .before .before .before .args in
+    let tree = treeOf (args .layout .now) (c7 .word-at .result) in
+    c .if3 .r ≡ measured (walkItem tree (args .contents .now) (args .bodies .now) (c9 .loop .i) (c9 .loop .j))
+    (length (writeItem tree (args .contents .now) (args .bodies .now) (c9 .loop .i) (c9 .loop .j)))
+measure-fields-told t c =
+    ⊎-elim
+    (λ h. h .2 ∙ below-measured _ _ _ (c .before .before .look .ensures) (h .0 .taken) _ _ _ _ _ (h .1 .ensures))
+    (λ h. h .2 ∙ h .1 .ensures)
+    (c .if3 .came)
+
+measure-fields-enum-known-r : (t : ℕ) → measure-fields-lts.Need-enum-known-r (measure-fields-calls t) (measure-fields-at t) measure-fields.Post
+    measure-fields-Inv-loop measure-fields-μ-loop
+measure-fields-enum-known-r t c = search needs
+
+measure-fields-with-offset-requires : (t : ℕ) → measure-fields-lts.Need-with-offset-requires (measure-fields-calls t) (measure-fields-at t) measure-fields.Post
+    measure-fields-Inv-loop measure-fields-μ-loop
+measure-fields-with-offset-requires t c κs = search needs
+
+measure-fields-add-requires-2 : (t : ℕ) → measure-fields-lts.Need-add-requires-2 (measure-fields-calls t) (measure-fields-at t) measure-fields.Post
+    measure-fields-Inv-loop measure-fields-μ-loop
+measure-fields-add-requires-2 t c κs = search needs
+
+measure-fields-loop-less-2 : (t : ℕ) → measure-fields-lts.Need-loop-less-2 (measure-fields-calls t) (measure-fields-at t) measure-fields.Post
+    measure-fields-Inv-loop measure-fields-μ-loop
+measure-fields-loop-less-2 t c = omega arith
+
+measure-fields-loop-again-2 : (t : ℕ) → measure-fields-lts.Need-loop-again-2 (measure-fields-calls t) (measure-fields-at t) measure-fields.Post
+    measure-fields-Inv-loop measure-fields-μ-loop
+measure-fields-loop-again-2 t c =
+    let c1 = c .before in
+    let c3 = c1 .before .before in
+    let c5 = c3 .before .before in
+    let c12 = c5 .before .before .before .before .before .before .before in
+    let c13 = c12 .before in
+    let c14 = c13 .before in
+    rw (c .add2 .ensures)
+    (measuring-next _ _ _ _ _ _ _ _ _ _ _ _ _ _ _ (c14 .loop .inv) (c13 .loop-test .taken) (c12 .word-at .ensures .0) _
+    (sym (c3 .r .given .1) ∙ measure-fields-told t c5) _ refl _ (c1 .with-offset .ensures))
+
+measure-fields-enum-known-r-2 : (t : ℕ) → measure-fields-lts.Need-enum-known-r-2 (measure-fields-calls t) (measure-fields-at t) measure-fields.Post
+    measure-fields-Inv-loop measure-fields-μ-loop
+measure-fields-enum-known-r-2 t c = search needs
 
 measure-fields-returns-2 : (t : ℕ) → measure-fields-lts.Need-returns-2 (measure-fields-calls t) (measure-fields-at t) measure-fields.Post
     measure-fields-Inv-loop measure-fields-μ-loop
-measure-fields-returns-2 t c = measuring-end _ _ _ _ _ _ _ _ _ _ _ _ _ _ (c .before .loop .inv) (c .loop-test .left)
+measure-fields-returns-2 t c =
+    let c1 = c .before in
+    let c3 = c1 .before .before in
+    let c10 = c3 .before .before .before .before .before .before .before in
+    let c11 = c10 .before in
+    let c12 = c11 .before in
+    measuring-stop _ _ _ _ _ _ _ _ _ _ _ _ _ _ _ (c12 .loop .inv) (c11 .loop-test .taken) (c10 .word-at .ensures .0) _
+    (sym (c1 .r2 .given .1) ∙ measure-fields-told t c3)
+
+measure-fields-returns-3 : (t : ℕ) → measure-fields-lts.Need-returns-3 (measure-fields-calls t) (measure-fields-at t) measure-fields.Post
+    measure-fields-Inv-loop measure-fields-μ-loop
+measure-fields-returns-3 t c = measuring-end _ _ _ _ _ _ _ _ _ _ _ _ _ _ (c .before .loop .inv) (c .loop-test .left)
 
 measure-item-look-requires : (t : ℕ) → measure-item-lts.Need-look-requires (measure-item-calls t) (measure-item-at t) measure-item.Post
 measure-item-look-requires t c κs = search needs
@@ -332,20 +429,30 @@ pub +measure-fields+measure-item-spec : {M : Type 1} → statement M
     measure-fields-μ-loop
     (measure-fields-loop-holds t)
     (measure-fields-word-at-requires t)
-    (measure-fields-measure-item-requires t)
-    (measure-fields-enum-known-r t)
-    (measure-fields-mul-with-offset t)
-    (measure-fields-shared-slice-read-with-offset t)
-    (measure-fields-cast-with-offset t)
-    (measure-fields-with-offset-requires t)
-    (measure-fields-add-requires t)
-    (measure-fields-enum-known-r-2 t)
-    (measure-fields-returns t)
+    (measure-fields-mul-k t)
+    (measure-fields-shared-slice-read-k t)
+    (measure-fields-cast-k t)
     (measure-fields-add-a t)
     (measure-fields-sub-left t)
+    (measure-fields-kind-of-requires t)
+    (measure-fields-is-plain-requires t)
+    (measure-fields-has-requires t)
+    (measure-fields-returns t)
+    (measure-fields-add-j t)
+    (measure-fields-add-requires t)
     (measure-fields-loop-less t)
     (measure-fields-loop-again t)
-    (measure-fields-returns-2 t))
+    (measure-fields-look-requires t)
+    (measure-fields-measure-leaf-requires t)
+    (measure-fields-measure-item-requires t)
+    (measure-fields-enum-known-r t)
+    (measure-fields-with-offset-requires t)
+    (measure-fields-add-requires-2 t)
+    (measure-fields-loop-less-2 t)
+    (measure-fields-loop-again-2 t)
+    (measure-fields-enum-known-r-2 t)
+    (measure-fields-returns-2 t)
+    (measure-fields-returns-3 t))
     λ t. measure-item-lts.spec (measure-item-calls t)
     (measure-item-at t)
     measure-item.Post
