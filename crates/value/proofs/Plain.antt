@@ -7,10 +7,11 @@ use mathlib.Core.Logic.{_⊎_, inl, inr, ⊎-elim}
 use Prim.Native.Nat.{ℕ, _+_, _-_, _≤_, _<_}
 use native.Mathlib.Omega.{arith}
 use borrow.Author.Tests.{eqb-true, leb-true}
-use lib.ListN.{length, getD}
+use lib.ListN.{length, getD, take, drop}
+use lib.Seq.{sets}
 use lib.Dec.{eqb, leb}
 use Rattle.standard.specs.Choice.{pick}
-use Rattle.standard.specs.Bytes.{wordAt}
+use Rattle.standard.specs.Bytes.{Room, wordAt}
 use Rattle.standard.specs.Types.{Ty, number, fixedBytes, head}
 use Rattle.standard.specs.Parts.{join}
 use Rattle.standard.specs.declared.Head.{Head}
@@ -21,13 +22,16 @@ use Rattle.layout.specs.declared.Node.{Node}
 use Rattle.layout.proofs.Facts.{as-leaf}
 use Rattle.message.specs.Steps.{Row, rowOf, isPlain}
 use Rattle.message.proofs.Rows.{row-below, row-head}
-use Rattle.value.specs.Walk.{upto, wrong, withBody, walkItem, walkFields}
+use Rattle.value.specs.Walk.{Walked, upto, wrong, withBody, walkItem, walkFields}
 use Rattle.value.specs.Write.{bytesAt, writeItem, partsFrom}
-use Rattle.value.specs.Steps.{cap, measured, extra}
+use Rattle.value.specs.Steps.{cap, measured, extra, IsUpto}
+use Rattle.value.specs.Stores.{Put, Begun}
+use Rattle.value.specs.declared.store.Stop.{Stop}
 use Rattle.value.specs.declared.measure.Measured.{Measured}
 use Rattle.value.proofs.Walks.{length-bytesAt}
 use Rattle.value.proofs.Rows.{Measuring, measuring-next, measuring-stop}
-use Rattle.value.proofs.Fills.{tree-walk, tree-write}
+use Rattle.value.proofs.Leaves.{PartForm, body-upto, part-need, part-done}
+use Rattle.value.proofs.Fills.{Writing, writing-upto, writing-room, writing-next, part-stored, tree-walk, tree-write}
 
 -- A kind below 6 has no lower types, and the number of its type is no matter.
 module _ (l : List ℕ) (f : ℕ) (n : Node) (e : n ≡ nodeOf l f) (h : n .kind < 6) where
@@ -47,6 +51,19 @@ module _ (l : List ℕ) (f : ℕ) (n : Node) (e : n ≡ nodeOf l f) (h : n .kind
     pub below-measured : (r : Measured) → r ≡ measured (walkItem (leafOf 0 n) c b i j) (length (writeItem (leafOf 0 n) c b i j)) →
         r ≡ measured (walkItem (treeOf l f) c b i j) (length (writeItem (treeOf l f) c b i j))
     below-measured r q = rw (below-walk, below-write) q
+
+    pub below-asked : (o : List ℕ) (at : ℕ) → IsUpto (walkItem (treeOf l f) c b i j) → Room o at (writeItem (treeOf l f) c b i j) →
+        IsUpto (walkItem (leafOf 0 n) c b i j) × Room o at (writeItem (leafOf 0 n) c b i j)
+    below-asked o at u g = (rw below-walk at u, rw below-write at g)
+
+    pub below-put : (o : List ℕ) (at : ℕ) (r : Stop) (o′ : List ℕ) →
+        Put o at (writeItem (leafOf 0 n) c b i j) (walkItem (leafOf 0 n) c b i j) r o′ →
+        Put o at (writeItem (treeOf l f) c b i j) (walkItem (treeOf l f) c b i j) r o′
+    below-put o at r o′ p = rw (below-walk, below-write) p
+
+-- What was stored, under another name.
+pub put-as : (o : List ℕ) (at : ℕ) (x : List ℕ) (w : Walked) (r r₀ : Stop) (o′ o₁ : List ℕ) → o′ ≡ o₁ → r ≡ r₀ → Put o at x w r₀ o₁ → Put o at x w r o′
+put-as o at x w r r₀ o′ o₁ d e p = rw (d, e) p
 
 -- A type whose items are k bytes of the bodies, whatever they are
 pub record Plain (x : Ty) (k : ℕ) : Type 0 where
@@ -102,3 +119,29 @@ module _ (lens l : List ℕ) (t a₀ n : ℕ) (c b : List ℕ) (i₀ j₀ : ℕ)
   measuring-short h =
       let w : walkItem (treeOf l f) c b i j ≡ wrong (BadValue 1 (length b)) = p .walk c b i j ∙ rw h in
       measuring-stop lens l t a₀ n c b i₀ j₀ sum a left i j f g z e (BadValue 1 (length b)) (rw w)
+
+-- A plain field is stored where its head is.
+module _ (lens l : List ℕ) (t : ℕ) (c b : List ℕ) (start own e : ℕ) (w : Walked) (z o₀ o : List ℕ) (p q a left i j f : ℕ) (u : IsUpto w)
+    (g : Writing lens l t c b start own e w z o₀ o p q a left i j) (y : 0 < left) (v : f ≡ wordAt l a) (k : ℕ) (n : k ≡ getD lens f 0)
+    (x : Plain (treeOf l f) k) where
+  plain-form : PartForm (treeOf l f) c b i j i k
+  plain-form =
+      let d = body-upto b j k (upto i (j + k)) (rw (x .walk c b i j) at (writing-upto lens l t c b start own e w z o₀ o p q a left i j f u g y v)) in
+      record { walk = x .walk c b i j ∙ d .1; write = x .write c b i j; there = d .0 }
+
+  plain-head : headOf k ≡ Fixed k
+  plain-head = ap headOf n ∙ row-head lens l t a left f (g .row) y v ∙ x .head
+
+  plain-begun : Begun (headOf k) o p q start p o
+  plain-begun = rw plain-head (record { place = refl; list = refl })
+
+  pub writing-there : (j + k ≤ length b) × (p + k ≤ length o)
+  writing-there =
+      part-need (treeOf l f) c b i j i k o p plain-form (writing-room lens l t c b start own e w z o₀ o p q a left i j f u g y v k n p o plain-begun)
+
+  pub writing-plain : (o₂ : List ℕ) → o₂ ≡ sets o p (take (j + k - j) (drop j b)) →
+      Writing lens l t c b start own e w z o₀ o₂ (p + k) q (a + 1) (left - 1) i (j + k)
+  writing-plain o₂ d =
+      let r : Stop = record { word = i; byte = j + k; to = p + k } in
+      let s = part-done (treeOf l f) c b i j i k o p plain-form r o₂ (part-stored o p b i j k o₂ (plain-form .there) d) in
+      rw plain-head at (writing-next lens l t c b start own e w z o₀ o p q a left i j f u g y v k n p o plain-begun r o₂ s)

@@ -1,8 +1,10 @@
 // The message written from a form that was measured: each body byte is copied once.
 use crate::measure::Choice;
+use crate::measure::is_plain;
 use crate::measure::raw_bytes;
 use crate::measure::select;
 use layout::Node;
+use layout::kind_of;
 use layout::look;
 use standard::words::put_four;
 use standard::words::word_at;
@@ -256,14 +258,27 @@ fn write_fields(
     while left > 0 {
         let f = word_at(layout, a);
         let k = lens[f] as usize;
+        a += 1;
+        left -= 1;
+        let plain = is_plain(kind_of(layout, f));
+        if plain {
+            let byte = j + k;
+            copy_into(out, p, &bodies[j..byte]);
+            p += k;
+            j = byte;
+            continue;
+        }
         let at = begin(out, k, p, q, start);
-        let s = write_item(out, at, lens, layout, f, contents, bodies, i, j);
+        let n = look(layout, f);
+        let s = if n.kind < 6 {
+            put_leaf(out, at, n, contents, bodies, i, j)
+        } else {
+            write_item(out, at, lens, layout, f, contents, bodies, i, j)
+        };
         p = next_head(k, p, s.to);
         q = next_tail(k, q, s.to);
         i = s.word;
         j = s.byte;
-        a += 1;
-        left -= 1;
     }
     Stop {
         word: i,

@@ -3,7 +3,6 @@ use mathlib.Core.Path.{_≡_, refl, sym, ap, _∙_}
 use native.Mathlib.Omega.{arith}
 use borrow.Author.Needs.{needs}
 use Prim.Native.Nat.{_+_, _*_}
-use lib.ListN.{length}
 use lib.Seq.{sets}
 use Rattle.standard.specs.Parts.{join}
 use Rattle.message.specs.Steps.{rowOf}
@@ -14,6 +13,9 @@ use Rattle.value.specs.Write.{partsFrom}
 use Rattle.value.proofs.Unions.{bare-item, body-item, wrong-item}
 use Rattle.value.proofs.Rows.{container-walk, container-write}
 use Rattle.value.proofs.Fills.{Writing, writing-none, writing-upto, writing-order, writing-four, writing-room, writing-next, writing-end, fields-fit, container-ready, selector-need, bare-done, body-room, body-done, tree-walk, tree-write}
+use Rattle.value.proofs.Plain.{below-asked, below-put, plain-field, put-as, writing-there, writing-plain}
+use mathlib.Core.Logic.{⊎-elim}
+use lib.ListN.{length, length-take, length-drop}
 use Prim.Native.Nat.{ℕ, _<_}
 use borrow.Fn.Kinds.{In}
 use borrow.Fn.PlainCycle.{Measures, is, falls, and}
@@ -23,10 +25,13 @@ use Rattle.value.proofs.store.+write_fields+write_item.Lts-write_fields
 use Rattle.value.proofs.store.write_item.Reads as write-item
 use Rattle.value.proofs.store.write_item.Kinds as write-item-kinds
 use Rattle.value.proofs.store.+write_fields+write_item.Lts-write_item as write-item-lts
+use Rattle.layout.proofs.kind_of.Reads as kind-of-reads
 use Rattle.layout.proofs.look.Reads as look-reads
 use Rattle.standard.proofs.words.word_at.Reads as word-at-reads
+use Rattle.value.proofs.measure.is_plain.Reads as is-plain-reads
 use Rattle.value.proofs.measure.select.Reads as select-reads
 use Rattle.value.proofs.store.begin.Reads as begin-reads
+use Rattle.value.proofs.store.copy_into.Reads as copy-into-reads
 use Rattle.value.proofs.store.next_head.Reads as next-head-reads
 use Rattle.value.proofs.store.next_tail.Reads as next-tail-reads
 use Rattle.value.proofs.store.portion_of.Reads as portion-of-reads
@@ -77,8 +82,18 @@ write-fields-calls t = (
   portion-of-reads.Learnt,
   word-at-reads.Asked,
   word-at-reads.Learnt,
+  kind-of-reads.Asked,
+  kind-of-reads.Learnt,
+  is-plain-reads.Asked,
+  is-plain-reads.Learnt,
+  copy-into-reads.Asked,
+  copy-into-reads.Learnt,
   begin-reads.Asked,
   begin-reads.Learnt,
+  look-reads.Asked,
+  look-reads.Learnt,
+  put-leaf-reads.Asked,
+  put-leaf-reads.Learnt,
   write-item-below t,
   write-item.Post,
   next-head-reads.Asked,
@@ -145,85 +160,200 @@ write-fields-cast-k t c =
     let c3 = c2 .before in
     omega (arith, row-small _ _ _ _ _ _ (c3 .loop .inv .row) (c2 .loop-test .taken) (c1 .word-at .ensures .0))
 
-write-fields-begin-requires : (t : ℕ) → write-fields-lts.Need-begin-requires (write-fields-calls t) (write-fields-at t) write-fields.Post
+write-fields-add-a : (t : ℕ) → write-fields-lts.Need-add-a (write-fields-calls t) (write-fields-at t) write-fields.Post
     write-fields-Inv-loop write-fields-μ-loop
-write-fields-begin-requires t c κs =
+write-fields-add-a t c =
+    let c3 = c .before .before .before in
+    omega (arith, c3 .loop .inv .row .near)
+
+write-fields-sub-left : (t : ℕ) → write-fields-lts.Need-sub-left (write-fields-calls t) (write-fields-at t) write-fields.Post
+    write-fields-Inv-loop write-fields-μ-loop
+write-fields-sub-left t c = omega arith
+
+write-fields-kind-of-requires : (t : ℕ) → write-fields-lts.Need-kind-of-requires (write-fields-calls t) (write-fields-at t) write-fields.Post
+    write-fields-Inv-loop write-fields-μ-loop
+write-fields-kind-of-requires t c κs = search needs
+
+write-fields-is-plain-requires : (t : ℕ) → write-fields-lts.Need-is-plain-requires (write-fields-calls t) (write-fields-at t) write-fields.Post
+    write-fields-Inv-loop write-fields-μ-loop
+write-fields-is-plain-requires t c κs = search needs
+
+write-fields-add-byte : (t : ℕ) → write-fields-lts.Need-add-byte (write-fields-calls t) (write-fields-at t) write-fields.Post
+    write-fields-Inv-loop write-fields-μ-loop
+write-fields-add-byte t c =
+    let c1 = c .before in
+    let c2 = c1 .before in
+    let c4 = c2 .before .before in
+    let c5 = c4 .before in
+    let c6 = c5 .before in
+    let c13 = c6 .before .before .before .before .before .before .before in
+    let field =
+    plain-field _ _ _ _ _ _ (c6 .loop .inv .row) (c5 .loop-test .taken) (c4 .word-at .ensures .0) _ refl _ (c2 .kind-of .ensures)
+    (sym (c1 .is-plain .ensures) ∙ c .if1 .taken) in
+    let there = writing-there _ _ _ _ _ _ _ _ _ _ _ _ _ _ _ _ _ _ _ (c13 .pre .1 .walk) (c6 .loop .inv) (c5 .loop-test .taken) (c4 .word-at .ensures .0) _ refl field in
+    omega (arith, there, c13 .good)
+
+write-fields-sub-copy-into : (t : ℕ) → write-fields-lts.Need-sub-copy-into (write-fields-calls t) (write-fields-at t) write-fields.Post
+    write-fields-Inv-loop write-fields-μ-loop
+write-fields-sub-copy-into t c = omega arith
+
+write-fields-part-copy-into-start : (t : ℕ) → write-fields-lts.Need-part-copy-into-start (write-fields-calls t) (write-fields-at t) write-fields.Post
+    write-fields-Inv-loop write-fields-μ-loop
+write-fields-part-copy-into-start t c = omega arith
+
+write-fields-part-copy-into-end : (t : ℕ) → write-fields-lts.Need-part-copy-into-end (write-fields-calls t) (write-fields-at t) write-fields.Post
+    write-fields-Inv-loop write-fields-μ-loop
+write-fields-part-copy-into-end t c =
+    let c1 = c .before in
+    let c2 = c1 .before in
+    let c3 = c2 .before in
+    let c5 = c3 .before .before in
+    let c6 = c5 .before in
+    let c7 = c6 .before in
+    let c14 = c7 .before .before .before .before .before .before .before in
+    let field =
+    plain-field _ _ _ _ _ _ (c7 .loop .inv .row) (c6 .loop-test .taken) (c5 .word-at .ensures .0) _ refl _ (c3 .kind-of .ensures)
+    (sym (c2 .is-plain .ensures) ∙ c1 .if1 .taken) in
+    let there = writing-there _ _ _ _ _ _ _ _ _ _ _ _ _ _ _ _ _ _ _ (c14 .pre .1 .walk) (c7 .loop .inv) (c6 .loop-test .taken) (c5 .word-at .ensures .0) _ refl field in
+    there .0
+
+write-fields-copy-into-requires : (t : ℕ) → write-fields-lts.Need-copy-into-requires (write-fields-calls t) (write-fields-at t) write-fields.Post
+    write-fields-Inv-loop write-fields-μ-loop
+write-fields-copy-into-requires t c κs =
     let c2 = c .before .before in
     let c3 = c2 .before in
     let c4 = c3 .before in
-    let c11 = c4 .before .before .before .before .before .before .before in
-    writing-order _ _ _ _ _ _ _ _ _ _ _ _ _ _ _ _ _ _ _ (c11 .pre .1 .walk) (c4 .loop .inv) (c3 .loop-test .taken) (c2 .word-at .ensures .0)
+    let c6 = c4 .before .before in
+    let c7 = c6 .before in
+    let c8 = c7 .before in
+    let c15 = c8 .before .before .before .before .before .before .before in
+    let field =
+    plain-field _ _ _ _ _ _ (c8 .loop .inv .row) (c7 .loop-test .taken) (c6 .word-at .ensures .0) _ refl _ (c4 .kind-of .ensures)
+    (sym (c3 .is-plain .ensures) ∙ c2 .if1 .taken) in
+    let there = writing-there _ _ _ _ _ _ _ _ _ _ _ _ _ _ _ _ _ _ _ (c15 .pre .1 .walk) (c8 .loop .inv) (c7 .loop-test .taken) (c6 .word-at .ensures .0) _ refl field in
+    simp (length-take, length-drop) (omega (arith, there))
+
+write-fields-add-p : (t : ℕ) → write-fields-lts.Need-add-p (write-fields-calls t) (write-fields-at t) write-fields.Post
+    write-fields-Inv-loop write-fields-μ-loop
+write-fields-add-p t c =
+    let c5 = c .before .before .before .before .before in
+    let c6 = c5 .before in
+    let c7 = c6 .before in
+    let c9 = c7 .before .before in
+    let c10 = c9 .before in
+    let c11 = c10 .before in
+    let c18 = c11 .before .before .before .before .before .before .before in
+    let field =
+    plain-field _ _ _ _ _ _ (c11 .loop .inv .row) (c10 .loop-test .taken) (c9 .word-at .ensures .0) _ refl _ (c7 .kind-of .ensures)
+    (sym (c6 .is-plain .ensures) ∙ c5 .if1 .taken) in
+    let there = writing-there _ _ _ _ _ _ _ _ _ _ _ _ _ _ _ _ _ _ _ (c18 .pre .1 .walk) (c11 .loop .inv) (c10 .loop-test .taken) (c9 .word-at .ensures .0) _ refl field in
+    omega (arith, there, c11 .loop .inv .long, c18 .good)
+
+write-fields-loop-less : (t : ℕ) → write-fields-lts.Need-loop-less (write-fields-calls t) (write-fields-at t) write-fields.Post
+    write-fields-Inv-loop write-fields-μ-loop
+write-fields-loop-less t c = omega arith
+
+write-fields-loop-again : (t : ℕ) → write-fields-lts.Need-loop-again (write-fields-calls t) (write-fields-at t) write-fields.Post
+    write-fields-Inv-loop write-fields-μ-loop
+write-fields-loop-again t c =
+    let c2 = c .before .before in
+    let c5 = c2 .before .before .before in
+    let c6 = c5 .before in
+    let c7 = c6 .before in
+    let c9 = c7 .before .before in
+    let c10 = c9 .before in
+    let c11 = c10 .before in
+    let c18 = c11 .before .before .before .before .before .before .before in
+    let field =
+    plain-field _ _ _ _ _ _ (c11 .loop .inv .row) (c10 .loop-test .taken) (c9 .word-at .ensures .0) _ refl _ (c7 .kind-of .ensures)
+    (sym (c6 .is-plain .ensures) ∙ c5 .if1 .taken) in
+    writing-plain _ _ _ _ _ _ _ _ _ _ _ _ _ _ _ _ _ _ _ (c18 .pre .1 .walk) (c11 .loop .inv) (c10 .loop-test .taken) (c9 .word-at .ensures .0) _ refl field _ (c2 .copy-into .ensures)
+
+write-fields-begin-requires : (t : ℕ) → write-fields-lts.Need-begin-requires (write-fields-calls t) (write-fields-at t) write-fields.Post
+    write-fields-Inv-loop write-fields-μ-loop
+write-fields-begin-requires t c κs =
+    let c5 = c .before .before .before .before .before in
+    let c6 = c5 .before in
+    let c7 = c6 .before in
+    let c14 = c7 .before .before .before .before .before .before .before in
+    writing-order _ _ _ _ _ _ _ _ _ _ _ _ _ _ _ _ _ _ _ (c14 .pre .1 .walk) (c7 .loop .inv) (c6 .loop-test .taken) (c5 .word-at .ensures .0)
+
+write-fields-look-requires : (t : ℕ) → write-fields-lts.Need-look-requires (write-fields-calls t) (write-fields-at t) write-fields.Post
+    write-fields-Inv-loop write-fields-μ-loop
+write-fields-look-requires t c κs = search needs
+
+write-fields-put-leaf-requires : (t : ℕ) → write-fields-lts.Need-put-leaf-requires (write-fields-calls t) (write-fields-at t) write-fields.Post
+    write-fields-Inv-loop write-fields-μ-loop
+write-fields-put-leaf-requires t c κs =
+    let c1 = c .before in
+    let c3 = c1 .before .before in
+    let c6 = c3 .before .before .before in
+    let c12 = c6 .before .before .before .before .before .before in
+    let c13 = c12 .before in
+    let c14 = c13 .before in
+    let c21 = c14 .before .before .before .before .before .before .before in
+    below-asked _ _ _ (c3 .look .ensures) (c1 .if2 .taken) _ _ _ _ _ _ (writing-upto _ _ _ _ _ _ _ _ _ _ _ _ _ _ _ _ _ _ _ (c21 .pre .1 .walk) (c14 .loop .inv) (c13 .loop-test .taken) (c12 .word-at .ensures .0))
+    (writing-room _ _ _ _ _ _ _ _ _ _ _ _ _ _ _ _ _ _ _ (c21 .pre .1 .walk) (c14 .loop .inv) (c13 .loop-test .taken) (c12 .word-at .ensures .0) _ refl _ _ (c6 .begin .ensures))
 
 write-fields-write-item-requires : (t : ℕ) → write-fields-lts.Need-write-item-requires (write-fields-calls t) (write-fields-at t) write-fields.Post
     write-fields-Inv-loop write-fields-μ-loop
 write-fields-write-item-requires t c κs =
-    let c3 = c .before .before .before in
-    let c6 = c3 .before .before .before in
-    let c7 = c6 .before in
-    let c8 = c7 .before in
-    let c15 = c8 .before .before .before .before .before .before .before in (
-      omega (arith, row-below _ _ _ _ _ _ (c8 .loop .inv .row) (c7 .loop-test .taken) (c6 .word-at .ensures .0), c15 .pre .0),
+    let c6 = c .before .before .before .before .before .before in
+    let c12 = c6 .before .before .before .before .before .before in
+    let c13 = c12 .before in
+    let c14 = c13 .before in
+    let c21 = c14 .before .before .before .before .before .before .before in (
+      omega (arith, row-below _ _ _ _ _ _ (c14 .loop .inv .row) (c13 .loop-test .taken) (c12 .word-at .ensures .0), c21 .pre .0),
       (
-        row-under _ _ _ _ _ _ (c8 .loop .inv .row) (c7 .loop-test .taken) (c6 .word-at .ensures .0),
-        writing-upto _ _ _ _ _ _ _ _ _ _ _ _ _ _ _ _ _
-            _ _ (c15 .pre .1 .walk) (c8 .loop .inv) (c7 .loop-test .taken) (c6 .word-at .ensures .0),
-        writing-room _ _ _ _ _ _ _ _ _ _ _ _ _ _ _ _ _ _ _
-            (c15 .pre .1 .walk) (c8 .loop .inv) (c7 .loop-test .taken) (c6 .word-at .ensures .0) _ refl _ _ (c3 .begin .ensures),
+        row-under _ _ _ _ _ _ (c14 .loop .inv .row) (c13 .loop-test .taken) (c12 .word-at .ensures .0),
+        writing-upto _ _ _ _ _ _ _ _ _ _ _ _ _ _ _ _ _ _ _ (c21 .pre .1 .walk) (c14 .loop .inv) (c13 .loop-test .taken) (c12 .word-at .ensures .0),
+        writing-room _ _ _ _ _ _ _ _ _ _ _ _ _ _ _ _ _ _ _ (c21 .pre .1 .walk) (c14 .loop .inv) (c13 .loop-test .taken) (c12 .word-at .ensures .0) _ refl _ _ (c6 .begin .ensures),
       ),
     )
 
 write-fields-next-head-requires : (t : ℕ) → write-fields-lts.Need-next-head-requires (write-fields-calls t) (write-fields-at t) write-fields.Post
     write-fields-Inv-loop write-fields-μ-loop
 write-fields-next-head-requires t c κs =
-    let c9 = c .before .before .before .before .before .before .before .before .before in
-    let c10 = c9 .before in
-    let c11 = c10 .before in
-    let c18 = c11 .before .before .before .before .before .before .before in
-    λ z. omega (
-      arith,
-      writing-four _ _ _ _ _ _ _ _ _ _ _ _ _ _ _ _ _ _ _ (c18 .pre .1 .walk) (c11 .loop .inv) (c10 .loop-test .taken) (c9 .word-at .ensures .0)
-          _ refl z,
-      c11 .loop .inv .long,
-      c18 .good,
-    )
+    let c11 = c .before .before .before .before .before .before .before .before .before .before .before in
+    let c12 = c11 .before in
+    let c13 = c12 .before in
+    let c20 = c13 .before .before .before .before .before .before .before in
+    λ z. omega (arith, writing-four _ _ _ _ _ _ _ _ _ _ _ _ _ _ _ _ _ _ _ (c20 .pre .1 .walk) (c13 .loop .inv) (c12 .loop-test .taken) (c11 .word-at .ensures .0) _ refl z, c13 .loop .inv .long, c20 .good)
 
 write-fields-next-tail-requires : (t : ℕ) → write-fields-lts.Need-next-tail-requires (write-fields-calls t) (write-fields-at t) write-fields.Post
     write-fields-Inv-loop write-fields-μ-loop
 write-fields-next-tail-requires t c κs = search needs
 
-write-fields-add-a : (t : ℕ) → write-fields-lts.Need-add-a (write-fields-calls t) (write-fields-at t) write-fields.Post write-fields-Inv-loop
-    write-fields-μ-loop
-write-fields-add-a t c =
-    let c13 = c .before .before .before .before .before .before .before .before .before .before .before .before .before in
-    omega (arith, c13 .loop .inv .row .near)
-
-write-fields-sub-left : (t : ℕ) → write-fields-lts.Need-sub-left (write-fields-calls t) (write-fields-at t) write-fields.Post write-fields-Inv-loop
-    write-fields-μ-loop
-write-fields-sub-left t c = omega arith
-
-write-fields-loop-less : (t : ℕ) → write-fields-lts.Need-loop-less (write-fields-calls t) (write-fields-at t) write-fields.Post write-fields-Inv-loop
-    write-fields-μ-loop
-write-fields-loop-less t c = omega arith
-
-write-fields-loop-again : (t : ℕ) → write-fields-lts.Need-loop-again (write-fields-calls t) (write-fields-at t) write-fields.Post
+write-fields-loop-less-2 : (t : ℕ) → write-fields-lts.Need-loop-less-2 (write-fields-calls t) (write-fields-at t) write-fields.Post
     write-fields-Inv-loop write-fields-μ-loop
-write-fields-loop-again t c =
-    let c4 = c .before .before .before .before in
-    let c8 = c4 .before .before .before .before in
-    let c11 = c8 .before .before .before in
-    let c12 = c11 .before in
-    let c13 = c12 .before in
-    let c20 = c13 .before .before .before .before .before .before .before in
-    rw (c .before .next-head .ensures, c .next-tail .ensures)
-    (writing-next _ _ _ _ _ _ _ _ _ _ _ _ _ _ _ _ _ _ _ (c20 .pre .1 .walk) (c13 .loop .inv) (c12 .loop-test .taken) (c11 .word-at .ensures .0) _
-    refl _ _ (c8 .begin .ensures) _ _ (c4 .write-item .ensures))
+write-fields-loop-less-2 t c = omega arith
+
+write-fields-loop-again-2 : (t : ℕ) → write-fields-lts.Need-loop-again-2 (write-fields-calls t) (write-fields-at t) write-fields.Post
+    write-fields-Inv-loop write-fields-μ-loop
+write-fields-loop-again-2 t c =
+    let c1 = c .before in
+    let c2 = c1 .before in
+    let c4 = c2 .before .before in
+    let c7 = c4 .before .before .before in
+    let c13 = c7 .before .before .before .before .before .before in
+    let c14 = c13 .before in
+    let c15 = c14 .before in
+    let c22 = c15 .before .before .before .before .before .before .before in
+    let put =
+    ⊎-elim
+    (λ h. put-as _ _ _ _ (c2 .if2 .s) _ (c2 .if2 .out) _ (h .5) (h .6)
+    (below-put _ _ _ (c4 .look .ensures) (h .0 .taken) _ _ _ _ _ _ _ _ (h .2 .ensures)))
+    (λ h. put-as _ _ _ _ (c2 .if2 .s) _ (c2 .if2 .out) _ (h .5) (h .6) (h .2 .ensures))
+    (c2 .if2 .came) in
+    rw (c1 .next-head .ensures, c .next-tail .ensures)
+    (writing-next _ _ _ _ _ _ _ _ _ _ _ _ _ _ _ _ _ _ _ (c22 .pre .1 .walk) (c15 .loop .inv) (c14 .loop-test .taken) (c13 .word-at .ensures .0) _ refl _ _ (c7 .begin .ensures) (c2 .if2 .s) (c2 .if2 .out) put)
 
 write-fields-same-length : (t : ℕ) → write-fields-lts.Need-same-length (write-fields-calls t) (write-fields-at t) write-fields.Post
     write-fields-Inv-loop write-fields-μ-loop
 write-fields-same-length t c = c .before .loop .inv .long
 
-write-fields-returns : (t : ℕ) → write-fields-lts.Need-returns (write-fields-calls t) (write-fields-at t) write-fields.Post write-fields-Inv-loop
-    write-fields-μ-loop
+write-fields-returns : (t : ℕ) → write-fields-lts.Need-returns (write-fields-calls t) (write-fields-at t) write-fields.Post
+    write-fields-Inv-loop write-fields-μ-loop
 write-fields-returns t c = writing-end _ _ _ _ _ _ _ _ _ _ _ _ _ _ _ _ _ _ (c .before .loop .inv) refl (c .loop-test .left)
 
 write-item-look-requires : (t : ℕ) → write-item-lts.Need-look-requires (write-item-calls t) (write-item-at t) write-item.Post
@@ -444,14 +574,26 @@ pub +write-fields+write-item-spec : {M : Type 1} → statement M
     (write-fields-mul-k t)
     (write-fields-shared-slice-read-k t)
     (write-fields-cast-k t)
+    (write-fields-add-a t)
+    (write-fields-sub-left t)
+    (write-fields-kind-of-requires t)
+    (write-fields-is-plain-requires t)
+    (write-fields-add-byte t)
+    (write-fields-sub-copy-into t)
+    (write-fields-part-copy-into-start t)
+    (write-fields-part-copy-into-end t)
+    (write-fields-copy-into-requires t)
+    (write-fields-add-p t)
+    (write-fields-loop-less t)
+    (write-fields-loop-again t)
     (write-fields-begin-requires t)
+    (write-fields-look-requires t)
+    (write-fields-put-leaf-requires t)
     (write-fields-write-item-requires t)
     (write-fields-next-head-requires t)
     (write-fields-next-tail-requires t)
-    (write-fields-add-a t)
-    (write-fields-sub-left t)
-    (write-fields-loop-less t)
-    (write-fields-loop-again t)
+    (write-fields-loop-less-2 t)
+    (write-fields-loop-again-2 t)
     (write-fields-same-length t)
     (write-fields-returns t))
     λ t. write-item-lts.spec (write-item-calls t)
