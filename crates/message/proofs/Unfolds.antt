@@ -10,7 +10,7 @@ use lib.ListN.{length, getD, take, drop, length-drop}
 use lib.Seq.{take-all}
 use lib.Dec.{eqb}
 use Rattle.standard.specs.Choice.{pick}
-use Rattle.standard.specs.Bytes.{wordAt, Stored}
+use Rattle.standard.specs.Bytes.{wordAt, Stored, Room}
 use Rattle.standard.specs.Types.{Ty, Opts, boolean, union, bare, body, head}
 use Rattle.standard.specs.Parts.{spanOf, part, InRange}
 use Rattle.standard.specs.declared.Span.{Span}
@@ -31,6 +31,7 @@ use Rattle.message.proofs.Rows.{row-next, span-ok}
 use Rattle.message.proofs.Bodies.{fields-read, bare-says, body-says, body-below}
 use Rattle.message.proofs.Entries.{container-accepted, union-never, body-accepted}
 use Rattle.message.proofs.Theorem.{read-start}
+use Rattle.message.proofs.UnfoldLeaves.{plain-room, plain-filled}
 
 -- An acceptance, and where its item starts
 accepted-says : (x : Answer) → IsAccepted x → (c : Counts) × (x ≡ Accepted c)
@@ -303,3 +304,22 @@ module _ (lens l : List ℕ) (t : ℕ) (n : Node) (e : n ≡ nodeOf l t) (g : Un
 
       pub body-accepts : Accepts (treeOf l o) (take (length b - 1) (drop 1 b))
       body-accepts = accepts-at _ _ (0 + 1) (body-accepted lens l t n e g b 0 (h .accepted) k o q)
+
+-- A kind below 6 has no lower types.
+pub below-six : (kind : ℕ) → kind < 6 → (kind ≡ 6 → ⊥) × (kind ≡ 7 → ⊥)
+below-six kind h = (λ (q : kind ≡ 6). omega arith, λ (q : kind ≡ 7). omega arith)
+
+-- The items of a kind below 3 are copied.
+module _ (l : List ℕ) (f k : ℕ) (e : k ≡ nodeOf l f .kind) (h : k < 3) (b o p : List ℕ) (at : Place) where
+  copied-kind : (nodeOf l f .kind ≡ 3 → ⊥) × (nodeOf l f .kind < 5)
+  copied-kind = (λ (q : nodeOf l f .kind ≡ 3). omega arith, omega arith)
+
+  copied-tree : treeOf l f ≡ leafOf f (nodeOf l f)
+  copied-tree = let s = below-six (nodeOf l f .kind) (omega arith) in as-leaf l f (nodeOf l f) refl (s .0) (s .1)
+
+  pub copied-room : Rooms o p at (unfoldWords (treeOf l f) b) (unfoldBytes (treeOf l f) b) → Room p (at .byte) b
+  copied-room g = plain-room f (nodeOf l f) b o p at (copied-kind .0) (copied-kind .1) (rw copied-tree at g)
+
+  pub copied-filled : (r : ℕ) (p′ : List ℕ) → Stored p (at .byte) b r p′ →
+      Filled o p at (unfoldWords (treeOf l f) b) (unfoldBytes (treeOf l f) b) (record { word = at .word; byte = r }) o p′
+  copied-filled r p′ g = rw copied-tree (plain-filled f (nodeOf l f) b o p at (copied-kind .0) (copied-kind .1) r p′ g)

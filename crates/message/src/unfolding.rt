@@ -5,6 +5,7 @@ use crate::items::select;
 use bitfield::BodyBits;
 use bitfield::body::bitlist_body;
 use layout::Node;
+use layout::kind_of;
 use layout::look;
 use standard::words::word_at;
 ghost use mathlib.Core.Path.{_≡_};
@@ -190,10 +191,23 @@ fn unfold_fields(
         let w = locate(lens, layout, t, a, left, f, b, p);
         let from = w.from;
         let to = w.to;
-        at = unfold_item(contents, bodies, at, lens, layout, f, &b[from..to]);
         p = w.next;
         a += 1;
         left -= 1;
+        let kind = kind_of(layout, f);
+        if kind < 3 {
+            let word = at.word;
+            let place = at.byte;
+            let byte = copy_into(bodies, place, &b[from..to]);
+            at = Place { word, byte };
+            continue;
+        }
+        let n = look(layout, f);
+        at = if n.kind < 6 {
+            unfold_leaf(contents, bodies, at, n, f, &b[from..to])
+        } else {
+            unfold_item(contents, bodies, at, lens, layout, f, &b[from..to])
+        };
     }
     at
 }

@@ -9,6 +9,7 @@ use Rattle.message.proofs.Rows.{row-below, row-under, under-below, span
 use Rattle.message.proofs.Bodies.{node-ok, container-row, body-below}
 use Rattle.message.proofs.UnfoldLeaves.{stored-length}
 use Rattle.message.proofs.Unfolds.{Filling, filled-none, filled-then, rooms-then, selector-filled, filling-accepts, filling-rooms, filling-next, filling-end, fields-accepts, container-rooms, container-filled, leaf-accepts, leaf-rooms, leaf-filled, union-room, union-long, bare-filled, never, body-words, body-bytes, body-accepts}
+use Rattle.message.proofs.Unfolds.{below-six, copied-room, copied-filled}
 use Prim.Native.Nat.{ℕ, _<_}
 use borrow.Fn.Kinds.{In}
 use borrow.Fn.PlainCycle.{Measures, is, falls, and}
@@ -20,8 +21,10 @@ use Rattle.message.proofs.unfolding.unfold_item.Kinds as unfold-item-ki
 use Rattle.message.proofs.unfolding.+unfold_fields+unfold_item.Lts-unfold_item as unfold-item-lts
 use Rattle.standard.proofs.words.word_at.Reads as word-at-reads
 use Rattle.message.proofs.fields.locate.Reads as locate-reads
+use Rattle.layout.proofs.kind_of.Reads as kind-of-reads
 use Rattle.layout.proofs.look.Reads as look-reads
 use Rattle.message.proofs.items.select.Reads as select-reads
+use Rattle.message.proofs.unfolding.copy_into.Reads as copy-into-reads
 use Rattle.message.proofs.unfolding.put_selector.Reads as put-selector-reads
 use Rattle.message.proofs.unfolding.unfold_leaf.Reads as unfold-leaf-reads
 use Rattle.message.proofs.unfolding.+unfold_fields+unfold_item.{statement}
@@ -54,7 +57,22 @@ unfold-fields-μ-loop contents₀ bodies₀ lens layout t a0 n b at₀ a₀ left
 
 -- what `unfold_fields` calls, at the measure t
 abbrev unfold-fields-calls : ℕ → unfold-fields-lts.Claims
-unfold-fields-calls t = (word-at-reads.Asked, word-at-reads.Learnt, locate-reads.Asked, locate-reads.Learnt, unfold-item-below t, unfold-item.Post)
+unfold-fields-calls t = (
+  word-at-reads.Asked,
+  word-at-reads.Learnt,
+  locate-reads.Asked,
+  locate-reads.Learnt,
+  kind-of-reads.Asked,
+  kind-of-reads.Learnt,
+  copy-into-reads.Asked,
+  copy-into-reads.Learnt,
+  look-reads.Asked,
+  look-reads.Learnt,
+  unfold-leaf-reads.Asked,
+  unfold-leaf-reads.Learnt,
+  unfold-item-below t,
+  unfold-item.Post,
+)
 
 -- what `unfold_item` calls, at the measure t
 abbrev unfold-item-calls : ℕ → unfold-item-lts.Claims
@@ -100,68 +118,58 @@ unfold-fields-locate-requires t c κs =
     let c2 = c .before .before in
     (c2 .loop .inv .row, c .before .loop-test .taken, c .word-at .ensures .0, c2 .loop .inv .ranges)
 
-unfold-fields-sub-unfold-item : (t : ℕ) → unfold-fields-lts.Need-sub-unfold-item (unfold-fields-calls t) (unfold-fields-at t) unfold-fields.Post
+unfold-fields-add-a : (t : ℕ) → unfold-fields-lts.Need-add-a (unfold-fields-calls t) (unfold-fields-at t) unfold-fields.Post
     unfold-fields-Inv-loop unfold-fields-μ-loop
-unfold-fields-sub-unfold-item t c =
-    let c2 = c .before .before in
-    let c3 = c2 .before in
-    let c4 = c3 .before in
-    let c5 = c4 .before in
-    omega (arith, span-ok _ _ _ _ _ _ _ _ (c5 .loop .inv .row) (c4 .loop-test .taken) (c3 .word-at .ensures .0) (c5 .loop .inv .ranges) _ (c2 .locate .ensures))
-
-unfold-fields-part-unfold-item-start : (t : ℕ) → unfold-fields-lts.Need-part-unfold-item-start (unfold-fields-calls t) (unfold-fields-at t)
-    unfold-fields.Post unfold-fields-Inv-loop unfold-fields-μ-loop
-unfold-fields-part-unfold-item-start t c =
-    let c2 = c .before .before in
-    let c3 = c2 .before in
-    let c4 = c3 .before in
-    let c5 = c4 .before in
-    span-ok _ _ _ _ _ _ _ _ (c5 .loop .inv .row) (c4 .loop-test .taken) (c3 .word-at .ensures .0) (c5 .loop .inv .ranges) _ (c2 .locate .ensures) .0
-
-unfold-fields-part-unfold-item-end : (t : ℕ) → unfold-fields-lts.Need-part-unfold-item-end (unfold-fields-calls t) (unfold-fields-at t)
-    unfold-fields.Post unfold-fields-Inv-loop unfold-fields-μ-loop
-unfold-fields-part-unfold-item-end t c =
-    let c2 = c .before .before in
-    let c3 = c2 .before in
-    let c4 = c3 .before in
-    let c5 = c4 .before in
-    span-ok _ _ _ _ _ _ _ _ (c5 .loop .inv .row) (c4 .loop-test .taken) (c3 .word-at .ensures .0) (c5 .loop .inv .ranges) _ (c2 .locate .ensures) .1
-
-unfold-fields-unfold-item-requires : (t : ℕ) → unfold-fields-lts.Need-unfold-item-requires (unfold-fields-calls t) (unfold-fields-at t)
-    unfold-fields.Post unfold-fields-Inv-loop unfold-fields-μ-loop
-unfold-fields-unfold-item-requires t c κs =
-    let c3 = c .before .before .before in
-    let c4 = c3 .before in
-    let c5 = c4 .before in
-    let c6 = c5 .before in
-    let c12 = c6 .before .before .before .before .before .before in (
-      omega (arith, row-below _ _ _ _ _ _ (c6 .loop .inv .row) (c5 .loop-test .taken) (c4 .word-at .ensures .0), c12 .pre .0),
-      (
-        row-under _ _ _ _ _ _ (c6 .loop .inv .row) (c5 .loop-test .taken) (c4 .word-at .ensures .0),
-        omega (
-          arith,
-          span-ok _ _ _ _ _ _ _ _ (c6 .loop .inv .row) (c5 .loop-test .taken) (c4 .word-at .ensures .0) (c6 .loop .inv .ranges) _
-              (c3 .locate .ensures),
-          span-length _ _ _ _ _ _ _ _ (c6 .loop .inv .row) (c5 .loop-test .taken) (c4 .word-at .ensures .0)
-              (c6 .loop .inv .ranges) _ (c3 .locate .ensures),
-          c12 .pre .1 .1,
-        ),
-        filling-accepts _ _ _ _ _ _ _ _ _ _ _ _ _ _ _ _ (c6 .loop .inv)
-            (c5 .loop-test .taken) (c4 .word-at .ensures .0) _ (c3 .locate .ensures),
-        filling-rooms _ _ _ _ _ _ _ _ _ _ _ _ _ _ _ _ (c6 .loop .inv)
-            (c5 .loop-test .taken) (c4 .word-at .ensures .0) _ (c3 .locate .ensures),
-      ),
-    )
-
-unfold-fields-add-a : (t : ℕ) → unfold-fields-lts.Need-add-a (unfold-fields-calls t) (unfold-fields-at t) unfold-fields.Post unfold-fields-Inv-loop
-    unfold-fields-μ-loop
 unfold-fields-add-a t c =
-    let c11 = c .before .before .before .before .before .before .before .before .before .before .before in
-    omega (arith, c11 .loop .inv .row .near)
+    let c3 = c .before .before .before in
+    omega (arith, c3 .loop .inv .row .near)
 
 unfold-fields-sub-left : (t : ℕ) → unfold-fields-lts.Need-sub-left (unfold-fields-calls t) (unfold-fields-at t) unfold-fields.Post
     unfold-fields-Inv-loop unfold-fields-μ-loop
 unfold-fields-sub-left t c = omega arith
+
+unfold-fields-kind-of-requires : (t : ℕ) → unfold-fields-lts.Need-kind-of-requires (unfold-fields-calls t) (unfold-fields-at t) unfold-fields.Post
+    unfold-fields-Inv-loop unfold-fields-μ-loop
+unfold-fields-kind-of-requires t c κs = search needs
+
+unfold-fields-sub-copy-into : (t : ℕ) → unfold-fields-lts.Need-sub-copy-into (unfold-fields-calls t) (unfold-fields-at t) unfold-fields.Post
+    unfold-fields-Inv-loop unfold-fields-μ-loop
+unfold-fields-sub-copy-into t c =
+    let c3 = c .before .before .before in
+    let c4 = c3 .before in
+    let c5 = c4 .before in
+    let c6 = c5 .before in
+    omega (arith, span-ok _ _ _ _ _ _ _ _ (c6 .loop .inv .row) (c5 .loop-test .taken) (c4 .word-at .ensures .0) (c6 .loop .inv .ranges) _ (c3 .locate .ensures))
+
+unfold-fields-part-copy-into-start : (t : ℕ) → unfold-fields-lts.Need-part-copy-into-start (unfold-fields-calls t) (unfold-fields-at t) unfold-fields.Post
+    unfold-fields-Inv-loop unfold-fields-μ-loop
+unfold-fields-part-copy-into-start t c =
+    let c3 = c .before .before .before in
+    let c4 = c3 .before in
+    let c5 = c4 .before in
+    let c6 = c5 .before in
+    span-ok _ _ _ _ _ _ _ _ (c6 .loop .inv .row) (c5 .loop-test .taken) (c4 .word-at .ensures .0) (c6 .loop .inv .ranges) _ (c3 .locate .ensures) .0
+
+unfold-fields-part-copy-into-end : (t : ℕ) → unfold-fields-lts.Need-part-copy-into-end (unfold-fields-calls t) (unfold-fields-at t) unfold-fields.Post
+    unfold-fields-Inv-loop unfold-fields-μ-loop
+unfold-fields-part-copy-into-end t c =
+    let c3 = c .before .before .before in
+    let c4 = c3 .before in
+    let c5 = c4 .before in
+    let c6 = c5 .before in
+    span-ok _ _ _ _ _ _ _ _ (c6 .loop .inv .row) (c5 .loop-test .taken) (c4 .word-at .ensures .0) (c6 .loop .inv .ranges) _ (c3 .locate .ensures) .1
+
+unfold-fields-copy-into-requires : (t : ℕ) → unfold-fields-lts.Need-copy-into-requires (unfold-fields-calls t) (unfold-fields-at t) unfold-fields.Post
+    unfold-fields-Inv-loop unfold-fields-μ-loop
+unfold-fields-copy-into-requires t c κs =
+    let c2 = c .before .before in
+    let c3 = c2 .before in
+    let c4 = c3 .before in
+    let c5 = c4 .before in
+    let c6 = c5 .before in
+    let c7 = c6 .before in
+    copied-room _ _ _ (c3 .kind-of .ensures) (c2 .if1 .taken) _ _ _ _
+    (filling-rooms _ _ _ _ _ _ _ _ _ _ _ _ _ _ _ _ (c7 .loop .inv) (c6 .loop-test .taken) (c5 .word-at .ensures .0) _ (c4 .locate .ensures))
 
 unfold-fields-loop-less : (t : ℕ) → unfold-fields-lts.Need-loop-less (unfold-fields-calls t) (unfold-fields-at t) unfold-fields.Post
     unfold-fields-Inv-loop unfold-fields-μ-loop
@@ -170,12 +178,163 @@ unfold-fields-loop-less t c = omega arith
 unfold-fields-loop-again : (t : ℕ) → unfold-fields-lts.Need-loop-again (unfold-fields-calls t) (unfold-fields-at t) unfold-fields.Post
     unfold-fields-Inv-loop unfold-fields-μ-loop
 unfold-fields-loop-again t c =
-    let c4 = c .before .before .before .before in
-    let c8 = c4 .before .before .before .before in
+    let c2 = c .before .before in
+    let c5 = c2 .before .before .before in
+    let c6 = c5 .before in
+    let c7 = c6 .before in
+    let c8 = c7 .before in
+    let c9 = c8 .before in
+    let c10 = c9 .before in
+    filling-next _ _ _ _ _ _ _ _ _ _ _ _ _ _ _ _ (c10 .loop .inv) (c9 .loop-test .taken) (c8 .word-at .ensures .0) _ (c7 .locate .ensures) _ _ _
+    (copied-filled _ _ _ (c6 .kind-of .ensures) (c5 .if1 .taken) _ _ _ _ _ _ (c2 .copy-into .ensures))
+
+unfold-fields-look-requires : (t : ℕ) → unfold-fields-lts.Need-look-requires (unfold-fields-calls t) (unfold-fields-at t) unfold-fields.Post
+    unfold-fields-Inv-loop unfold-fields-μ-loop
+unfold-fields-look-requires t c κs = search needs
+
+unfold-fields-sub-unfold-leaf : (t : ℕ) → unfold-fields-lts.Need-sub-unfold-leaf (unfold-fields-calls t) (unfold-fields-at t) unfold-fields.Post
+    unfold-fields-Inv-loop unfold-fields-μ-loop
+unfold-fields-sub-unfold-leaf t c =
+    let c7 = c .before .before .before .before .before .before .before in
+    let c8 = c7 .before in
+    let c9 = c8 .before in
+    let c10 = c9 .before in
+    omega (
+      arith,
+      span-ok _ _ _ _ _ _ _ _ (c10 .loop .inv .row) (c9 .loop-test .taken) (c8 .word-at .ensures .0) (c10 .loop .inv .ranges) _
+          (c7 .locate .ensures),
+    )
+
+unfold-fields-part-unfold-leaf-start : (t : ℕ) → unfold-fields-lts.Need-part-unfold-leaf-start (unfold-fields-calls t) (unfold-fields-at t) unfold-fields.Post
+    unfold-fields-Inv-loop unfold-fields-μ-loop
+unfold-fields-part-unfold-leaf-start t c =
+    let c7 = c .before .before .before .before .before .before .before in
+    let c8 = c7 .before in
+    let c9 = c8 .before in
+    let c10 = c9 .before in
+    span-ok _ _ _ _ _ _ _ _ (c10 .loop .inv .row) (c9 .loop-test .taken) (c8 .word-at .ensures .0) (c10 .loop .inv .ranges) _ (c7 .locate .ensures) .0
+
+unfold-fields-part-unfold-leaf-end : (t : ℕ) → unfold-fields-lts.Need-part-unfold-leaf-end (unfold-fields-calls t) (unfold-fields-at t) unfold-fields.Post
+    unfold-fields-Inv-loop unfold-fields-μ-loop
+unfold-fields-part-unfold-leaf-end t c =
+    let c7 = c .before .before .before .before .before .before .before in
+    let c8 = c7 .before in
+    let c9 = c8 .before in
+    let c10 = c9 .before in
+    span-ok _ _ _ _ _ _ _ _ (c10 .loop .inv .row) (c9 .loop-test .taken) (c8 .word-at .ensures .0) (c10 .loop .inv .ranges) _ (c7 .locate .ensures) .1
+
+unfold-fields-unfold-leaf-requires : (t : ℕ) → unfold-fields-lts.Need-unfold-leaf-requires (unfold-fields-calls t) (unfold-fields-at t) unfold-fields.Post
+    unfold-fields-Inv-loop unfold-fields-μ-loop
+unfold-fields-unfold-leaf-requires t c κs =
+    let c3 = c .before .before .before in
+    let c5 = c3 .before .before in
+    let c8 = c5 .before .before .before in
     let c9 = c8 .before in
     let c10 = c9 .before in
     let c11 = c10 .before in
-    filling-next _ _ _ _ _ _ _ _ _ _ _ _ _ _ _ _ (c11 .loop .inv) (c10 .loop-test .taken) (c9 .word-at .ensures .0) _ (c8 .locate .ensures) _ _ _
+    let c17 = c11 .before .before .before .before .before .before in
+    let under = row-under _ _ _ _ _ _ (c11 .loop .inv .row) (c10 .loop-test .taken) (c9 .word-at .ensures .0) in
+    let accepts = filling-accepts _ _ _ _ _ _ _ _ _ _ _ _ _ _ _ _ (c11 .loop .inv) (c10 .loop-test .taken) (c9 .word-at .ensures .0) _ (c8 .locate .ensures) in
+    let six = below-six _ (c3 .if2 .taken) in (
+      node-ok _ _ _ _ (c5 .look .ensures) under .small,
+      omega (
+        arith,
+        span-ok _ _ _ _ _ _ _ _ (c11 .loop .inv .row) (c10 .loop-test .taken) (c9 .word-at .ensures .0) (c11 .loop .inv .ranges) _ (c8 .locate .ensures),
+        span-length _ _ _ _ _ _ _ _ (c11 .loop .inv .row) (c10 .loop-test .taken) (c9 .word-at .ensures .0) (c11 .loop .inv .ranges) _ (c8 .locate .ensures),
+        c17 .pre .1 .1,
+      ),
+      leaf-accepts _ _ _ _ (c5 .look .ensures) under _ accepts (six .0) (six .1),
+      leaf-rooms _ _ _ _ (c5 .look .ensures) under _ accepts (six .0) (six .1) _ _ _
+          (filling-rooms _ _ _ _ _ _ _ _ _ _ _ _ _ _ _ _ (c11 .loop .inv) (c10 .loop-test .taken) (c9 .word-at .ensures .0) _ (c8 .locate .ensures)),
+    )
+
+unfold-fields-sub-unfold-item : (t : ℕ) → unfold-fields-lts.Need-sub-unfold-item (unfold-fields-calls t) (unfold-fields-at t) unfold-fields.Post
+    unfold-fields-Inv-loop unfold-fields-μ-loop
+unfold-fields-sub-unfold-item t c =
+    let c7 = c .before .before .before .before .before .before .before in
+    let c8 = c7 .before in
+    let c9 = c8 .before in
+    let c10 = c9 .before in
+    omega (
+      arith,
+      span-ok _ _ _ _ _ _ _ _ (c10 .loop .inv .row) (c9 .loop-test .taken) (c8 .word-at .ensures .0) (c10 .loop .inv .ranges) _
+          (c7 .locate .ensures),
+    )
+
+unfold-fields-part-unfold-item-start : (t : ℕ) → unfold-fields-lts.Need-part-unfold-item-start (unfold-fields-calls t) (unfold-fields-at t) unfold-fields.Post
+    unfold-fields-Inv-loop unfold-fields-μ-loop
+unfold-fields-part-unfold-item-start t c =
+    let c7 = c .before .before .before .before .before .before .before in
+    let c8 = c7 .before in
+    let c9 = c8 .before in
+    let c10 = c9 .before in
+    span-ok _ _ _ _ _ _ _ _ (c10 .loop .inv .row) (c9 .loop-test .taken) (c8 .word-at .ensures .0) (c10 .loop .inv .ranges) _ (c7 .locate .ensures) .0
+
+unfold-fields-part-unfold-item-end : (t : ℕ) → unfold-fields-lts.Need-part-unfold-item-end (unfold-fields-calls t) (unfold-fields-at t) unfold-fields.Post
+    unfold-fields-Inv-loop unfold-fields-μ-loop
+unfold-fields-part-unfold-item-end t c =
+    let c7 = c .before .before .before .before .before .before .before in
+    let c8 = c7 .before in
+    let c9 = c8 .before in
+    let c10 = c9 .before in
+    span-ok _ _ _ _ _ _ _ _ (c10 .loop .inv .row) (c9 .loop-test .taken) (c8 .word-at .ensures .0) (c10 .loop .inv .ranges) _ (c7 .locate .ensures) .1
+
+unfold-fields-unfold-item-requires : (t : ℕ) → unfold-fields-lts.Need-unfold-item-requires (unfold-fields-calls t) (unfold-fields-at t) unfold-fields.Post
+    unfold-fields-Inv-loop unfold-fields-μ-loop
+unfold-fields-unfold-item-requires t c κs =
+    let c8 = c .before .before .before .before .before .before .before .before in
+    let c9 = c8 .before in
+    let c10 = c9 .before in
+    let c11 = c10 .before in
+    let c17 = c11 .before .before .before .before .before .before in (
+      omega (arith, row-below _ _ _ _ _ _ (c11 .loop .inv .row) (c10 .loop-test .taken) (c9 .word-at .ensures .0), c17 .pre .0),
+      (
+        row-under _ _ _ _ _ _ (c11 .loop .inv .row) (c10 .loop-test .taken) (c9 .word-at .ensures .0),
+        omega (
+          arith,
+          span-ok _ _ _ _ _ _ _ _ (c11 .loop .inv .row) (c10 .loop-test .taken) (c9 .word-at .ensures .0) (c11 .loop .inv .ranges) _ (c8 .locate .ensures),
+          span-length _ _ _ _ _ _ _ _ (c11 .loop .inv .row) (c10 .loop-test .taken) (c9 .word-at .ensures .0) (c11 .loop .inv .ranges) _ (c8 .locate .ensures),
+          c17 .pre .1 .1,
+        ),
+        filling-accepts _ _ _ _ _ _ _ _ _ _ _ _ _ _ _ _ (c11 .loop .inv) (c10 .loop-test .taken) (c9 .word-at .ensures .0) _ (c8 .locate .ensures),
+        filling-rooms _ _ _ _ _ _ _ _ _ _ _ _ _ _ _ _ (c11 .loop .inv) (c10 .loop-test .taken) (c9 .word-at .ensures .0) _ (c8 .locate .ensures),
+      ),
+    )
+
+unfold-fields-loop-less-2 : (t : ℕ) → unfold-fields-lts.Need-loop-less-2 (unfold-fields-calls t) (unfold-fields-at t) unfold-fields.Post
+    unfold-fields-Inv-loop unfold-fields-μ-loop
+unfold-fields-loop-less-2 t c = omega arith
+
+unfold-fields-loop-again-2 : (t : ℕ) → unfold-fields-lts.Need-loop-again-2 (unfold-fields-calls t) (unfold-fields-at t) unfold-fields.Post
+    unfold-fields-Inv-loop unfold-fields-μ-loop
+unfold-fields-loop-again-2 t c =
+    let c4 = c .before .before .before .before in
+    let c8 = c4 .before .before .before .before in
+    let c10 = c8 .before .before in
+    let c13 = c10 .before .before .before in
+    let c14 = c13 .before in
+    let c15 = c14 .before in
+    let c16 = c15 .before in
+    let under = row-under _ _ _ _ _ _ (c16 .loop .inv .row) (c15 .loop-test .taken) (c14 .word-at .ensures .0) in
+    let accepts = filling-accepts _ _ _ _ _ _ _ _ _ _ _ _ _ _ _ _ (c16 .loop .inv) (c15 .loop-test .taken) (c14 .word-at .ensures .0) _
+    (c13 .locate .ensures) in
+    let six = below-six _ (c8 .if2 .taken) in
+    filling-next _ _ _ _ _ _ _ _ _ _ _ _ _ _ _ _ (c16 .loop .inv) (c15 .loop-test .taken) (c14 .word-at .ensures .0) _ (c13 .locate .ensures) _ _ _
+    (leaf-filled _ _ _ _ (c10 .look .ensures) under _ accepts (six .0) (six .1) _ _ _ _ _ _ (c4 .unfold-leaf .ensures))
+
+unfold-fields-loop-less-3 : (t : ℕ) → unfold-fields-lts.Need-loop-less-3 (unfold-fields-calls t) (unfold-fields-at t) unfold-fields.Post
+    unfold-fields-Inv-loop unfold-fields-μ-loop
+unfold-fields-loop-less-3 t c = omega arith
+
+unfold-fields-loop-again-3 : (t : ℕ) → unfold-fields-lts.Need-loop-again-3 (unfold-fields-calls t) (unfold-fields-at t) unfold-fields.Post
+    unfold-fields-Inv-loop unfold-fields-μ-loop
+unfold-fields-loop-again-3 t c =
+    let c4 = c .before .before .before .before in
+    let c13 = c4 .before .before .before .before .before .before .before .before .before in
+    let c14 = c13 .before in
+    let c15 = c14 .before in
+    let c16 = c15 .before in
+    filling-next _ _ _ _ _ _ _ _ _ _ _ _ _ _ _ _ (c16 .loop .inv) (c15 .loop-test .taken) (c14 .word-at .ensures .0) _ (c13 .locate .ensures) _ _ _
     (c4 .unfold-item .ensures)
 
 unfold-fields-same-length : (t : ℕ) → unfold-fields-lts.Need-same-length (unfold-fields-calls t) (unfold-fields-at t) unfold-fields.Post
@@ -403,14 +562,28 @@ pub +unfold-fields+unfold-item-spec : {M : Type 1} → statement M
     (unfold-fields-loop-holds t)
     (unfold-fields-word-at-requires t)
     (unfold-fields-locate-requires t)
+    (unfold-fields-add-a t)
+    (unfold-fields-sub-left t)
+    (unfold-fields-kind-of-requires t)
+    (unfold-fields-sub-copy-into t)
+    (unfold-fields-part-copy-into-start t)
+    (unfold-fields-part-copy-into-end t)
+    (unfold-fields-copy-into-requires t)
+    (unfold-fields-loop-less t)
+    (unfold-fields-loop-again t)
+    (unfold-fields-look-requires t)
+    (unfold-fields-sub-unfold-leaf t)
+    (unfold-fields-part-unfold-leaf-start t)
+    (unfold-fields-part-unfold-leaf-end t)
+    (unfold-fields-unfold-leaf-requires t)
     (unfold-fields-sub-unfold-item t)
     (unfold-fields-part-unfold-item-start t)
     (unfold-fields-part-unfold-item-end t)
     (unfold-fields-unfold-item-requires t)
-    (unfold-fields-add-a t)
-    (unfold-fields-sub-left t)
-    (unfold-fields-loop-less t)
-    (unfold-fields-loop-again t)
+    (unfold-fields-loop-less-2 t)
+    (unfold-fields-loop-again-2 t)
+    (unfold-fields-loop-less-3 t)
+    (unfold-fields-loop-again-3 t)
     (unfold-fields-same-length t)
     (unfold-fields-same-length-2 t)
     (unfold-fields-returns t))
