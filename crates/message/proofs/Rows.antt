@@ -64,6 +64,9 @@ module _ (lens l : List ℕ) (t a left f : ℕ) (g : Row lens l t a left) (p : 0
   pub row-index : f < length lens
   row-index = under-index lens l t (g .under) f row-below
 
+  pub row-few : f < 64
+  row-few = let b = row-below in omega (arith, g .under .few)
+
   pub row-small : getD lens f 0 < 2 ^ 32
   row-small = under-small lens l t (g .under) f row-below
 

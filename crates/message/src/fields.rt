@@ -37,7 +37,7 @@ fn finish(first: usize, p: usize, len: usize) -> Told
 }
 
 // Registers the n fields that the words from a0 on name, and builds: as `register_head` and `finalize` do, in plain numbers.
-fn lay_out(lens: &[u32], layout: &[u8], t: usize, a0: usize, n: usize, b: &[u8]) -> Told
+fn lay_out(lens: &[u32; 64], layout: &[u8], t: usize, a0: usize, n: usize, b: &[u8]) -> Told
     requires { ⌜ Row (now lens) (now layout) t a0 n × (length (now b) < 2 ^ 32) ⌝ }
     ensures { λ r. ⌜ r ≡ layOut (headsOf (now (layout .entry)) t a0 n) (now (b .entry)) ⌝ }
 {
@@ -79,7 +79,7 @@ fn lay_out(lens: &[u32], layout: &[u8], t: usize, a0: usize, n: usize, b: &[u8])
 
 // What the registration of a container's fields finds. One of fixed size that has its length needs no look at them.
 pub(crate) fn container_told(
-    lens: &[u32],
+    lens: &[u32; 64],
     layout: &[u8],
     t: usize,
     a0: usize,
@@ -106,7 +106,7 @@ fn offset_at(b: &[u8], p: usize) -> usize
 
 // Where the next variable item starts, from the field at the position p0 on.
 fn next_start(
-    lens: &[u32],
+    lens: &[u32; 64],
     layout: &[u8],
     t: usize,
     a0: usize,
@@ -135,7 +135,7 @@ fn next_start(
 
 // Where the first of some fields lies, whose type is f.
 pub(crate) fn locate(
-    lens: &[u32],
+    lens: &[u32; 64],
     layout: &[u8],
     t: usize,
     a: usize,

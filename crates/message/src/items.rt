@@ -234,7 +234,13 @@ fn is_plain(kind: usize) -> bool
 }
 
 // Checks the item b of the type t, which starts at start.
-pub(crate) fn item_check(lens: &[u32], layout: &[u8], t: usize, b: &[u8], start: usize) -> Answer
+pub(crate) fn item_check(
+    lens: &[u32; 64],
+    layout: &[u8],
+    t: usize,
+    b: &[u8],
+    start: usize,
+) -> Answer
     requires { ⌜ Under (now lens) (now layout) (t + 1) × (start + length (now b) < 2 ^ 32) ⌝ }
     ensures { λ r. ⌜ r ≡ readItem (treeOf (now (layout .entry)) t) (now (b .entry)) start ⌝ }
 {
@@ -263,7 +269,7 @@ pub(crate) fn item_check(lens: &[u32], layout: &[u8], t: usize, b: &[u8], start:
 }
 
 // Checks the item b of a field whose type t has the words n: a leaf needs no second look at the table.
-fn field_item(lens: &[u32], layout: &[u8], n: Node, t: usize, b: &[u8], start: usize) -> Answer
+fn field_item(lens: &[u32; 64], layout: &[u8], n: Node, t: usize, b: &[u8], start: usize) -> Answer
     requires { ⌜ Under (now lens) (now layout) (t + 1) × (start + length (now b) < 2 ^ 32) × (n ≡ nodeOf (now layout) t) ⌝ }
     ensures { λ r. ⌜ r ≡ readItem (treeOf (now (layout .entry)) t) (now (b .entry)) start ⌝ }
 {
@@ -276,7 +282,7 @@ fn field_item(lens: &[u32], layout: &[u8], n: Node, t: usize, b: &[u8], start: u
 
 // Checks the n fields of type t that the words from a0 on name, and counts them with their container.
 fn field_check(
-    lens: &[u32],
+    lens: &[u32; 64],
     layout: &[u8],
     t: usize,
     a0: usize,

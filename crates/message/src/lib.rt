@@ -44,7 +44,7 @@ pub enum Unfolded {
 }
 
 // The message under a legal table of n types.
-fn check_under(lens: &[u32], layout: &[u8], n: usize, message: &[u8]) -> Answer
+fn check_under(lens: &[u32; 64], layout: &[u8], n: usize, message: &[u8]) -> Answer
     requires { ⌜ Under (now lens) (now layout) n × (1 ≤ n) ⌝ }
     ensures { λ r. ⌜ r ≡ underTable (Upto n) (now (layout .entry)) (now (message .entry)) ⌝ }
 {
@@ -68,7 +68,13 @@ pub fn check(layout: &[u8], message: &[u8]) -> Answer
 }
 
 // Stores the listing of a message that was checked, where there is room for it.
-fn list_under(records: &mut [u8], lens: &[u32], layout: &[u8], n: usize, message: &[u8]) -> Listed
+fn list_under(
+    records: &mut [u8],
+    lens: &[u32; 64],
+    layout: &[u8],
+    n: usize,
+    message: &[u8],
+) -> Listed
     requires { ⌜ Under (now lens) (now layout) n × (1 ≤ n) ⌝ }
     ensures { λ r. ⌜ r ≡ listedOf (underTable (Upto n) (now (layout .entry)) (now (message .entry))) (now (records .entry)) ⌝ }
     ensures { λ _. ⌜ now (records .exit) ≡ recordsOf (underTable (Upto n) (now (layout .entry)) (now (message .entry))) (messageType (now (layout .entry)) n) (now (message .entry)) (now (records .entry)) ⌝ }
@@ -106,7 +112,7 @@ pub fn list(layout: &[u8], message: &[u8], records: &mut [u8]) -> Listed
 fn unfold_under(
     contents: &mut [u32],
     bodies: &mut [u8],
-    lens: &[u32],
+    lens: &[u32; 64],
     layout: &[u8],
     n: usize,
     message: &[u8],

@@ -32,7 +32,7 @@ fn put_entry(out: &mut [u8], at: usize, t: usize, b: &[u8], start: usize)
 pub(crate) fn list_item(
     out: &mut [u8],
     at: usize,
-    lens: &[u32],
+    lens: &[u32; 64],
     layout: &[u8],
     t: usize,
     b: &[u8],
@@ -66,7 +66,7 @@ pub(crate) fn list_item(
 fn list_fields(
     out: &mut [u8],
     at0: usize,
-    lens: &[u32],
+    lens: &[u32; 64],
     layout: &[u8],
     t: usize,
     a0: usize,

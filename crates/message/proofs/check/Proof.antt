@@ -1,7 +1,7 @@
 -- As the table goes. Assumes nothing.
 use mathlib.Core.Path.{_≡_, refl, sym, ap, _∙_}
 use Rattle.standard.proofs.Bytes.{bytes-known}
-use Rattle.layout.proofs.Tables.{table-known, table-length}
+use Rattle.layout.proofs.Tables.{table-known}
 use Rattle.message.specs.Check.{checkMessage}
 use Rattle.message.proofs.Rows.{under-table}
 use borrow.Author.Needs.{needs}
@@ -16,12 +16,6 @@ enum-known-c c = search needs
 
 enum-known-c-2 : tie.Need-enum-known-c-2
 enum-known-c-2 c = search needs
-
-slice-aggregate-check-under : tie.Need-slice-aggregate-check-under
-slice-aggregate-check-under c =
-    let c2 = c .before .before in
-    let c4 = c2 .before .before in
-    table-length _ _ _ (sym (c4 .table-of .ensures .0) ∙ c2 .c2 .given .1) (c4 .table-of .ensures .1)
 
 check-under-requires : tie.Need-check-under-requires
 check-under-requires c κs =
@@ -53,7 +47,6 @@ check-spec =
     table-of-requires
     enum-known-c
     enum-known-c-2
-    slice-aggregate-check-under
     check-under-requires
     returns
     returns-2)

@@ -15,9 +15,9 @@ sub-last c = search needs
 
 item-check-requires : tie.Need-item-check-requires
 item-check-requires c κs =
-    let c4 = c .before .before .before .before in
-    let e : c4 .args .n - 1 + 1 ≡ c4 .args .n = omega (arith, c4 .pre .1) in
-    (rw e (c4 .pre .0), omega (arith, c .if1 .left))
+    let c3 = c .before .before .before in
+    let e : c3 .args .n - 1 + 1 ≡ c3 .args .n = omega (arith, c3 .pre .1) in
+    (rw e (c3 .pre .0), omega (arith, c .if1 .left))
 
 returns-2 : tie.Need-returns-2
 returns-2 c = rw (le-ltb _ _ (c .before .if1 .left)) (c .item-check .ensures)

@@ -37,10 +37,10 @@ list-item-requires : tie.Need-list-item-requires
 list-item-requires c κs =
     let c3 = c .before .before .before in
     let c5 = c3 .before .before in
-    let c10 = c5 .before .before .before .before .before in
-    let e : c10 .args .n - 1 + 1 ≡ c10 .args .n = omega (arith, c10 .pre .1) in
-    let q = under-accepted (c10 .args .layout .now) (c10 .args .message .now) (c10 .args .n) _ (sym (c5 .check-under .ensures) ∙ c3 .r2 .given .1) in
-    (rw e (c10 .pre .0), omega (arith, q .1), rw (q .0) tt, records-room _ _ _ _ (q .0) (c .before .if1 .left))
+    let c9 = c5 .before .before .before .before in
+    let e : c9 .args .n - 1 + 1 ≡ c9 .args .n = omega (arith, c9 .pre .1) in
+    let q = under-accepted (c9 .args .layout .now) (c9 .args .message .now) (c9 .args .n) _ (sym (c5 .check-under .ensures) ∙ c3 .r2 .given .1) in
+    (rw e (c9 .pre .0), omega (arith, q .1), rw (q .0) tt, records-room _ _ _ _ (q .0) (c .before .if1 .left))
 
 returns-2 : tie.Need-returns-2
 returns-2 c =

@@ -2,7 +2,7 @@
 use mathlib.Core.Path.{sym, _∙_}
 use borrow.Author.Needs.{needs}
 use Rattle.standard.proofs.Bytes.{bytes-known}
-use Rattle.layout.proofs.Tables.{table-known, table-length}
+use Rattle.layout.proofs.Tables.{table-known}
 use Rattle.message.specs.Check.{checkMessage}
 use Rattle.message.specs.Unfold.{unfoldMessage, unfoldedWords, unfoldedBytes}
 use Rattle.message.proofs.Rows.{under-table}
@@ -17,12 +17,6 @@ enum-known-c c = search needs
 
 enum-known-c-2 : tie.Need-enum-known-c-2
 enum-known-c-2 c = search needs
-
-slice-aggregate-unfold-under : tie.Need-slice-aggregate-unfold-under
-slice-aggregate-unfold-under c =
-    let c4 = c .before .before .before .before in
-    let c6 = c4 .before .before in
-    table-length _ _ _ (sym (c6 .table-of .ensures .0) ∙ c4 .c2 .given .1) (c6 .table-of .ensures .1)
 
 unfold-under-requires : tie.Need-unfold-under-requires
 unfold-under-requires c κs =
@@ -64,7 +58,6 @@ unfold-spec =
     table-of-requires
     enum-known-c
     enum-known-c-2
-    slice-aggregate-unfold-under
     unfold-under-requires
     returns
     same-length

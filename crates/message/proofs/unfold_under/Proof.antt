@@ -45,8 +45,8 @@ returns-2 c =
 
 sub-last : tie.Need-sub-last
 sub-last c =
-    let c11 = c .before .before .before .before .before .before .before .before .before .before .before in
-    omega (arith, c11 .pre .1)
+    let c10 = c .before .before .before .before .before .before .before .before .before .before in
+    omega (arith, c10 .pre .1)
 
 unfold-item-requires : tie.Need-unfold-item-requires
 unfold-item-requires c κs =
@@ -54,10 +54,10 @@ unfold-item-requires c κs =
     let c3 = c2 .before in
     let c5 = c3 .before .before in
     let c7 = c5 .before .before in
-    let c13 = c7 .before .before .before .before .before .before in
-    let e : c13 .args .n - 1 + 1 ≡ c13 .args .n = omega (arith, c13 .pre .1) in
-    let q = under-accepted (c13 .args .layout .now) (c13 .args .message .now) (c13 .args .n) _ (sym (c7 .check-under .ensures) ∙ c5 .r2 .given .1) in
-    (rw e (c13 .pre .0), q .1, record { accepted = rw (q .0) tt }, form-rooms _ _ _ _ _ (q .0) (c3 .if1 .left) (c2 .if2 .left))
+    let c12 = c7 .before .before .before .before .before in
+    let e : c12 .args .n - 1 + 1 ≡ c12 .args .n = omega (arith, c12 .pre .1) in
+    let q = under-accepted (c12 .args .layout .now) (c12 .args .message .now) (c12 .args .n) _ (sym (c7 .check-under .ensures) ∙ c5 .r2 .given .1) in
+    (rw e (c12 .pre .0), q .1, record { accepted = rw (q .0) tt }, form-rooms _ _ _ _ _ (q .0) (c3 .if1 .left) (c2 .if2 .left))
 
 returns-3 : tie.Need-returns-3
 returns-3 c =

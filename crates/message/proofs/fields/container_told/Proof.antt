@@ -10,19 +10,19 @@ use Rattle.message.proofs.fields.container_told.Tie as tie
 mul-own : tie.Need-mul-own
 mul-own c = search needs
 
-shared-slice-read-own : tie.Need-shared-slice-read-own
-shared-slice-read-own c = search needs
+element-copy-out-own : tie.Need-element-copy-out-own
+element-copy-out-own c = search needs
 
 cast-own : tie.Need-cast-own
 cast-own c =
-    let c4 = c .before .before .before .before in
-    omega (arith, under-small _ _ _ (c4 .pre .0) (c4 .args .t) (omega arith))
+    let c3 = c .before .before .before in
+    omega (arith, under-small _ _ _ (c3 .pre .0) (c3 .args .t) (omega arith))
 
 returns : tie.Need-returns
 returns c =
     let c1 = c .before in
-    let c6 = c1 .before .before .before .before .before in
-    container-fixed _ _ _ _ _ _ (c6 .pre .0) (c6 .pre .3) refl (c1 .if1 .taken) (eqb-true _ _ (c .if2 .taken)) (c6 .pre .2)
+    let c5 = c1 .before .before .before .before in
+    container-fixed _ _ _ _ _ _ (c5 .pre .0) (c5 .pre .3) refl (c1 .if1 .taken) (eqb-true _ _ (c .if2 .taken)) (c5 .pre .2)
 
 lay-out-requires : tie.Need-lay-out-requires
 lay-out-requires c κs = search needs
@@ -32,4 +32,4 @@ returns-2 c = search needs
 
 pub container-told-spec : {M : Type 1} → statement M
 container-told-spec =
-    tie.close (tie.spec mul-own shared-slice-read-own cast-own returns lay-out-requires returns-2)
+    tie.close (tie.spec mul-own element-copy-out-own cast-own returns lay-out-requires returns-2)

@@ -2,7 +2,7 @@
 use mathlib.Core.Path.{_≡_, refl, _∙_}
 use native.Mathlib.Omega.{arith}
 use borrow.Author.Needs.{needs}
-use Rattle.message.proofs.Rows.{row-small, row-index}
+use Rattle.message.proofs.Rows.{row-small, row-few}
 use Rattle.message.proofs.Numbers.{Counting, counting-new, counting-fixed, counting-long, counting-cut, counting-end}
 use Rattle.message.proofs.Numbers.{counting-past, counting-back, counting-first, counting-later}
 use Rattle.message.proofs.fields.lay_out.Statement.{statement}
@@ -15,7 +15,7 @@ abbrev μ-loop : tie.MeasureT-loop
 μ-loop lens layout t a0 n b len p₀ first₀ previous₀ a₀ left₀ p first previous a left = left
 
 loop-holds : tie.Need-loop-holds Inv-loop μ-loop
-loop-holds c = counting-new (c .before .before .before .pre .0)
+loop-holds c = counting-new (c .before .before .pre .0)
 
 word-at-requires : tie.Need-word-at-requires Inv-loop μ-loop
 word-at-requires c κs = search needs
@@ -23,12 +23,11 @@ word-at-requires c κs = search needs
 mul-k : tie.Need-mul-k Inv-loop μ-loop
 mul-k c = omega (arith, c .word-at .ensures .1)
 
-shared-slice-read-k : tie.Need-shared-slice-read-k Inv-loop μ-loop
-shared-slice-read-k c =
+element-copy-out-k : tie.Need-element-copy-out-k Inv-loop μ-loop
+element-copy-out-k c =
     let c1 = c .before in
     let c2 = c1 .before in
-    let c3 = c2 .before in
-    row-index _ _ _ _ _ _ (c3 .loop .inv .laying .row) (c2 .loop-test .taken) (c1 .word-at .ensures .0)
+    row-few _ _ _ _ _ _ (c2 .loop .inv .laying .row) (c1 .loop-test .taken) (c .word-at .ensures .0)
 
 cast-k : tie.Need-cast-k Inv-loop μ-loop
 cast-k c =
@@ -52,9 +51,9 @@ add-p c =
     let c2 = c .before .before in
     let c3 = c2 .before in
     let c4 = c3 .before in
-    let c8 = c4 .before .before .before .before in
+    let c7 = c4 .before .before .before in
     let s = row-small _ _ _ _ _ _ (c4 .loop .inv .laying .row) (c3 .loop-test .taken) (c2 .word-at .ensures .0) in
-    omega (arith, s, c4 .loop .inv .laying .within, c8 .pre .1)
+    omega (arith, s, c4 .loop .inv .laying .within, c7 .pre .1)
 
 returns : tie.Need-returns Inv-loop μ-loop
 returns c =
@@ -75,17 +74,17 @@ loop-again c =
     let c3 = c1 .before .before in
     let c4 = c3 .before in
     let c5 = c4 .before in
-    let c9 = c5 .before .before .before .before in
-    counting-fixed (c5 .loop .inv) (c4 .loop-test .taken) (c3 .word-at .ensures .0) refl (c1 .if1 .taken) (c .if2 .left) (c9 .pre .1)
+    let c8 = c5 .before .before .before in
+    counting-fixed (c5 .loop .inv) (c4 .loop-test .taken) (c3 .word-at .ensures .0) refl (c1 .if1 .taken) (c .if2 .left) (c8 .pre .1)
 
 add-next : tie.Need-add-next Inv-loop μ-loop
 add-next c =
     let c4 = c .before .before .before .before in
-    let c8 = c4 .before .before .before .before in
-    omega (arith, c4 .loop .inv .laying .within, c8 .pre .1)
+    let c7 = c4 .before .before .before in
+    omega (arith, c4 .loop .inv .laying .within, c7 .pre .1)
 
-sub-t23 : tie.Need-sub-t23 Inv-loop μ-loop
-sub-t23 c =
+sub-t24 : tie.Need-sub-t24 Inv-loop μ-loop
+sub-t24 c =
     let c5 = c .before .before .before .before .before in
     c5 .loop .inv .laying .within
 
@@ -177,7 +176,7 @@ lay-out-spec =
     loop-holds
     word-at-requires
     mul-k
-    shared-slice-read-k
+    element-copy-out-k
     cast-k
     add-a
     sub-left
@@ -186,7 +185,7 @@ lay-out-spec =
     loop-less
     loop-again
     add-next
-    sub-t23
+    sub-t24
     returns-2
     four-at-requires
     returns-3

@@ -2,7 +2,7 @@
 use mathlib.Core.Path.{_≡_, refl, sym, ap, _∙_}
 use native.Mathlib.Omega.{arith}
 use borrow.Author.Needs.{needs}
-use Rattle.message.proofs.Rows.{Seeking, row-small, row-index, seeking-room, seeking-found, seeking-fits, seeking-next, seeking-end}
+use Rattle.message.proofs.Rows.{Seeking, row-small, row-few, seeking-room, seeking-found, seeking-fits, seeking-next, seeking-end}
 use Rattle.message.proofs.fields.next_start.Statement.{statement}
 use Rattle.message.proofs.fields.next_start.Tie as tie
 
@@ -13,7 +13,7 @@ abbrev μ-loop : tie.MeasureT-loop
 μ-loop lens layout t a0 n b p0 a₀ left₀ p₀ a left p = left
 
 loop-holds : tie.Need-loop-holds Inv-loop μ-loop
-loop-holds c = record { row = c .before .before .before .pre .0; ranges = c .before .before .before .pre .1; same = refl }
+loop-holds c = record { row = c .before .before .pre .0; ranges = c .before .before .pre .1; same = refl }
 
 word-at-requires : tie.Need-word-at-requires Inv-loop μ-loop
 word-at-requires c κs = search needs
@@ -21,8 +21,8 @@ word-at-requires c κs = search needs
 mul-k : tie.Need-mul-k Inv-loop μ-loop
 mul-k c = omega (arith, c .word-at .ensures .1)
 
-shared-slice-read-k : tie.Need-shared-slice-read-k Inv-loop μ-loop
-shared-slice-read-k c = row-index _ _ _ _ _ _ (c .before .before .before .loop .inv .row) (c .before .before .loop-test .taken) (c .before .word-at .ensures .0)
+element-copy-out-k : tie.Need-element-copy-out-k Inv-loop μ-loop
+element-copy-out-k c = row-few _ _ _ _ _ _ (c .before .before .loop .inv .row) (c .before .loop-test .taken) (c .word-at .ensures .0)
 
 cast-k : tie.Need-cast-k Inv-loop μ-loop
 cast-k c =
@@ -71,7 +71,7 @@ next-start-spec =
     loop-holds
     word-at-requires
     mul-k
-    shared-slice-read-k
+    element-copy-out-k
     cast-k
     offset-at-requires
     returns

@@ -7,7 +7,7 @@ use lib.ListN.{length-take, length-drop}
 use Rattle.decode.proofs.Register.{layout-ranges}
 use Rattle.layout.proofs.Facts.{as-leaf, as-container}
 use Rattle.message.specs.Read.{one, andThen}
-use Rattle.message.proofs.Rows.{row-below, row-index, row-small, row-under, under-below}
+use Rattle.message.proofs.Rows.{row-below, row-few, row-small, row-under, under-below}
 use Rattle.message.proofs.Bodies.{Reading, reading-small, reading-span, reading-item, plain-fits, plain-next, reading-next, reading-stop, reading-end}
 use Rattle.message.proofs.Bodies.{item-small, small-more, node-ok, container-row, container-on, container-stop}
 use Rattle.message.proofs.Bodies.{bare-read, wrong-read, body-below, body-read}
@@ -123,11 +123,11 @@ item-check-calls t = (
 field-check-loop-holds : (t : ℕ) → field-check-lts.Need-loop-holds (field-check-calls t) (field-check-at t) field-check.Post
     field-check-Inv-loop field-check-μ-loop
 field-check-loop-holds t c =
-    let c3 = c .before .before .before in
+    let c2 = c .before .before in
     record {
-      row = c3 .pre .1 .0;
+      row = c2 .pre .1 .0;
       some = omega arith;
-      ranges = c3 .pre .1 .3;
+      ranges = c2 .pre .1 .3;
       records = omega arith;
       words = omega arith;
       bytes = omega arith;
@@ -149,13 +149,13 @@ field-check-is-plain-requires t c κs = search needs
 field-check-mul-k : (t : ℕ) → field-check-lts.Need-mul-k (field-check-calls t) (field-check-at t) field-check.Post field-check-Inv-loop field-check-μ-loop
 field-check-mul-k t c = omega (arith, c .before .before .before .word-at .ensures .1)
 
-field-check-shared-slice-read-k : (t : ℕ) → field-check-lts.Need-shared-slice-read-k (field-check-calls t) (field-check-at t) field-check.Post
+field-check-element-copy-out-k : (t : ℕ) → field-check-lts.Need-element-copy-out-k (field-check-calls t) (field-check-at t) field-check.Post
     field-check-Inv-loop field-check-μ-loop
-field-check-shared-slice-read-k t c =
-    let c4 = c .before .before .before .before in
+field-check-element-copy-out-k t c =
+    let c3 = c .before .before .before in
+    let c4 = c3 .before in
     let c5 = c4 .before in
-    let c6 = c5 .before in
-    row-index _ _ _ _ _ _ (c6 .loop .inv .row) (c5 .loop-test .taken) (c4 .word-at .ensures .0)
+    row-few _ _ _ _ _ _ (c5 .loop .inv .row) (c4 .loop-test .taken) (c3 .word-at .ensures .0)
 
 field-check-cast-k : (t : ℕ) → field-check-lts.Need-cast-k (field-check-calls t) (field-check-at t) field-check.Post field-check-Inv-loop field-check-μ-loop
 field-check-cast-k t c =
@@ -170,9 +170,9 @@ field-check-one-more-requires t c κs =
     let c4 = c .before .before .before .before in
     let c5 = c4 .before in
     let c6 = c5 .before in
-    let c10 = c6 .before .before .before .before in
+    let c9 = c6 .before .before .before in
     let short = row-small _ _ _ _ _ _ (c6 .loop .inv .row) (c5 .loop-test .taken) (c4 .word-at .ensures .0) in
-    (reading-small _ _ _ _ _ _ _ _ _ _ _ (c10 .pre .1 .1) (c6 .loop .inv), short)
+    (reading-small _ _ _ _ _ _ _ _ _ _ _ (c9 .pre .1 .1) (c6 .loop .inv), short)
 
 field-check-add-p : (t : ℕ) → field-check-lts.Need-add-p (field-check-calls t) (field-check-at t) field-check.Post field-check-Inv-loop field-check-μ-loop
 field-check-add-p t c =
@@ -182,12 +182,12 @@ field-check-add-p t c =
     let c5 = c4 .before in
     let c6 = c5 .before in
     let c7 = c6 .before in
-    let c11 = c7 .before .before .before .before in
+    let c10 = c7 .before .before .before in
     omega (
       arith,
       plain-fits _ _ _ _ _ _ _ _ _ _ _ _ (c7 .loop .inv) (c6 .loop-test .taken) (c5 .word-at .ensures .0) _ (c4 .look .ensures)
           (sym (c3 .is-plain .ensures) ∙ c2 .if1 .taken) _ refl,
-      c11 .pre .1 .2,
+      c10 .pre .1 .2,
     )
 
 field-check-add-a : (t : ℕ) → field-check-lts.Need-add-a (field-check-calls t) (field-check-at t) field-check.Post field-check-Inv-loop field-check-μ-loop
@@ -211,10 +211,10 @@ field-check-loop-again t c =
     let c5 = c4 .before in
     let c6 = c5 .before in
     let c7 = c6 .before in
-    let c11 = c7 .before .before .before .before in
+    let c10 = c7 .before .before .before in
     rw (c .one-more .ensures)
     (plain-next _ _ _ _ _ _ _ _ _ _ _ _ (c7 .loop .inv) (c6 .loop-test .taken) (c5 .word-at .ensures .0) _ (c4 .look .ensures)
-    (sym (c3 .is-plain .ensures) ∙ c2 .if1 .taken) _ refl (c11 .pre .1 .2))
+    (sym (c3 .is-plain .ensures) ∙ c2 .if1 .taken) _ refl (c10 .pre .1 .2))
 
 field-check-locate-requires : (t : ℕ) → field-check-lts.Need-locate-requires (field-check-calls t) (field-check-at t) field-check.Post
     field-check-Inv-loop field-check-μ-loop
@@ -238,8 +238,8 @@ field-check-add-at t c =
     let c4 = c .before .before .before .before in
     let c5 = c4 .before in
     let c6 = c5 .before in
-    let c10 = c6 .before .before .before .before in
-    omega (arith, reading-span _ _ _ _ _ _ _ _ _ _ _ _ (c6 .loop .inv) (c5 .loop-test .taken) (c4 .word-at .ensures .0) _ (c .locate .ensures), c10 .pre .1 .2)
+    let c9 = c6 .before .before .before in
+    omega (arith, reading-span _ _ _ _ _ _ _ _ _ _ _ _ (c6 .loop .inv) (c5 .loop-test .taken) (c4 .word-at .ensures .0) _ (c .locate .ensures), c9 .pre .1 .2)
 
 field-check-sub-field-item : (t : ℕ) → field-check-lts.Need-sub-field-item (field-check-calls t) (field-check-at t) field-check.Post
     field-check-Inv-loop field-check-μ-loop
@@ -273,12 +273,12 @@ field-check-field-item-requires t c κs =
     let c5 = c4 .before in
     let c6 = c5 .before in
     let c7 = c6 .before in
-    let c11 = c7 .before .before .before .before in
+    let c10 = c7 .before .before .before in
     let span = reading-span _ _ _ _ _ _ _ _ _ _ _ _ (c7 .loop .inv) (c6 .loop-test .taken) (c5 .word-at .ensures .0) _ (c1 .locate .ensures) in (
-      omega (arith, row-below _ _ _ _ _ _ (c7 .loop .inv .row) (c6 .loop-test .taken) (c5 .word-at .ensures .0), c11 .pre .0),
+      omega (arith, row-below _ _ _ _ _ _ (c7 .loop .inv .row) (c6 .loop-test .taken) (c5 .word-at .ensures .0), c10 .pre .0),
       (
         row-under _ _ _ _ _ _ (c7 .loop .inv .row) (c6 .loop-test .taken) (c5 .word-at .ensures .0),
-        omega (arith, span, c11 .pre .1 .2),
+        omega (arith, span, c10 .pre .1 .2),
         c4 .look .ensures,
       ),
     )
@@ -296,11 +296,11 @@ field-check-add-requires t c κs =
     let c9 = c5 .before .before .before .before in
     let c10 = c9 .before in
     let c11 = c10 .before in
-    let c15 = c11 .before .before .before .before in
+    let c14 = c11 .before .before .before in
     let told = sym (c1 .r .given .1) ∙ c3 .field-item .ensures in
     let counts =
-    reading-item _ _ _ _ _ _ _ _ _ _ _ _ (c11 .loop .inv) (c10 .loop-test .taken) (c9 .word-at .ensures .0) _ (c5 .locate .ensures) _ (c15 .pre .1 .2) told in
-    (reading-small _ _ _ _ _ _ _ _ _ _ _ (c15 .pre .1 .1) (c11 .loop .inv), small-more _ counts)
+    reading-item _ _ _ _ _ _ _ _ _ _ _ _ (c11 .loop .inv) (c10 .loop-test .taken) (c9 .word-at .ensures .0) _ (c5 .locate .ensures) _ (c14 .pre .1 .2) told in
+    (reading-small _ _ _ _ _ _ _ _ _ _ _ (c14 .pre .1 .1) (c11 .loop .inv), small-more _ counts)
 
 field-check-loop-less-2 : (t : ℕ) → field-check-lts.Need-loop-less-2 (field-check-calls t) (field-check-at t) field-check.Post
     field-check-Inv-loop field-check-μ-loop
@@ -315,10 +315,10 @@ field-check-loop-again-2 t c =
     let c10 = c6 .before .before .before .before in
     let c11 = c10 .before in
     let c12 = c11 .before in
-    let c16 = c12 .before .before .before .before in
+    let c15 = c12 .before .before .before in
     let told = sym (c2 .r .given .1) ∙ c4 .field-item .ensures in
     rw (c .add .ensures)
-    (reading-next _ _ _ _ _ _ _ _ _ _ _ _ (c12 .loop .inv) (c11 .loop-test .taken) (c10 .word-at .ensures .0) _ (c6 .locate .ensures) _ (c16 .pre .1 .2) told)
+    (reading-next _ _ _ _ _ _ _ _ _ _ _ _ (c12 .loop .inv) (c11 .loop-test .taken) (c10 .word-at .ensures .0) _ (c6 .locate .ensures) _ (c15 .pre .1 .2) told)
 
 field-check-enum-known-r-2 : (t : ℕ) → field-check-lts.Need-enum-known-r-2 (field-check-calls t) (field-check-at t) field-check.Post
     field-check-Inv-loop field-check-μ-loop
@@ -344,14 +344,14 @@ field-item-leaf-check-requires t c κs = search needs
 
 field-item-item-check-requires : (t : ℕ) → field-item-lts.Need-item-check-requires (field-item-calls t) (field-item-at t) field-item.Post
 field-item-item-check-requires t c κs =
-    let c5 = c .before .before .before .before .before in
-    (omega (arith, c5 .pre .0), (c5 .pre .1 .0, c5 .pre .1 .1))
+    let c4 = c .before .before .before .before in
+    (omega (arith, c4 .pre .0), (c4 .pre .1 .0, c4 .pre .1 .1))
 
 field-item-returns : (t : ℕ) → field-item-lts.Need-returns (field-item-calls t) (field-item-at t) field-item.Post
 field-item-returns t c =
     let c1 = c .before in
-    let c6 = c1 .before .before .before .before .before in
-    rw (as-leaf _ _ _ (c6 .pre .1 .2) (λ (q : _ ≡ 6). omega (arith, c1 .if1 .taken)) (λ (q : _ ≡ 7). omega (arith, c1 .if1 .taken))) (c .leaf-check .ensures)
+    let c5 = c1 .before .before .before .before in
+    rw (as-leaf _ _ _ (c5 .pre .1 .2) (λ (q : _ ≡ 6). omega (arith, c1 .if1 .taken)) (λ (q : _ ≡ 7). omega (arith, c1 .if1 .taken))) (c .leaf-check .ensures)
 
 field-item-returns-2 : (t : ℕ) → field-item-lts.Need-returns-2 (field-item-calls t) (field-item-at t) field-item.Post
 field-item-returns-2 t c = c .item-check .ensures
@@ -360,15 +360,15 @@ item-check-look-requires : (t : ℕ) → item-check-lts.Need-look-requires (item
 item-check-look-requires t c κs = search needs
 
 item-check-add-first : (t : ℕ) → item-check-lts.Need-add-first (item-check-calls t) (item-check-at t) item-check.Post
-item-check-add-first t c = omega (arith, node-ok _ _ _ _ (c .before .look .ensures) (c .before .before .before .before .before .pre .1 .0) .near)
+item-check-add-first t c = omega (arith, node-ok _ _ _ _ (c .before .look .ensures) (c .before .before .before .before .pre .1 .0) .near)
 
 item-check-container-told-requires : (t : ℕ) → item-check-lts.Need-container-told-requires (item-check-calls t) (item-check-at t) item-check.Post
 item-check-container-told-requires t c κs =
     let c3 = c .before .before .before in
-    let c7 = c3 .before .before .before .before in (
-      c7 .pre .1 .0,
-      container-row _ _ _ _ (c3 .look .ensures) (c7 .pre .1 .0) (c .if1 .taken),
-      omega (arith, c7 .pre .1 .1),
+    let c6 = c3 .before .before .before in (
+      c6 .pre .1 .0,
+      container-row _ _ _ _ (c3 .look .ensures) (c6 .pre .1 .0) (c .if1 .taken),
+      omega (arith, c6 .pre .1 .1),
       as-container _ _ _ (c3 .look .ensures) (c .if1 .taken),
     )
 
@@ -380,13 +380,13 @@ item-check-field-check-requires t c κs =
     let c2 = c .before .before in
     let c3 = c2 .before in
     let c6 = c3 .before .before .before in
-    let c10 = c6 .before .before .before .before in (
-      omega (arith, c10 .pre .0),
+    let c9 = c6 .before .before .before in (
+      omega (arith, c9 .pre .0),
       (
-        container-row _ _ _ _ (c6 .look .ensures) (c10 .pre .1 .0) (c3 .if1 .taken),
+        container-row _ _ _ _ (c6 .look .ensures) (c9 .pre .1 .0) (c3 .if1 .taken),
         node-ok _ _ _ _ (c6 .look .ensures)
-            (c10 .pre .1 .0) .few (c3 .if1 .taken),
-        c10 .pre .1 .1,
+            (c9 .pre .1 .0) .few (c3 .if1 .taken),
+        c9 .pre .1 .1,
         layout-ranges _ _ (sym (c2 .container-told .ensures) ∙ c .enum-told .given .1),
       ),
     )
@@ -397,8 +397,8 @@ item-check-enum-known-told t c = search needs
 item-check-select-requires : (t : ℕ) → item-check-lts.Need-select-requires (item-check-calls t) (item-check-at t) item-check.Post
 item-check-select-requires t c κs =
     let c5 = c .before .before .before .before .before in
-    let c9 = c5 .before .before .before .before in
-    omega (arith, node-ok _ _ _ _ (c5 .look .ensures) (c9 .pre .1 .0) .near)
+    let c8 = c5 .before .before .before in
+    omega (arith, node-ok _ _ _ _ (c5 .look .ensures) (c8 .pre .1 .0) .near)
 
 item-check-enum-told-2 : (t : ℕ) → item-check-lts.Need-enum-told-2 (item-check-calls t) (item-check-at t) item-check.Post
 item-check-enum-told-2 t c = search needs
@@ -414,11 +414,11 @@ item-check-add-inside t c =
     let c3 = c .before .before .before in
     let c4 = c3 .before in
     let c9 = c4 .before .before .before .before .before in
-    let c13 = c9 .before .before .before .before in
+    let c12 = c9 .before .before .before in
     omega (
       arith,
-      body-below _ _ _ _ (c9 .look .ensures) (c13 .pre .1 .0) (c4 .if2 .taken) _ _ (sym (c .before .c .given .1) ∙ c3 .select .ensures),
-      c13 .pre .1 .1,
+      body-below _ _ _ _ (c9 .look .ensures) (c12 .pre .1 .0) (c4 .if2 .taken) _ _ (sym (c .before .c .given .1) ∙ c3 .select .ensures),
+      c12 .pre .1 .1,
     )
 
 item-check-sub-item-check : (t : ℕ) → item-check-lts.Need-sub-item-check (item-check-calls t) (item-check-at t) item-check.Post
@@ -426,16 +426,16 @@ item-check-sub-item-check t c =
     let c3 = c .before .before .before in
     let c4 = c3 .before in
     let c9 = c4 .before .before .before .before .before in
-    let c13 = c9 .before .before .before .before in
-    omega (arith, body-below _ _ _ _ (c9 .look .ensures) (c13 .pre .1 .0) (c4 .if2 .taken) _ _ (sym (c .before .c .given .1) ∙ c3 .select .ensures))
+    let c12 = c9 .before .before .before in
+    omega (arith, body-below _ _ _ _ (c9 .look .ensures) (c12 .pre .1 .0) (c4 .if2 .taken) _ _ (sym (c .before .c .given .1) ∙ c3 .select .ensures))
 
 item-check-part-item-check-start : (t : ℕ) → item-check-lts.Need-part-item-check-start (item-check-calls t) (item-check-at t) item-check.Post
 item-check-part-item-check-start t c =
     let c3 = c .before .before .before in
     let c4 = c3 .before in
     let c9 = c4 .before .before .before .before .before in
-    let c13 = c9 .before .before .before .before in
-    omega (arith, body-below _ _ _ _ (c9 .look .ensures) (c13 .pre .1 .0) (c4 .if2 .taken) _ _ (sym (c .before .c .given .1) ∙ c3 .select .ensures))
+    let c12 = c9 .before .before .before in
+    omega (arith, body-below _ _ _ _ (c9 .look .ensures) (c12 .pre .1 .0) (c4 .if2 .taken) _ _ (sym (c .before .c .given .1) ∙ c3 .select .ensures))
 
 item-check-part-item-check-end : (t : ℕ) → item-check-lts.Need-part-item-check-end (item-check-calls t) (item-check-at t) item-check.Post
 item-check-part-item-check-end t c = omega arith
@@ -446,14 +446,14 @@ item-check-item-check-requires t c κs =
     let c4 = c2 .before .before in
     let c5 = c4 .before in
     let c10 = c5 .before .before .before .before .before in
-    let c14 = c10 .before .before .before .before in
-    let z = body-below _ _ _ _ (c10 .look .ensures) (c14 .pre .1 .0) (c5 .if2 .taken) _ _ (sym (c2 .c .given .1) ∙ c4 .select .ensures) in (
-      omega (arith, c14 .pre .0, z),
+    let c13 = c10 .before .before .before in
+    let z = body-below _ _ _ _ (c10 .look .ensures) (c13 .pre .1 .0) (c5 .if2 .taken) _ _ (sym (c2 .c .given .1) ∙ c4 .select .ensures) in (
+      omega (arith, c13 .pre .0, z),
       (
-        under-below _ _ _ _ (omega (arith, z)) (c14 .pre .1 .0),
+        under-below _ _ _ _ (omega (arith, z)) (c13 .pre .1 .0),
         simp (length-take, length-drop) (omega (
           arith,
-          c14 .pre
+          c13 .pre
               .1 .1,
           z,
         )),
@@ -466,10 +466,10 @@ item-check-with-selector-requires t c κs =
     let c5 = c3 .before .before in
     let c6 = c5 .before in
     let c11 = c6 .before .before .before .before .before in
-    let c15 = c11 .before .before .before .before in
-    let z = body-below _ _ _ _ (c11 .look .ensures) (c15 .pre .1 .0) (c6 .if2 .taken) _ _ (sym (c3 .c .given .1) ∙ c5 .select .ensures) in
-    λ d e. small-more d (item-small _ _ _ _ _ d (under-below _ _ _ _ (omega (arith, z)) (c15 .pre .1 .0)) (simp (length-take, length-drop) (omega
-    (arith, c15 .pre .1 .1, z))) (sym e ∙ c .item-check .ensures))
+    let c14 = c11 .before .before .before in
+    let z = body-below _ _ _ _ (c11 .look .ensures) (c14 .pre .1 .0) (c6 .if2 .taken) _ _ (sym (c3 .c .given .1) ∙ c5 .select .ensures) in
+    λ d e. small-more d (item-small _ _ _ _ _ d (under-below _ _ _ _ (omega (arith, z)) (c14 .pre .1 .0)) (simp (length-take, length-drop) (omega
+    (arith, c14 .pre .1 .1, z))) (sym e ∙ c .item-check .ensures))
 
 item-check-enum-known-c-2 : (t : ℕ) → item-check-lts.Need-enum-known-c-2 (item-check-calls t) (item-check-at t) item-check.Post
 item-check-enum-known-c-2 t c = search needs
@@ -482,8 +482,8 @@ item-check-returns t c =
     let c3 = c .before .before .before in
     let c4 = c3 .before in
     let c7 = c4 .before .before .before in
-    let c11 = c7 .before .before .before .before in
-    c .field-check .ensures ∙ container-on _ _ _ _ (c7 .look .ensures) (c11 .pre .1 .0) (c4 .if1 .taken) _ _ (sym (c .before .enum-told .given .1) ∙
+    let c10 = c7 .before .before .before in
+    c .field-check .ensures ∙ container-on _ _ _ _ (c7 .look .ensures) (c10 .pre .1 .0) (c4 .if1 .taken) _ _ (sym (c .before .enum-told .given .1) ∙
     c3 .container-told .ensures)
 
 item-check-returns-2 : (t : ℕ) → item-check-lts.Need-returns-2 (item-check-calls t) (item-check-at t) item-check.Post
@@ -491,16 +491,16 @@ item-check-returns-2 t c =
     let c3 = c .before .before .before in
     let c4 = c3 .before in
     let c7 = c4 .before .before .before in
-    let c11 = c7 .before .before .before .before in
-    container-stop _ _ _ _ (c7 .look .ensures) (c11 .pre .1 .0) (c4 .if1 .taken) _ _ _ (sym (c .before .told .given .1) ∙ c3 .container-told .ensures)
+    let c10 = c7 .before .before .before in
+    container-stop _ _ _ _ (c7 .look .ensures) (c10 .pre .1 .0) (c4 .if1 .taken) _ _ _ (sym (c .before .told .given .1) ∙ c3 .container-told .ensures)
 
 item-check-returns-3 : (t : ℕ) → item-check-lts.Need-returns-3 (item-check-calls t) (item-check-at t) item-check.Post
 item-check-returns-3 t c =
     let c3 = c .before .before .before in
     let c4 = c3 .before in
     let c9 = c4 .before .before .before .before .before in
-    let c13 = c9 .before .before .before .before in
-    c .leaf .ensures ∙ bare-read _ _ _ _ (c9 .look .ensures) (c13 .pre .1 .0) (c4 .if2 .taken) _ _ (sym (c .before .enum-told2 .given .1) ∙ c3
+    let c12 = c9 .before .before .before in
+    c .leaf .ensures ∙ bare-read _ _ _ _ (c9 .look .ensures) (c12 .pre .1 .0) (c4 .if2 .taken) _ _ (sym (c .before .enum-told2 .given .1) ∙ c3
     .select .ensures)
 
 item-check-returns-4 : (t : ℕ) → item-check-lts.Need-returns-4 (item-check-calls t) (item-check-at t) item-check.Post
@@ -509,8 +509,8 @@ item-check-returns-4 t c =
     let c6 = c4 .before .before in
     let c7 = c6 .before in
     let c12 = c7 .before .before .before .before .before in
-    let c16 = c12 .before .before .before .before in
-    c .with-selector .ensures ∙ ap (andThen (one 1 0)) (c .before .item-check .ensures) ∙ body-read _ _ _ _ (c12 .look .ensures) (c16 .pre .1 .0) (c7
+    let c15 = c12 .before .before .before in
+    c .with-selector .ensures ∙ ap (andThen (one 1 0)) (c .before .item-check .ensures) ∙ body-read _ _ _ _ (c12 .look .ensures) (c15 .pre .1 .0) (c7
     .if2 .taken) _ _ (sym (c4 .c .given .1) ∙ c6 .select .ensures) _
 
 item-check-returns-5 : (t : ℕ) → item-check-lts.Need-returns-5 (item-check-calls t) (item-check-at t) item-check.Post
@@ -518,8 +518,8 @@ item-check-returns-5 t c =
     let c3 = c .before .before .before in
     let c4 = c3 .before in
     let c9 = c4 .before .before .before .before .before in
-    let c13 = c9 .before .before .before .before in
-    wrong-read _ _ _ _ (c9 .look .ensures) (c13 .pre .1 .0) (c4 .if2 .taken) _ _ _ (sym (c .before .c2 .given .1) ∙ c3 .select .ensures)
+    let c12 = c9 .before .before .before in
+    wrong-read _ _ _ _ (c9 .look .ensures) (c12 .pre .1 .0) (c4 .if2 .taken) _ _ _ (sym (c .before .c2 .given .1) ∙ c3 .select .ensures)
 
 item-check-returns-6 : (t : ℕ) → item-check-lts.Need-returns-6 (item-check-calls t) (item-check-at t) item-check.Post
 item-check-returns-6 t c =
@@ -539,7 +539,7 @@ pub +field-check+field-item+item-check-spec : {M : Type 1} → statement M
     (field-check-look-requires t)
     (field-check-is-plain-requires t)
     (field-check-mul-k t)
-    (field-check-shared-slice-read-k t)
+    (field-check-element-copy-out-k t)
     (field-check-cast-k t)
     (field-check-one-more-requires t)
     (field-check-add-p t)

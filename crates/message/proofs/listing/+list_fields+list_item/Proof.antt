@@ -75,12 +75,12 @@ list-item-calls t = (
 list-fields-loop-holds : (t : ℕ) → list-fields-lts.Need-loop-holds (list-fields-calls t) (list-fields-at t) list-fields.Post list-fields-Inv-loop
     list-fields-μ-loop
 list-fields-loop-holds t c =
-    let c4 = c .before .before .before .before in
+    let c3 = c .before .before .before in
     record {
-      row = c4 .pre .1 .0;
-      ranges = c4 .pre .1 .2;
-      accepted = c4 .pre .1 .3;
-      room = c4 .pre .1 .4;
+      row = c3 .pre .1 .0;
+      ranges = c3 .pre .1 .2;
+      accepted = c3 .pre .1 .3;
+      room = c3 .pre .1 .4;
       done = [];
       stored = stored-none _ _ []
           refl;
@@ -102,12 +102,12 @@ list-fields-add-place : (t : ℕ) → list-fields-lts.Need-add-place (list-field
 list-fields-add-place t c =
     let c2 = c .before .before in
     let c3 = c2 .before in
-    let c8 = c3 .before .before .before .before .before in
+    let c7 = c3 .before .before .before .before in
     omega (
       arith,
       span-ok _ _ _ _ _ _ _ _ (c3 .loop .inv .row) (c2 .loop-test .taken) (c .before .word-at .ensures .0) (c3 .loop .inv .ranges) _ (c
           .locate .ensures),
-      c8 .pre .1 .1,
+      c7 .pre .1 .1,
     )
 
 list-fields-sub-list-item : (t : ℕ) → list-fields-lts.Need-sub-list-item (list-fields-calls t) (list-fields-at t) list-fields.Post
@@ -147,8 +147,8 @@ list-fields-list-item-requires t c κs =
     let c3 = c2 .before in
     let c4 = c3 .before in
     let c5 = c4 .before in
-    let c10 = c5 .before .before .before .before .before in (
-      omega (arith, row-below _ _ _ _ _ _ (c5 .loop .inv .row) (c4 .loop-test .taken) (c3 .word-at .ensures .0), c10 .pre .0),
+    let c9 = c5 .before .before .before .before in (
+      omega (arith, row-below _ _ _ _ _ _ (c5 .loop .inv .row) (c4 .loop-test .taken) (c3 .word-at .ensures .0), c9 .pre .0),
       (
         row-under _ _ _ _ _ _
             (c5 .loop .inv .row) (c4 .loop-test .taken) (c3 .word-at .ensures .0),
@@ -158,7 +158,7 @@ list-fields-list-item-requires t c κs =
               .taken) (c3 .word-at .ensures .0) (c5 .loop .inv .ranges) _ (c2 .locate .ensures),
           span-length _ _ _ _ _ _ _ _ (c5 .loop .inv .row) (c4
               .loop-test .taken) (c3 .word-at .ensures .0) (c5 .loop .inv .ranges) _ (c2 .locate .ensures),
-          c10 .pre .1 .1,
+          c9 .pre .1 .1,
         ),
         storing-accepted _ _ _ _ _ _ _ _ _
             _ _ _ _ _ _ (c5 .loop .inv) (c4 .loop-test .taken) (c3 .word-at .ensures .0) _ (c2 .locate .ensures),
@@ -199,43 +199,43 @@ list-fields-returns t c = storing-end _ _ _ _ _ _ _ _ _ _ _ _ _ _ (c .before .lo
 
 list-item-put-entry-requires : (t : ℕ) → list-item-lts.Need-put-entry-requires (list-item-calls t) (list-item-at t) list-item.Post
 list-item-put-entry-requires t c κs =
-    let c5 = c .before .before .before .before .before in
-    (room-long _ _ _ _ _ (c5 .pre .1 .3), c5 .pre .1 .1)
+    let c4 = c .before .before .before .before in
+    (room-long _ _ _ _ _ (c4 .pre .1 .3), c4 .pre .1 .1)
 
 list-item-add-next : (t : ℕ) → list-item-lts.Need-add-next (list-item-calls t) (list-item-at t) list-item.Post
 list-item-add-next t c =
-    let c8 = c .before .before .before .before .before .before .before .before in
-    omega (arith, room-long _ _ _ _ _ (c8 .pre .1 .3))
+    let c7 = c .before .before .before .before .before .before .before in
+    omega (arith, room-long _ _ _ _ _ (c7 .pre .1 .3))
 
 list-item-look-requires : (t : ℕ) → list-item-lts.Need-look-requires (list-item-calls t) (list-item-at t) list-item.Post
 list-item-look-requires t c κs = search needs
 
 list-item-add-first : (t : ℕ) → list-item-lts.Need-add-first (list-item-calls t) (list-item-at t) list-item.Post
 list-item-add-first t c =
-    let c10 = c .before .before .before .before .before .before .before .before .before .before in
-    omega (arith, node-ok _ _ _ _ (c .before .look .ensures) (c10 .pre .1 .0) .near)
+    let c9 = c .before .before .before .before .before .before .before .before .before in
+    omega (arith, node-ok _ _ _ _ (c .before .look .ensures) (c9 .pre .1 .0) .near)
 
 list-item-list-fields-requires : (t : ℕ) → list-item-lts.Need-list-fields-requires (list-item-calls t) (list-item-at t) list-item.Post
 list-item-list-fields-requires t c κs =
     let c4 = c .before .before .before .before in
     let c7 = c4 .before .before .before in
-    let c13 = c7 .before .before .before .before .before .before in
-    let k = container-accepted _ _ _ _ (c4 .look .ensures) (c13 .pre .1 .0) _ _ (c13 .pre .1 .2) (c .before .if1 .taken) in (
-      omega (arith, c13 .pre .0),
+    let c12 = c7 .before .before .before .before .before in
+    let k = container-accepted _ _ _ _ (c4 .look .ensures) (c12 .pre .1 .0) _ _ (c12 .pre .1 .2) (c .before .if1 .taken) in (
+      omega (arith, c12 .pre .0),
       (
-        container-row _ _ _ _ (c4 .look .ensures) (c13 .pre .1 .0) (c .before .if1 .taken),
-        c13 .pre .1 .1,
+        container-row _ _ _ _ (c4 .look .ensures) (c12 .pre .1 .0) (c .before .if1 .taken),
+        c12 .pre .1 .1,
         k .0,
         k .1,
-        room-then _ _ _ _ _ _ _ (c13 .pre .1 .3) (list-container _ _ _ (c4 .look .ensures) _ _ (c .before .if1 .taken)) (c7 .put-entry .ensures),
+        room-then _ _ _ _ _ _ _ (c12 .pre .1 .3) (list-container _ _ _ (c4 .look .ensures) _ _ (c .before .if1 .taken)) (c7 .put-entry .ensures),
       ),
     )
 
 list-item-select-requires : (t : ℕ) → list-item-lts.Need-select-requires (list-item-calls t) (list-item-at t) list-item.Post
 list-item-select-requires t c κs =
     let c5 = c .before .before .before .before .before in
-    let c14 = c5 .before .before .before .before .before .before .before .before .before in
-    omega (arith, node-ok _ _ _ _ (c5 .look .ensures) (c14 .pre .1 .0) .near)
+    let c13 = c5 .before .before .before .before .before .before .before .before in
+    omega (arith, node-ok _ _ _ _ (c5 .look .ensures) (c13 .pre .1 .0) .near)
 
 list-item-enum-told : (t : ℕ) → list-item-lts.Need-enum-told (list-item-calls t) (list-item-at t) list-item.Post
 list-item-enum-told t c = search needs
@@ -248,11 +248,11 @@ list-item-add-inside t c =
     let c3 = c .before .before .before in
     let c4 = c3 .before in
     let c9 = c4 .before .before .before .before .before in
-    let c18 = c9 .before .before .before .before .before .before .before .before .before in
+    let c17 = c9 .before .before .before .before .before .before .before .before in
     omega (
       arith,
-      body-below _ _ _ _ (c9 .look .ensures) (c18 .pre .1 .0) (c4 .if2 .taken) _ _ (sym (c .before .c .given .1) ∙ c3 .select .ensures),
-      c18 .pre .1 .1,
+      body-below _ _ _ _ (c9 .look .ensures) (c17 .pre .1 .0) (c4 .if2 .taken) _ _ (sym (c .before .c .given .1) ∙ c3 .select .ensures),
+      c17 .pre .1 .1,
     )
 
 list-item-sub-list-item : (t : ℕ) → list-item-lts.Need-sub-list-item (list-item-calls t) (list-item-at t) list-item.Post
@@ -261,8 +261,8 @@ list-item-sub-list-item t c =
     let c4 = c2 .before .before in
     let c5 = c4 .before in
     let c10 = c5 .before .before .before .before .before in
-    let c19 = c10 .before .before .before .before .before .before .before .before .before in
-    omega (arith, body-below _ _ _ _ (c10 .look .ensures) (c19 .pre .1 .0) (c5 .if2 .taken) _ _ (sym (c2 .c .given .1) ∙ c4 .select .ensures))
+    let c18 = c10 .before .before .before .before .before .before .before .before in
+    omega (arith, body-below _ _ _ _ (c10 .look .ensures) (c18 .pre .1 .0) (c5 .if2 .taken) _ _ (sym (c2 .c .given .1) ∙ c4 .select .ensures))
 
 list-item-part-list-item-start : (t : ℕ) → list-item-lts.Need-part-list-item-start (list-item-calls t) (list-item-at t) list-item.Post
 list-item-part-list-item-start t c =
@@ -270,8 +270,8 @@ list-item-part-list-item-start t c =
     let c4 = c2 .before .before in
     let c5 = c4 .before in
     let c10 = c5 .before .before .before .before .before in
-    let c19 = c10 .before .before .before .before .before .before .before .before .before in
-    omega (arith, body-below _ _ _ _ (c10 .look .ensures) (c19 .pre .1 .0) (c5 .if2 .taken) _ _ (sym (c2 .c .given .1) ∙ c4 .select .ensures))
+    let c18 = c10 .before .before .before .before .before .before .before .before in
+    omega (arith, body-below _ _ _ _ (c10 .look .ensures) (c18 .pre .1 .0) (c5 .if2 .taken) _ _ (sym (c2 .c .given .1) ∙ c4 .select .ensures))
 
 list-item-part-list-item-end : (t : ℕ) → list-item-lts.Need-part-list-item-end (list-item-calls t) (list-item-at t) list-item.Post
 list-item-part-list-item-end t c = omega arith
@@ -283,20 +283,20 @@ list-item-list-item-requires t c κs =
     let c6 = c5 .before in
     let c11 = c6 .before .before .before .before .before in
     let c14 = c11 .before .before .before in
-    let c20 = c14 .before .before .before .before .before .before in
-    let z = body-below _ _ _ _ (c11 .look .ensures) (c20 .pre .1 .0) (c6 .if2 .taken) _ _ (sym (c3 .c .given .1) ∙ c5 .select .ensures) in (
-      omega (arith, c20 .pre .0, z),
+    let c19 = c14 .before .before .before .before .before in
+    let z = body-below _ _ _ _ (c11 .look .ensures) (c19 .pre .1 .0) (c6 .if2 .taken) _ _ (sym (c3 .c .given .1) ∙ c5 .select .ensures) in (
+      omega (arith, c19 .pre .0, z),
       (
-        under-below _ _ _ _ (omega (arith, z)) (c20 .pre .1 .0),
+        under-below _ _ _ _ (omega (arith, z)) (c19 .pre .1 .0),
         simp (length-take, length-drop) (omega (
           arith,
-          c20 .pre
+          c19 .pre
               .1 .1,
           z,
         )),
-        body-accepted _ _ _ _ (c11 .look .ensures) (c20 .pre .1 .0) _ _ (c20 .pre .1 .2) (c6 .if2 .taken) _ (sym (c3 .c .given .1) ∙ c5
+        body-accepted _ _ _ _ (c11 .look .ensures) (c19 .pre .1 .0) _ _ (c19 .pre .1 .2) (c6 .if2 .taken) _ (sym (c3 .c .given .1) ∙ c5
             .select .ensures),
-        room-then _ _ _ _ _ _ _ (c20 .pre .1 .3) (union-body _ _ _ _ (c11 .look .ensures) (c20 .pre .1 .0) _ _ (c20 .pre .1 .2) (c6
+        room-then _ _ _ _ _ _ _ (c19 .pre .1 .3) (union-body _ _ _ _ (c11 .look .ensures) (c19 .pre .1 .0) _ _ (c19 .pre .1 .2) (c6
             .if2 .taken) _ (sym (c3 .c .given .1) ∙ c5 .select .ensures)) (c14 .put-entry .ensures),
       ),
     )
@@ -330,8 +330,8 @@ list-item-returns-2 t c =
     let c3 = c2 .before in
     let c8 = c3 .before .before .before .before .before in
     let c11 = c8 .before .before .before in
-    let c17 = c11 .before .before .before .before .before .before in
-    rw (union-bare _ _ _ _ (c8 .look .ensures) (c17 .pre .1 .0) _ _ (c17 .pre .1 .2) (c3 .if2 .taken) (sym (c .enum-told .given .1) ∙ c2 .select
+    let c16 = c11 .before .before .before .before .before in
+    rw (union-bare _ _ _ _ (c8 .look .ensures) (c16 .pre .1 .0) _ _ (c16 .pre .1 .2) (c3 .if2 .taken) (sym (c .enum-told .given .1) ∙ c2 .select
     .ensures)) (c11 .put-entry .ensures)
 
 list-item-same-length-3 : (t : ℕ) → list-item-lts.Need-same-length-3 (list-item-calls t) (list-item-at t) list-item.Post
@@ -348,9 +348,9 @@ list-item-returns-3 t c =
     let c9 = c8 .before in
     let c14 = c9 .before .before .before .before .before in
     let c17 = c14 .before .before .before in
-    let c23 = c17 .before .before .before .before .before .before in
-    stored-then _ _ _ _ _ _ _ _ _ (c17 .put-entry .ensures) (c2 .list-item .ensures) (union-body _ _ _ _ (c14 .look .ensures) (c23 .pre .1 .0) _ _
-    (c23 .pre .1 .2) (c9 .if2 .taken) _ (sym (c6 .c .given .1) ∙ c8 .select .ensures))
+    let c22 = c17 .before .before .before .before .before in
+    stored-then _ _ _ _ _ _ _ _ _ (c17 .put-entry .ensures) (c2 .list-item .ensures) (union-body _ _ _ _ (c14 .look .ensures) (c22 .pre .1 .0) _ _
+    (c22 .pre .1 .2) (c9 .if2 .taken) _ (sym (c6 .c .given .1) ∙ c8 .select .ensures))
 
 list-item-same-length-4 : (t : ℕ) → list-item-lts.Need-same-length-4 (list-item-calls t) (list-item-at t) list-item.Post
 list-item-same-length-4 t c =
@@ -362,8 +362,8 @@ list-item-returns-4 t c =
     let c2 = c .before .before in
     let c3 = c2 .before in
     let c8 = c3 .before .before .before .before .before in
-    let c17 = c8 .before .before .before .before .before .before .before .before .before in
-    union-never _ _ _ _ (c8 .look .ensures) (c17 .pre .1 .0) _ _ (c17 .pre .1 .2) (c3 .if2 .taken) _ (sym (c .enum-told2 .given .1) ∙ c2 .select
+    let c16 = c8 .before .before .before .before .before .before .before .before in
+    union-never _ _ _ _ (c8 .look .ensures) (c16 .pre .1 .0) _ _ (c16 .pre .1 .2) (c3 .if2 .taken) _ (sym (c .enum-told2 .given .1) ∙ c2 .select
     .ensures)
 
 list-item-same-length-5 : (t : ℕ) → list-item-lts.Need-same-length-5 (list-item-calls t) (list-item-at t) list-item.Post

@@ -94,12 +94,12 @@ unfold-item-calls t = (
 unfold-fields-loop-holds : (t : ℕ) → unfold-fields-lts.Need-loop-holds (unfold-fields-calls t) (unfold-fields-at t) unfold-fields.Post
     unfold-fields-Inv-loop unfold-fields-μ-loop
 unfold-fields-loop-holds t c =
-    let c5 = c .before .before .before .before .before in
+    let c4 = c .before .before .before .before in
     record {
-      row = c5 .pre .1 .0;
-      ranges = c5 .pre .1 .2;
-      accepted = c5 .pre .1 .3;
-      rooms = c5 .pre .1 .4;
+      row = c4 .pre .1 .0;
+      ranges = c4 .pre .1 .2;
+      accepted = c4 .pre .1 .3;
+      rooms = c4 .pre .1 .4;
       words = [];
       bytes = [];
       filled =
@@ -232,7 +232,7 @@ unfold-fields-unfold-leaf-requires t c κs =
     let c9 = c8 .before in
     let c10 = c9 .before in
     let c11 = c10 .before in
-    let c17 = c11 .before .before .before .before .before .before in
+    let c16 = c11 .before .before .before .before .before in
     let under = row-under _ _ _ _ _ _ (c11 .loop .inv .row) (c10 .loop-test .taken) (c9 .word-at .ensures .0) in
     let accepts = filling-accepts _ _ _ _ _ _ _ _ _ _ _ _ _ _ _ _ (c11 .loop .inv) (c10 .loop-test .taken) (c9 .word-at .ensures .0) _ (c8 .locate .ensures) in
     let six = below-six _ (c3 .if2 .taken) in (
@@ -241,7 +241,7 @@ unfold-fields-unfold-leaf-requires t c κs =
         arith,
         span-ok _ _ _ _ _ _ _ _ (c11 .loop .inv .row) (c10 .loop-test .taken) (c9 .word-at .ensures .0) (c11 .loop .inv .ranges) _ (c8 .locate .ensures),
         span-length _ _ _ _ _ _ _ _ (c11 .loop .inv .row) (c10 .loop-test .taken) (c9 .word-at .ensures .0) (c11 .loop .inv .ranges) _ (c8 .locate .ensures),
-        c17 .pre .1 .1,
+        c16 .pre .1 .1,
       ),
       leaf-accepts _ _ _ _ (c5 .look .ensures) under _ accepts (six .0) (six .1),
       leaf-rooms _ _ _ _ (c5 .look .ensures) under _ accepts (six .0) (six .1) _ _ _
@@ -286,15 +286,15 @@ unfold-fields-unfold-item-requires t c κs =
     let c9 = c8 .before in
     let c10 = c9 .before in
     let c11 = c10 .before in
-    let c17 = c11 .before .before .before .before .before .before in (
-      omega (arith, row-below _ _ _ _ _ _ (c11 .loop .inv .row) (c10 .loop-test .taken) (c9 .word-at .ensures .0), c17 .pre .0),
+    let c16 = c11 .before .before .before .before .before in (
+      omega (arith, row-below _ _ _ _ _ _ (c11 .loop .inv .row) (c10 .loop-test .taken) (c9 .word-at .ensures .0), c16 .pre .0),
       (
         row-under _ _ _ _ _ _ (c11 .loop .inv .row) (c10 .loop-test .taken) (c9 .word-at .ensures .0),
         omega (
           arith,
           span-ok _ _ _ _ _ _ _ _ (c11 .loop .inv .row) (c10 .loop-test .taken) (c9 .word-at .ensures .0) (c11 .loop .inv .ranges) _ (c8 .locate .ensures),
           span-length _ _ _ _ _ _ _ _ (c11 .loop .inv .row) (c10 .loop-test .taken) (c9 .word-at .ensures .0) (c11 .loop .inv .ranges) _ (c8 .locate .ensures),
-          c17 .pre .1 .1,
+          c16 .pre .1 .1,
         ),
         filling-accepts _ _ _ _ _ _ _ _ _ _ _ _ _ _ _ _ (c11 .loop .inv) (c10 .loop-test .taken) (c9 .word-at .ensures .0) _ (c8 .locate .ensures),
         filling-rooms _ _ _ _ _ _ _ _ _ _ _ _ _ _ _ _ (c11 .loop .inv) (c10 .loop-test .taken) (c9 .word-at .ensures .0) _ (c8 .locate .ensures),
@@ -354,30 +354,30 @@ unfold-item-look-requires t c κs = search needs
 
 unfold-item-add-first : (t : ℕ) → unfold-item-lts.Need-add-first (unfold-item-calls t) (unfold-item-at t) unfold-item.Post
 unfold-item-add-first t c =
-    let c7 = c .before .before .before .before .before .before .before in
-    omega (arith, node-ok _ _ _ _ (c .before .look .ensures) (c7 .pre .1 .0) .near)
+    let c6 = c .before .before .before .before .before .before in
+    omega (arith, node-ok _ _ _ _ (c .before .look .ensures) (c6 .pre .1 .0) .near)
 
 unfold-item-unfold-fields-requires : (t : ℕ) → unfold-item-lts.Need-unfold-fields-requires (unfold-item-calls t) (unfold-item-at t) unfold-item.Post
 unfold-item-unfold-fields-requires t c κs =
     let c2 = c .before .before in
     let c5 = c2 .before .before .before in
-    let c11 = c5 .before .before .before .before .before .before in
-    let k = fields-accepts _ _ _ _ (c5 .look .ensures) (c11 .pre .1 .0) _ (c11 .pre .1 .2) (c2 .if1 .taken) in (
-      omega (arith, c11 .pre .0),
+    let c10 = c5 .before .before .before .before .before in
+    let k = fields-accepts _ _ _ _ (c5 .look .ensures) (c10 .pre .1 .0) _ (c10 .pre .1 .2) (c2 .if1 .taken) in (
+      omega (arith, c10 .pre .0),
       (
-        container-row _ _ _ _ (c5 .look .ensures) (c11 .pre .1 .0) (c2 .if1 .taken),
-        c11 .pre .1 .1,
+        container-row _ _ _ _ (c5 .look .ensures) (c10 .pre .1 .0) (c2 .if1 .taken),
+        c10 .pre .1 .1,
         k .0,
         k .1,
-        container-rooms _ _ _ _ (c5 .look .ensures) (c11 .pre .1 .0) _ (c11 .pre .1 .2) (c2 .if1 .taken) _ _ _ (c11 .pre .1 .3),
+        container-rooms _ _ _ _ (c5 .look .ensures) (c10 .pre .1 .0) _ (c10 .pre .1 .2) (c2 .if1 .taken) _ _ _ (c10 .pre .1 .3),
       ),
     )
 
 unfold-item-select-requires : (t : ℕ) → unfold-item-lts.Need-select-requires (unfold-item-calls t) (unfold-item-at t) unfold-item.Post
 unfold-item-select-requires t c κs =
     let c5 = c .before .before .before .before .before in
-    let c11 = c5 .before .before .before .before .before .before in
-    omega (arith, node-ok _ _ _ _ (c5 .look .ensures) (c11 .pre .1 .0) .near)
+    let c10 = c5 .before .before .before .before .before in
+    omega (arith, node-ok _ _ _ _ (c5 .look .ensures) (c10 .pre .1 .0) .near)
 
 unfold-item-enum-told : (t : ℕ) → unfold-item-lts.Need-enum-told (unfold-item-calls t) (unfold-item-at t) unfold-item.Post
 unfold-item-enum-told t c = search needs
@@ -386,10 +386,10 @@ unfold-item-put-selector-requires : (t : ℕ) → unfold-item-lts.Need-put-selec
 unfold-item-put-selector-requires t c κs =
     let c4 = c .before .before .before .before in
     let c9 = c4 .before .before .before .before .before in
-    let c15 = c9 .before .before .before .before .before .before in (
-      union-room _ _ _ _ (c9 .look .ensures) (c15 .pre .1 .0) _ (c15 .pre .1 .2) (c4 .if2 .taken) _ _ _ (c15 .pre .1 .3),
+    let c14 = c9 .before .before .before .before .before in (
+      union-room _ _ _ _ (c9 .look .ensures) (c14 .pre .1 .0) _ (c14 .pre .1 .2) (c4 .if2 .taken) _ _ _ (c14 .pre .1 .3),
       union-long _ _ _ _
-          (c9 .look .ensures) (c15 .pre .1 .0) _ (c15 .pre .1 .2) (c4 .if2 .taken),
+          (c9 .look .ensures) (c14 .pre .1 .0) _ (c14 .pre .1 .2) (c4 .if2 .taken),
     )
 
 unfold-item-enum-known-c : (t : ℕ) → unfold-item-lts.Need-enum-known-c (unfold-item-calls t) (unfold-item-at t) unfold-item.Post
@@ -399,10 +399,10 @@ unfold-item-put-selector-requires-2 : (t : ℕ) → unfold-item-lts.Need-put-sel
 unfold-item-put-selector-requires-2 t c κs =
     let c5 = c .before .before .before .before .before in
     let c10 = c5 .before .before .before .before .before in
-    let c16 = c10 .before .before .before .before .before .before in (
-      union-room _ _ _ _ (c10 .look .ensures) (c16 .pre .1 .0) _ (c16 .pre .1 .2) (c5 .if2 .taken) _ _ _ (c16 .pre .1 .3),
+    let c15 = c10 .before .before .before .before .before in (
+      union-room _ _ _ _ (c10 .look .ensures) (c15 .pre .1 .0) _ (c15 .pre .1 .2) (c5 .if2 .taken) _ _ _ (c15 .pre .1 .3),
       union-long _ _ _ _
-          (c10 .look .ensures) (c16 .pre .1 .0) _ (c16 .pre .1 .2) (c5 .if2 .taken),
+          (c10 .look .ensures) (c15 .pre .1 .0) _ (c15 .pre .1 .2) (c5 .if2 .taken),
     )
 
 unfold-item-sub-unfold-item : (t : ℕ) → unfold-item-lts.Need-sub-unfold-item (unfold-item-calls t) (unfold-item-at t) unfold-item.Post
@@ -411,8 +411,8 @@ unfold-item-sub-unfold-item t c =
     let c9 = c7 .before .before in
     let c10 = c9 .before in
     let c15 = c10 .before .before .before .before .before in
-    let c21 = c15 .before .before .before .before .before .before in
-    omega (arith, body-below _ _ _ _ (c15 .look .ensures) (c21 .pre .1 .0) (c10 .if2 .taken) _ _ (sym (c7 .c .given .1) ∙ c9 .select .ensures))
+    let c20 = c15 .before .before .before .before .before in
+    omega (arith, body-below _ _ _ _ (c15 .look .ensures) (c20 .pre .1 .0) (c10 .if2 .taken) _ _ (sym (c7 .c .given .1) ∙ c9 .select .ensures))
 
 unfold-item-part-unfold-item-start : (t : ℕ) → unfold-item-lts.Need-part-unfold-item-start (unfold-item-calls t) (unfold-item-at t) unfold-item.Post
 unfold-item-part-unfold-item-start t c =
@@ -420,8 +420,8 @@ unfold-item-part-unfold-item-start t c =
     let c9 = c7 .before .before in
     let c10 = c9 .before in
     let c15 = c10 .before .before .before .before .before in
-    let c21 = c15 .before .before .before .before .before .before in
-    omega (arith, body-below _ _ _ _ (c15 .look .ensures) (c21 .pre .1 .0) (c10 .if2 .taken) _ _ (sym (c7 .c .given .1) ∙ c9 .select .ensures))
+    let c20 = c15 .before .before .before .before .before in
+    omega (arith, body-below _ _ _ _ (c15 .look .ensures) (c20 .pre .1 .0) (c10 .if2 .taken) _ _ (sym (c7 .c .given .1) ∙ c9 .select .ensures))
 
 unfold-item-part-unfold-item-end : (t : ℕ) → unfold-item-lts.Need-part-unfold-item-end (unfold-item-calls t) (unfold-item-at t) unfold-item.Post
 unfold-item-part-unfold-item-end t c = omega arith
@@ -433,18 +433,18 @@ unfold-item-unfold-item-requires t c κs =
     let c10 = c8 .before .before in
     let c11 = c10 .before in
     let c16 = c11 .before .before .before .before .before in
-    let c22 = c16 .before .before .before .before .before .before in
-    let z = body-below _ _ _ _ (c16 .look .ensures) (c22 .pre .1 .0) (c11 .if2 .taken) _ _ (sym (c8 .c .given .1) ∙ c10 .select .ensures) in (
-      omega (arith, c22 .pre .0, z),
+    let c21 = c16 .before .before .before .before .before in
+    let z = body-below _ _ _ _ (c16 .look .ensures) (c21 .pre .1 .0) (c11 .if2 .taken) _ _ (sym (c8 .c .given .1) ∙ c10 .select .ensures) in (
+      omega (arith, c21 .pre .0, z),
       (
-        under-below _ _ _ _ (omega (arith, z)) (c22 .pre .1 .0),
+        under-below _ _ _ _ (omega (arith, z)) (c21 .pre .1 .0),
         simp (length-take, length-drop)
-            (omega (arith, c22 .pre .1 .1, z)),
-        body-accepts _ _ _ _ (c16 .look .ensures) (c22 .pre .1 .0) _ (c22 .pre .1 .2) (c11 .if2 .taken) _
+            (omega (arith, c21 .pre .1 .1, z)),
+        body-accepts _ _ _ _ (c16 .look .ensures) (c21 .pre .1 .0) _ (c21 .pre .1 .2) (c11 .if2 .taken) _
             (sym (c8 .c .given .1) ∙ c10 .select .ensures),
-        rooms-then _ _ _ _ _ _ _ _ _ _ _ _ (c22 .pre .1 .3)
-            (body-words _ _ _ _ (c16 .look .ensures) (c22 .pre .1 .0) _ (c22 .pre .1 .2) (c11 .if2 .taken) _
-            (sym (c8 .c .given .1) ∙ c10 .select .ensures)) (body-bytes _ _ _ _ (c16 .look .ensures) (c22 .pre .1 .0) _ (c22 .pre .1 .2)
+        rooms-then _ _ _ _ _ _ _ _ _ _ _ _ (c21 .pre .1 .3)
+            (body-words _ _ _ _ (c16 .look .ensures) (c21 .pre .1 .0) _ (c21 .pre .1 .2) (c11 .if2 .taken) _
+            (sym (c8 .c .given .1) ∙ c10 .select .ensures)) (body-bytes _ _ _ _ (c16 .look .ensures) (c21 .pre .1 .0) _ (c21 .pre .1 .2)
             (c11 .if2 .taken) _ (sym (c8 .c .given .1) ∙ c10 .select .ensures))
             (selector-filled _ _ _ _ _ _ (c5 .put-selector2 .ensures .0) (c5 .put-selector2 .ensures .1)),
       ),
@@ -458,13 +458,13 @@ unfold-item-unfold-leaf-requires t c κs =
     let c2 = c .before .before in
     let c4 = c2 .before .before in
     let c7 = c4 .before .before .before in
-    let c13 = c7 .before .before .before .before .before .before in (
-      node-ok _ _ _ _ (c7 .look .ensures) (c13 .pre .1 .0) .small,
-      c13 .pre .1 .1,
-      leaf-accepts _ _ _ _ (c7 .look .ensures) (c13 .pre .1 .0) _
-          (c13 .pre .1 .2) (c4 .if1 .left) (c2 .if2 .left),
-      leaf-rooms _ _ _ _ (c7 .look .ensures) (c13 .pre .1 .0) _ (c13 .pre .1 .2) (c4 .if1 .left)
-          (c2 .if2 .left) _ _ _ (c13 .pre .1 .3),
+    let c12 = c7 .before .before .before .before .before in (
+      node-ok _ _ _ _ (c7 .look .ensures) (c12 .pre .1 .0) .small,
+      c12 .pre .1 .1,
+      leaf-accepts _ _ _ _ (c7 .look .ensures) (c12 .pre .1 .0) _
+          (c12 .pre .1 .2) (c4 .if1 .left) (c2 .if2 .left),
+      leaf-rooms _ _ _ _ (c7 .look .ensures) (c12 .pre .1 .0) _ (c12 .pre .1 .2) (c4 .if1 .left)
+          (c2 .if2 .left) _ _ _ (c12 .pre .1 .3),
     )
 
 unfold-item-same-length : (t : ℕ) → unfold-item-lts.Need-same-length (unfold-item-calls t) (unfold-item-at t) unfold-item.Post
@@ -482,8 +482,8 @@ unfold-item-returns t c =
     let c4 = c .before .before .before .before in
     let c7 = c4 .before .before .before in
     let c10 = c7 .before .before .before in
-    let c16 = c10 .before .before .before .before .before .before in
-    container-filled _ _ _ _ (c10 .look .ensures) (c16 .pre .1 .0) _ (c16 .pre .1 .2) (c7 .if1 .taken) _ _ _ _ _ _ (c4 .unfold-fields .ensures)
+    let c15 = c10 .before .before .before .before .before in
+    container-filled _ _ _ _ (c10 .look .ensures) (c15 .pre .1 .0) _ (c15 .pre .1 .2) (c7 .if1 .taken) _ _ _ _ _ _ (c4 .unfold-fields .ensures)
 
 unfold-item-same-length-3 : (t : ℕ) → unfold-item-lts.Need-same-length-3 (unfold-item-calls t) (unfold-item-at t) unfold-item.Post
 unfold-item-same-length-3 t c =
@@ -497,8 +497,8 @@ unfold-item-returns-2 t c =
     let c6 = c4 .before .before in
     let c7 = c6 .before in
     let c12 = c7 .before .before .before .before .before in
-    let c18 = c12 .before .before .before .before .before .before in
-    bare-filled _ _ _ _ (c12 .look .ensures) (c18 .pre .1 .0) _ (c18 .pre .1 .2) (c7 .if2 .taken) (sym (c4 .enum-told .given .1) ∙ c6 .select .ensures) _ _ _
+    let c17 = c12 .before .before .before .before .before in
+    bare-filled _ _ _ _ (c12 .look .ensures) (c17 .pre .1 .0) _ (c17 .pre .1 .2) (c7 .if2 .taken) (sym (c4 .enum-told .given .1) ∙ c6 .select .ensures) _ _ _
     _ _ _ (selector-filled _ _ _ _ _ _ (c2 .put-selector .ensures .0) (c2 .put-selector .ensures .1))
 
 unfold-item-same-length-4 : (t : ℕ) → unfold-item-lts.Need-same-length-4 (unfold-item-calls t) (unfold-item-at t) unfold-item.Post
@@ -520,19 +520,19 @@ unfold-item-returns-3 t c =
     let c15 = c13 .before .before in
     let c16 = c15 .before in
     let c21 = c16 .before .before .before .before .before in
-    let c27 = c21 .before .before .before .before .before .before in
+    let c26 = c21 .before .before .before .before .before in
     filled-then _ _ _ _ _ _ _ _ _ _ _ _ _ _ _ (selector-filled _ _ _ _ _ _ (c10 .put-selector2 .ensures .0) (c10 .put-selector2 .ensures .1))
     (c4 .unfold-item .ensures)
-    (body-words _ _ _ _ (c21 .look .ensures) (c27 .pre .1 .0) _ (c27 .pre .1 .2) (c16 .if2 .taken) _ (sym (c13 .c .given .1) ∙ c15 .select .ensures))
-    (body-bytes _ _ _ _ (c21 .look .ensures) (c27 .pre .1 .0) _ (c27 .pre .1 .2) (c16 .if2 .taken) _ (sym (c13 .c .given .1) ∙ c15 .select .ensures))
+    (body-words _ _ _ _ (c21 .look .ensures) (c26 .pre .1 .0) _ (c26 .pre .1 .2) (c16 .if2 .taken) _ (sym (c13 .c .given .1) ∙ c15 .select .ensures))
+    (body-bytes _ _ _ _ (c21 .look .ensures) (c26 .pre .1 .0) _ (c26 .pre .1 .2) (c16 .if2 .taken) _ (sym (c13 .c .given .1) ∙ c15 .select .ensures))
 
 unfold-item-returns-4 : (t : ℕ) → unfold-item-lts.Need-returns-4 (unfold-item-calls t) (unfold-item-at t) unfold-item.Post
 unfold-item-returns-4 t c =
     let c2 = c .before .before in
     let c3 = c2 .before in
     let c8 = c3 .before .before .before .before .before in
-    let c14 = c8 .before .before .before .before .before .before in
-    never _ _ _ _ (c8 .look .ensures) (c14 .pre .1 .0) _ (c14 .pre .1 .2) (c3 .if2 .taken) _ (sym (c .enum-told2 .given .1) ∙ c2 .select .ensures)
+    let c13 = c8 .before .before .before .before .before in
+    never _ _ _ _ (c8 .look .ensures) (c13 .pre .1 .0) _ (c13 .pre .1 .2) (c3 .if2 .taken) _ (sym (c .enum-told2 .given .1) ∙ c2 .select .ensures)
 
 unfold-item-same-length-6 : (t : ℕ) → unfold-item-lts.Need-same-length-6 (unfold-item-calls t) (unfold-item-at t) unfold-item.Post
 unfold-item-same-length-6 t c =
@@ -550,8 +550,8 @@ unfold-item-returns-5 t c =
     let c7 = c4 .before .before .before in
     let c9 = c7 .before .before in
     let c12 = c9 .before .before .before in
-    let c18 = c12 .before .before .before .before .before .before in
-    leaf-filled _ _ _ _ (c12 .look .ensures) (c18 .pre .1 .0) _ (c18 .pre .1 .2) (c9 .if1 .left) (c7 .if2 .left) _ _ _ _ _ _ (c4 .unfold-leaf .ensures)
+    let c17 = c12 .before .before .before .before .before in
+    leaf-filled _ _ _ _ (c12 .look .ensures) (c17 .pre .1 .0) _ (c17 .pre .1 .2) (c9 .if1 .left) (c7 .if2 .left) _ _ _ _ _ _ (c4 .unfold-leaf .ensures)
 
 pub +unfold-fields+unfold-item-spec : {M : Type 1} → statement M
 +unfold-fields+unfold-item-spec = close μ-unfold-fields μ-unfold-item (λ t. unfold-fields-lts.spec (unfold-fields-calls t)
