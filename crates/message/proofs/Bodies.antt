@@ -12,7 +12,7 @@ use lib.Seq.{take-all}
 use lib.Dec.{eqb, leb, ltb}
 use Rattle.standard.specs.Choice.{pick}
 use Rattle.standard.specs.Bytes.{wordAt}
-use Rattle.standard.specs.Types.{Ty, Tys, Opts, number, boolean, fixedBytes, container, union, end, field, over, bare, body, head, heads}
+use Rattle.standard.specs.Types.{Ty, Tys, Opts, number, boolean, fixedBytes, freeBytes, container, union, end, field, over, bare, body, head, heads}
 use Rattle.standard.specs.Parts.{spanOf, part, InRange}
 use Rattle.standard.specs.declared.Head.{Head}
 use Rattle.standard.specs.declared.Head.the-variants.{Fixed}
@@ -86,6 +86,10 @@ module _ (l : List ℕ) (f : ℕ) (n : Node) (e : n ≡ nodeOf l f) where
   as-fixed-bytes : n .kind ≡ 2 → treeOf l f ≡ fixedBytes f (n .second)
   unfolding leafOf
   as-fixed-bytes h = as-leaf l f n e (λ (q : n .kind ≡ 6). omega arith) (λ (q : n .kind ≡ 7). omega arith) ∙ rw h
+
+  pub as-free : n .kind ≡ 3 → treeOf l f ≡ freeBytes f (n .second)
+  unfolding leafOf
+  as-free h = as-leaf l f n e (λ (q : n .kind ≡ 6). omega arith) (λ (q : n .kind ≡ 7). omega arith) ∙ rw h
 
   plain-type : isPlain (n .kind) ≡ true → (head (treeOf l f) ≡ Fixed (n .second)) ×
       ((b : List ℕ) (s : ℕ) → readItem (treeOf l f) b s ≡ readExact (n .second) f b s)

@@ -268,16 +268,19 @@ pub(crate) fn item_check(
     }
 }
 
-// Checks the item b of a field whose type t has the words n: a leaf needs no second look at the table.
+// Checks the item b of a field whose type t has the words n: a leaf needs no second look at the table, and free bytes, the most common of
+// variable size, not even a call.
 fn field_item(lens: &[u32; 64], layout: &[u8], n: Node, t: usize, b: &[u8], start: usize) -> Answer
     requires { ⌜ Under (now lens) (now layout) (t + 1) × (start + length (now b) < 2 ^ 32) × (n ≡ nodeOf (now layout) t) ⌝ }
     ensures { λ r. ⌜ r ≡ readItem (treeOf (now (layout .entry)) t) (now (b .entry)) start ⌝ }
 {
-    if n.kind < 6 {
-        leaf_check(n, t, b, start)
-    } else {
-        item_check(lens, layout, t, b, start)
+    if n.kind == 3 {
+        return free_check(n.second, t, b, start);
     }
+    if n.kind < 6 {
+        return leaf_check(n, t, b, start);
+    }
+    item_check(lens, layout, t, b, start)
 }
 
 // Checks the n fields of type t that the words from a0 on name, and counts them with their container.

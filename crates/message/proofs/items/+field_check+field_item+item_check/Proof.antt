@@ -10,7 +10,7 @@ use Rattle.message.specs.Read.{one, andThen}
 use Rattle.message.proofs.Rows.{row-below, row-few, row-small, row-under, under-below}
 use Rattle.message.proofs.Bodies.{Reading, reading-small, reading-span, reading-item, plain-fits, plain-next, reading-next, reading-stop, reading-end}
 use Rattle.message.proofs.Bodies.{item-small, small-more, node-ok, container-row, container-on, container-stop}
-use Rattle.message.proofs.Bodies.{bare-read, wrong-read, body-below, body-read}
+use Rattle.message.proofs.Bodies.{as-free, bare-read, wrong-read, body-below, body-read}
 use Prim.Native.Nat.{ℕ, _<_}
 use borrow.Fn.Kinds.{In}
 use borrow.Fn.PlainCycle.{Measures, is, falls, and}
@@ -27,6 +27,7 @@ use Rattle.layout.proofs.look.Reads as look-reads
 use Rattle.message.proofs.fields.container_told.Reads as container-told-reads
 use Rattle.message.proofs.fields.locate.Reads as locate-reads
 use Rattle.message.proofs.items.add.Reads as add-reads
+use Rattle.message.proofs.items.free_check.Reads as free-check-reads
 use Rattle.message.proofs.items.is_plain.Reads as is-plain-reads
 use Rattle.message.proofs.items.leaf.Reads as leaf-reads
 use Rattle.message.proofs.items.leaf_check.Reads as leaf-check-reads
@@ -97,7 +98,7 @@ field-check-calls t = (
 
 -- what `field_item` calls, at the measure t
 abbrev field-item-calls : ℕ → field-item-lts.Claims
-field-item-calls t = (leaf-check-reads.Asked, leaf-check-reads.Learnt, item-check-below t, item-check.Post)
+field-item-calls t = (free-check-reads.Asked, free-check-reads.Learnt, leaf-check-reads.Asked, leaf-check-reads.Learnt, item-check-below t, item-check.Post)
 
 -- what `item_check` calls, at the measure t
 abbrev item-check-calls : ℕ → item-check-lts.Claims
@@ -339,22 +340,31 @@ field-check-returns-2 : (t : ℕ) → field-check-lts.Need-returns-2 (field-chec
     field-check-Inv-loop field-check-μ-loop
 field-check-returns-2 t c = reading-end _ _ _ _ _ _ _ _ _ _ _ (c .before .loop .inv) (c .loop-test .left)
 
-field-item-leaf-check-requires : (t : ℕ) → field-item-lts.Need-leaf-check-requires (field-item-calls t) (field-item-at t) field-item.Post
-field-item-leaf-check-requires t c κs = search needs
-
-field-item-item-check-requires : (t : ℕ) → field-item-lts.Need-item-check-requires (field-item-calls t) (field-item-at t) field-item.Post
-field-item-item-check-requires t c κs =
-    let c4 = c .before .before .before .before in
-    (omega (arith, c4 .pre .0), (c4 .pre .1 .0, c4 .pre .1 .1))
+field-item-free-check-requires : (t : ℕ) → field-item-lts.Need-free-check-requires (field-item-calls t) (field-item-at t) field-item.Post
+field-item-free-check-requires t c κs = search needs
 
 field-item-returns : (t : ℕ) → field-item-lts.Need-returns (field-item-calls t) (field-item-at t) field-item.Post
 field-item-returns t c =
     let c1 = c .before in
     let c5 = c1 .before .before .before .before in
-    rw (as-leaf _ _ _ (c5 .pre .1 .2) (λ (q : _ ≡ 6). omega (arith, c1 .if1 .taken)) (λ (q : _ ≡ 7). omega (arith, c1 .if1 .taken))) (c .leaf-check .ensures)
+    rw (as-free _ _ _ (c5 .pre .1 .2) (c1 .if1 .taken)) (c .free-check .ensures)
+
+field-item-leaf-check-requires : (t : ℕ) → field-item-lts.Need-leaf-check-requires (field-item-calls t) (field-item-at t) field-item.Post
+field-item-leaf-check-requires t c κs = search needs
 
 field-item-returns-2 : (t : ℕ) → field-item-lts.Need-returns-2 (field-item-calls t) (field-item-at t) field-item.Post
-field-item-returns-2 t c = c .item-check .ensures
+field-item-returns-2 t c =
+    let c1 = c .before in
+    let c7 = c1 .before .before .before .before .before .before in
+    rw (as-leaf _ _ _ (c7 .pre .1 .2) (λ (q : _ ≡ 6). omega (arith, c1 .if2 .taken)) (λ (q : _ ≡ 7). omega (arith, c1 .if2 .taken))) (c .leaf-check .ensures)
+
+field-item-item-check-requires : (t : ℕ) → field-item-lts.Need-item-check-requires (field-item-calls t) (field-item-at t) field-item.Post
+field-item-item-check-requires t c κs =
+    let c6 = c .before .before .before .before .before .before in
+    (omega (arith, c6 .pre .0), (c6 .pre .1 .0, c6 .pre .1 .1))
+
+field-item-returns-3 : (t : ℕ) → field-item-lts.Need-returns-3 (field-item-calls t) (field-item-at t) field-item.Post
+field-item-returns-3 t c = c .item-check .ensures
 
 item-check-look-requires : (t : ℕ) → item-check-lts.Need-look-requires (item-check-calls t) (item-check-at t) item-check.Post
 item-check-look-requires t c κs = search needs
@@ -565,10 +575,12 @@ pub +field-check+field-item+item-check-spec : {M : Type 1} → statement M
     (λ t. field-item-lts.spec (field-item-calls t)
     (field-item-at t)
     field-item.Post
-    (field-item-leaf-check-requires t)
-    (field-item-item-check-requires t)
+    (field-item-free-check-requires t)
     (field-item-returns t)
-    (field-item-returns-2 t))
+    (field-item-leaf-check-requires t)
+    (field-item-returns-2 t)
+    (field-item-item-check-requires t)
+    (field-item-returns-3 t))
     λ t. item-check-lts.spec (item-check-calls t)
     (item-check-at t)
     item-check.Post
