@@ -13,8 +13,8 @@ use lib.Dec.{eqb}
 use lib.Pow.{pow-pos, pow-add}
 use lib.ListN.{length, getD, set, take, drop, replicate, take-append-drop, length-drop}
 use lib.Seq.{take-suc, drop-cons, append-snoc, set-at, length-take-le, drop-length, drop-drop}
-use Rattle.standard.specs.Bytes.{Bytes, le, num, numAt, four, wordAt}
-use Rattle.standard.proofs.Bytes.{word-there, num-bound, bytes-take}
+use Rattle.standard.specs.Bytes.{Bytes, le, num, numAt, four}
+use Rattle.standard.proofs.Bytes.{num-bound, bytes-take}
 use Rattle.standard.proofs.Bits.{pow-bytes, num-append}
 use Rattle.bitfield.specs.Raw.{zipped, firsts, Raw}
 use Rattle.bitfield.specs.Facts.{Word}
@@ -64,6 +64,9 @@ or-none a b e =
     let r = and-le-r a b in
     (omega arith, omega arith)
 
+or-zero : (a b : ℕ) → a ≡ 0 → b ≡ 0 → bitOr a b ≡ 0
+or-zero a b p q = let s = or-add-and a b in omega arith
+
 -- What a loop that gathers by "or" knows at i: nothing was set exactly if nothing is set in all.
 pub record Gathered (l : List ℕ) (from acc i : ℕ) : Type 0 where
   pub all : acc ≡ 0 → num (drop i l) ≡ 0 → num (drop from l) ≡ 0
@@ -82,24 +85,86 @@ gathered-next l from acc i x w g =
       none = λ (z : num (drop from l) ≡ 0).
           let k = g .none z in
           let y : x ≡ 0 = omega arith in
-          (ors (k .0) y, omega arith);
+          (or-zero acc x (k .0) y, omega arith);
     }
-  where
-    ors : acc ≡ 0 → x ≡ 0 → bitOr acc x ≡ 0
-    ors a y = let s = or-add-and acc x in omega arith
+
+-- Two numbers of which neither is zero alone
+zero-both : (a n : ℕ) → (a ≡ 0 → n ≡ 0) → (n ≡ 0 → a ≡ 0) → eqb a 0 ≡ eqb n 0
+zero-both zero n f g = sym (eq-eqb n 0 (f refl))
+zero-both (suc a) n f g = ne-eqb (suc a) 0 (λ (e : suc a ≡ 0). omega arith) ∙ sym (ne-eqb n 0 (λ (e : n ≡ 0). let k = g e in omega arith))
+
+nothing-left : (l : List ℕ) (m : ℕ) → m ≡ length l → num (drop m l) ≡ 0
+unfolding num
+nothing-left l m e = rw e (ap num (drop-length l))
 
 pub gathered-end : (l : List ℕ) (from acc : ℕ) → Gathered l from acc (length l) → eqb acc 0 ≡ eqb (num (drop from l)) 0
-unfolding num
-gathered-end l from acc g = cases acc g
-  where
-    ends : num (drop (length l) l) ≡ 0
-    ends = ap num (drop-length l)
+gathered-end l from acc g =
+    zero-both acc _ (λ (a : acc ≡ 0). g .all a (nothing-left l (length l) refl)) (λ (z : num (drop from l) ≡ 0). g .none z .0)
 
-    cases : (a : ℕ) → Gathered l from a (length l) → eqb a 0 ≡ eqb (num (drop from l)) 0
-    cases zero g = sym (eq-eqb (num (drop from l)) 0 (g .all refl ends))
-    cases (suc a) g =
-        ne-eqb (suc a) 0 (λ (e : suc a ≡ 0). omega arith)
-        ∙ sym (ne-eqb (num (drop from l)) 0 (λ (e : num (drop from l) ≡ 0). let k = g .none e .0 in omega arith))
+-- One byte, and those behind it
+pub byte-drop : (l : List ℕ) (i : ℕ) → i < length l → num (drop i l) ≡ getD l i 0 + 256 * num (drop (i + 1) l)
+unfolding num
+byte-drop l i h = rw (drop-cons l i 0 h, add-one i)
+
+-- Where nothing is set from a place on, nothing is set from a later one on.
+none-behind : (l : List ℕ) (i j : ℕ) → i ≤ j → num (drop i l) ≡ 0 → num (drop j l) ≡ 0
+unfolding num
+none-behind l i j h z =
+    let e : i + (j - i) ≡ j = omega arith in
+    rw (drop-drop (j - i) i l, e) at (rest (drop i l) (j - i) z)
+  where
+    rest : (l : List ℕ) (k : ℕ) → num l ≡ 0 → num (drop k l) ≡ 0
+    rest l zero z = z
+    rest [] (suc k) z = z
+    rest (x ∷ xs) (suc k) z = rest xs k (omega arith)
+
+-- What the loop over two halves knows after k bytes of each: what it gathered is zero exactly if they are, where the rest is.
+pub record Halved (l : List ℕ) (from acc k : ℕ) : Type 0 where
+  pub first : acc ≡ 0 → num (drop (from + k) l) ≡ 0 → num (drop from l) ≡ 0
+  pub second : acc ≡ 0 → num (drop (128 + k) l) ≡ 0 → num (drop 128 l) ≡ 0
+  pub none : num (drop from l) ≡ 0 → acc ≡ 0
+
+pub halved-start : (l : List ℕ) (from : ℕ) → Halved l from 0 0
+halved-start l from =
+    let e : from + 0 ≡ from = omega arith in
+    record {
+      first = λ (a : _≡_ {A = ℕ} 0 0) (z : num (drop (from + 0) l) ≡ 0). rw e at z;
+      second = λ (a : _≡_ {A = ℕ} 0 0) (z : num (drop (128 + 0) l) ≡ 0). z;
+      none = λ (z : num (drop from l) ≡ 0). refl;
+    }
+
+module _ (l : List ℕ) (from acc k : ℕ) (long : length l ≡ 256) (low : from ≤ 128) where
+  pub halved-next : k < 128 → Halved l from acc k → Halved l from (bitOr acc (bitOr (getD l (from + k) 0) (getD l (128 + k) 0))) (k + 1)
+  halved-next h g =
+      let p = byte-drop l (from + k) (rw long (omega arith)) in
+      let q = byte-drop l (128 + k) (rw long (omega arith)) in
+      let i : from + (k + 1) ≡ from + k + 1 = omega arith in
+      let j : 128 + (k + 1) ≡ 128 + k + 1 = omega arith in
+      record {
+        first = λ (a : bitOr acc (bitOr (getD l (from + k) 0) (getD l (128 + k) 0)) ≡ 0) (z : num (drop (from + (k + 1)) l) ≡ 0).
+            let o = or-none acc _ a in
+            let x = or-none (getD l (from + k) 0) _ (o .1) .0 in
+            let y = rw i at z in
+            g .first (o .0) (omega arith);
+        second = λ (a : bitOr acc (bitOr (getD l (from + k) 0) (getD l (128 + k) 0)) ≡ 0) (z : num (drop (128 + (k + 1)) l) ≡ 0).
+            let o = or-none acc _ a in
+            let x = or-none (getD l (from + k) 0) _ (o .1) .1 in
+            let y = rw j at z in
+            g .second (o .0) (omega arith);
+        none = λ (z : num (drop from l) ≡ 0).
+            let a = g .none z in
+            let x = none-behind l from (from + k) (omega arith) z in
+            let y = none-behind l from (128 + k) (omega arith) z in
+            or-zero _ _ a (or-zero (getD l (from + k) 0) (getD l (128 + k) 0) (omega arith) (omega arith));
+      }
+
+  pub halved-end : k ≡ 128 → Halved l from acc k → eqb acc 0 ≡ eqb (num (drop from l)) 0
+  halved-end e g =
+      zero-both acc _
+      (λ (a : acc ≡ 0).
+      let z = g .second a (nothing-left l (128 + k) (rw (e, long))) in
+      g .first a (none-behind l 128 (from + k) (omega arith) z))
+      (g .none)
 
 -- The first bytes as a number, with one more
 pub num-more : (l : List ℕ) (i : ℕ) → i < length l → num (take (i + 1) l) ≡ num (take i l) + 256 ^ i * getD l i 0
@@ -242,14 +307,10 @@ four-drop l i h =
     let m : length (take 4 (drop i l)) ≡ 4 = length-take-le 4 (drop i l) (simp length-drop (omega arith)) in
     rw (take-append-drop 4 (drop i l), m, drop-drop 4 i l) at e
 
-pub word-halves : (l : List ℕ) (w x y : ℕ) → length l ≡ 256 → w < 32 → (x ≡ wordAt l (2 * w)) × (x < 2 ^ 32) → (y ≡ wordAt l (2 * w + 1)) × (y < 2 ^ 32)
+pub word-halves : (l : List ℕ) (w x y : ℕ) → length l ≡ 256 → w < 32 → (x ≡ four l (8 * w)) × (x < 2 ^ 32) → (y ≡ four l (8 * w + 4)) × (y < 2 ^ 32)
     → Word l (8 * w) (x + 4294967296 * y)
 word-halves l w x y n h p q =
-    let even = word-there l (2 * w) (omega arith) in
-    let odd = word-there l (2 * w + 1) (omega arith) in
-    let a : 4 * (2 * w) ≡ 8 * w = omega arith in
-    let b : 4 * (2 * w + 1) ≡ 8 * w + 4 = omega arith in
     let c : 8 * w + 4 + 4 ≡ 8 * w + 8 = omega arith in
     let low = four-drop l (8 * w) (omega arith) in
     let high = rw c at (four-drop l (8 * w + 4) (omega arith)) in
-    record { small = omega arith; says = rw (p .0, q .0, ← even, ← odd, a, b) (omega arith) }
+    record { small = omega arith; says = rw (p .0, q .0) (omega arith) }

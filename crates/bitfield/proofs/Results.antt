@@ -14,6 +14,7 @@ use Rattle.standard.specs.declared.Refusal.{Refusal}
 use Rattle.standard.specs.declared.Told.{Told}
 use Rattle.standard.specs.declared.Told.the-variants.{Fine, Refused}
 use Rattle.bitfield.specs.declared.CountResult.the-variants.{Count, Refused as NoCount}
+use Rattle.bitfield.specs.declared.raw.Op.{Op}
 use Rattle.bitfield.specs.declared.Field.{Field}
 use Rattle.bitfield.specs.declared.Outcome.{Outcome}
 use Rattle.bitfield.specs.declared.BitList.{BitList}
@@ -21,13 +22,14 @@ use Rattle.bitfield.specs.declared.BitVector.{BitVector}
 use Rattle.bitfield.specs.declared.ListResult.{ListResult}
 use Rattle.bitfield.specs.declared.VectorResult.{VectorResult}
 use Rattle.bitfield.specs.Body.{bytesFor}
-use Rattle.bitfield.specs.Raw.{Raw}
+use Rattle.bitfield.specs.Raw.{opOf, firsts, Raw}
 use Rattle.bitfield.specs.Facts.{Kept}
-use Rattle.bitfield.specs.Held.{bitsIn, rawBytes, roomFor, andThen, outcome}
-use Rattle.bitfield.specs.Lists.{listTold, listMade, listOutcome, listRoom, listIntoBytes, listBuffer}
-use Rattle.bitfield.specs.Vectors.{vectorTold, vectorMade, vectorOutcome, vectorRoom, vectorIntoBytes, vectorBuffer}
+use Rattle.bitfield.specs.Held.{bitsIn, opLength, rawBytes, roomFor, andThen, outcome}
+use Rattle.bitfield.specs.Lists.{listTold, listsTold, listMade, listMerge, listOutcome, listRoom, listIntoBytes, listBuffer}
+use Rattle.bitfield.specs.Vectors.{vectorTold, vectorsTold, vectorMade, vectorMerge, vectorOutcome, vectorRoom, vectorIntoBytes, vectorBuffer}
 use Rattle.bitfield.proofs.Tops.{bytes-known}
-use Rattle.bitfield.proofs.Ties.{bits-length, bits-number, take-number}
+use Rattle.bitfield.proofs.Tolds.{lists-kept, vectors-kept}
+use Rattle.bitfield.proofs.Ties.{Whole, bits-length, bits-number, take-number}
 
 -- What an array of 256 bytes is known to be
 pub raw-known : (l : List ℕ) → length l ≡ 256 → ((i : ℕ) → Fits w8 (getD l i 0)) → Raw l
@@ -43,6 +45,41 @@ pub vector-done : (old : BitVector) (o : Outcome) (n : ℕ) (r : VectorResult) (
     → r ≡ vectorOutcome old o n → o ≡ outcome t f → r ≡ vectorMade t old f n
 vector-done old o n r Fine f p q = rw q at p
 vector-done old o n r (Refused x) f p q = rw q at p
+
+-- Two fields put together, or refused
+lists-fine : (a b : BitList) → Raw (a .bytes) → Raw (b .bytes) → listsTold a b ≡ Fine → Kept (a .bytes) (a .len) × Kept (b .bytes) (b .len)
+unfolding listsTold
+lists-fine a b ra rb t = lists-kept _ _ (a .len) (a .n) (b .len) (b .n) ra rb t
+
+vectors-fine : (a b : BitVector) → Raw (a .bytes) → Raw (b .bytes) → vectorsTold a b ≡ Fine → Kept (a .bytes) (a .len) × Kept (b .bytes) (b .len)
+unfolding vectorsTold
+vectors-fine a b ra rb t = vectors-kept _ _ (a .len) (a .n) (b .len) (b .n) ra rb t
+
+pub list-merged : (op : Op) → Whole op → (a b : BitList) → Raw (a .bytes) → Raw (b .bytes) → listsTold a b ≡ Fine → (l : List ℕ) (len : ℕ)
+    → l ≡ firsts (opOf op) 256 (a .bytes) (b .bytes) → len ≡ opLength op (a .len) (b .len)
+    → record { field = record { bytes = l; len = len; n = a .n }; told = Fine } ≡ listMerge op a b
+unfolding listMerge
+list-merged op w a b ra rb t l len e f =
+    let k = lists-fine a b ra rb t in
+    let h = w (a .bytes) (a .len) (b .bytes) (b .len) (k .0) (k .1) l len e f in
+    rw t (ap (λ (g : Field). listMade Fine a g (a .n)) h)
+
+pub list-unmerged : (op : Op) (a b : BitList) (x : Refusal) → listsTold a b ≡ Refused x → record { field = a; told = Refused x } ≡ listMerge op a b
+unfolding listMerge
+list-unmerged op a b x e = rw e
+
+pub vector-merged : (op : Op) → Whole op → (a b : BitVector) → Raw (a .bytes) → Raw (b .bytes) → vectorsTold a b ≡ Fine → (l : List ℕ) (len : ℕ)
+    → l ≡ firsts (opOf op) 256 (a .bytes) (b .bytes) → len ≡ opLength op (a .len) (b .len)
+    → record { field = record { bytes = l; len = len; n = a .n }; told = Fine } ≡ vectorMerge op a b
+unfolding vectorMerge
+vector-merged op w a b ra rb t l len e f =
+    let k = vectors-fine a b ra rb t in
+    let h = w (a .bytes) (a .len) (b .bytes) (b .len) (k .0) (k .1) l len e f in
+    rw t (ap (λ (g : Field). vectorMade Fine a g (a .n)) h)
+
+pub vector-unmerged : (op : Op) (a b : BitVector) (x : Refusal) → vectorsTold a b ≡ Refused x → record { field = a; told = Refused x } ≡ vectorMerge op a b
+unfolding vectorMerge
+vector-unmerged op a b x e = rw e
 
 -- Writing a list
 abbrev listNeed : BitList → ℕ

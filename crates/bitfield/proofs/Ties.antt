@@ -66,6 +66,9 @@ as-held bs l len e h = rw (e, h, ← packs-le 256 bs)
 in-use : (len : ℕ) → 2 ^ len ≤ 256 ^ bytesFor len
 in-use len = rw (pow-bytes (bytesFor len)) (pow-mono (omega arith))
 
+fits-in : (i z len : ℕ) → len ≤ 8 * i → z < 2 ^ len → z < 256 ^ i
+fits-in i z len h b = rw (pow-bytes i) (lt-of-lt-of-le b (pow-mono h))
+
 use-bound : (len : ℕ) → len ≤ 2048 → bytesFor len ≤ 256
 use-bound len h = omega arith
 
@@ -83,23 +86,34 @@ module _ (op : Op) (w : Bytewise (opOf op))
     (law : (xs ys : List Bool) → bitNum (opBits op xs ys) ≡ opOf op (bitNum xs) (bitNum ys))
     (count : (xs ys : List Bool) → length (opBits op xs ys) ≡ opLength op (length xs) (length ys)) where
   -- the bits' law and the bytes' law, over any operation that works on each byte by itself
-  by-bytes : (a : List ℕ) (la : ℕ) (b : List ℕ) (lb : ℕ) → Kept a la → Kept b lb → opLength op la lb ≤ 2048
-      → Merged op a la b lb (opOf op (num a) (num b))
-  by-bytes a la b lb ka kb h =
-      let xs = bitsIn a la in
-      let ys = bitsIn b lb in
-      let n : bitNum (opBits op xs ys) ≡ opOf op (num a) (num b) = rw (law xs ys, bits-number a la ka, bits-number b lb kb) in
-      let c : length (opBits op xs ys) ≡ opLength op la lb = rw (count xs ys, bits-length a la, bits-length b lb) in
-      let below = bitNum-bound (opBits op xs ys) in
-      let small : opOf op (num a) (num b) < 2 ^ opLength op la lb = rw (n, c) at below in
-      let m = in-use (opLength op la lb) in
-      let fits : opOf op (num a) (num b) < 256 ^ bytesFor (opLength op la lb) = omega arith in
-      record {
-        bytes = firsts-le (opOf op) w (bytesFor (opLength op la lb)) a b (ka .raw) (kb .raw) (use-bound _ h) fits;
-        small = fits;
-        number = mod-eq-of-lt small ∙ sym n;
-        count = c;
-      }
+  module _ (a : List ℕ) (la : ℕ) (b : List ℕ) (lb : ℕ) (ka : Kept a la) (kb : Kept b lb) where
+    op-number : bitNum (opBits op (bitsIn a la) (bitsIn b lb)) ≡ opOf op (num a) (num b)
+    op-number = rw (law (bitsIn a la) (bitsIn b lb), bits-number a la ka, bits-number b lb kb)
+
+    op-count : length (opBits op (bitsIn a la) (bitsIn b lb)) ≡ opLength op la lb
+    op-count = rw (count (bitsIn a la) (bitsIn b lb), bits-length a la, bits-length b lb)
+
+    op-small : opOf op (num a) (num b) < 2 ^ opLength op la lb
+    op-small = rw (op-number, op-count) at (bitNum-bound (opBits op (bitsIn a la) (bitsIn b lb)))
+
+    by-bytes : opLength op la lb ≤ 2048 → Merged op a la b lb (opOf op (num a) (num b))
+    by-bytes h =
+        let small = op-small in
+        let m = in-use (opLength op la lb) in
+        let fits : opOf op (num a) (num b) < 256 ^ bytesFor (opLength op la lb) = omega arith in
+        record {
+          bytes = firsts-le (opOf op) w (bytesFor (opLength op la lb)) a b (ka .raw) (kb .raw) (use-bound _ h) fits;
+          small = fits;
+          number = mod-eq-of-lt small ∙ sym op-number;
+          count = op-count;
+        }
+
+    -- all 256 bytes put together need no cut
+    all-bytes-held : opLength op la lb ≤ 2048 → (l : List ℕ) (len : ℕ) → l ≡ firsts (opOf op) 256 a b → len ≡ opLength op la lb
+        → record { bytes = l; len = len } ≡ held (opBits op (bitsIn a la) (bitsIn b lb))
+    all-bytes-held h l len e f =
+        let fits = fits-in 256 _ _ h op-small in
+        as-held _ l len (e ∙ firsts-le (opOf op) w 256 a b (ka .raw) (kb .raw) (omega arith) fits ∙ ap (le 256) (sym op-number)) (f ∙ sym op-count)
 
 not-merged : (a : List ℕ) (la : ℕ) (b : List ℕ) (lb : ℕ) → Kept a la → firsts (opOf Not) (bytesFor la) a b ≡ firsts (opOf Not) (bytesFor la) a a
     → Merged Not a la b lb (256 ^ bytesFor la - 1 - num a)
@@ -156,6 +170,25 @@ few-merged And la lb h k = omega arith
 few-merged Or la lb h k = omega arith
 few-merged AndNot la lb h k = h
 few-merged Not la lb h k = h
+
+-- An operation on all 256 bytes of two well formed fields is the operation on their bits.
+abbrev pub Whole : Op → Type 0
+Whole op = (a : List ℕ) (la : ℕ) (b : List ℕ) (lb : ℕ) → Kept a la → Kept b lb
+    → (l : List ℕ) (len : ℕ) → l ≡ firsts (opOf op) 256 a b → len ≡ opLength op la lb
+    → record { bytes = l; len = len } ≡ held (opBits op (bitsIn a la) (bitsIn b lb))
+
+pub and-whole : Whole And
+unfolding opBits opLength opOf
+and-whole a la b lb ka kb = all-bytes-held And and-bytewise Bools.bitNum-both Bools.length-both a la b lb ka kb (few-merged And la lb (ka .few) (kb .few))
+
+pub or-whole : Whole Or
+unfolding opBits opLength opOf
+or-whole a la b lb ka kb = all-bytes-held Or or-bytewise Bools.bitNum-either Bools.length-either a la b lb ka kb (few-merged Or la lb (ka .few) (kb .few))
+
+pub and-not-whole : Whole AndNot
+unfolding opBits opLength opOf
+and-not-whole a la b lb ka kb =
+    all-bytes-held AndNot and-not-bytewise Bools.bitNum-without Bools.length-without a la b lb ka kb (few-merged AndNot la lb (ka .few) (kb .few))
 
 -- What the last byte's cut asks of a number in bytes, and what it gives
 pub record Cuttable (l : List ℕ) (len : ℕ) : Type 0 where

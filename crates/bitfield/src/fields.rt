@@ -25,7 +25,7 @@ ghost use Rattle.bitfield.specs.Facts.{Kept};
 ghost use Rattle.bitfield.specs.Held.{bitsIn, held, opBits, opLength};
 
 // How many bits come out.
-fn op_len(op: Op, la: usize, lb: usize) -> usize
+pub(crate) fn op_len(op: Op, la: usize, lb: usize) -> usize
     ensures { λ r. ⌜ r ≡ opLength op la lb ⌝ }
 {
     match op {

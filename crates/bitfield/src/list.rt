@@ -20,10 +20,12 @@ use super::calls::set_bit;
 use super::calls::shift;
 use super::calls::subset_told;
 use super::calls::zero_told;
+use super::fields::op_len;
 use super::fields::put_marked;
 use super::fields::read;
 use super::fields::zeros;
 use super::raw::Op;
+use super::raw::combine;
 use super::tests::is_list;
 use super::tests::limit_told;
 use super::tests::one_told;
@@ -37,7 +39,7 @@ ghost use Rattle.standard.specs.Choice.{andAlso};
 ghost use Rattle.bitfield.specs.Held.{oneTold, twoTold, listGood};
 ghost use Rattle.bitfield.specs.Raw.{Raw};
 ghost use Rattle.bitfield.specs.Lists.{noList, listOutcome, listWithCapacity, listFromBytes, listIntoBytes, listBuffer};
-ghost use Rattle.bitfield.specs.Lists.{listMerge, listIntersection, listUnion, listDifference, listIsSubset, listResize, listCloneZeroed};
+ghost use Rattle.bitfield.specs.Lists.{listIntersection, listUnion, listDifference, listIsSubset, listResize, listCloneZeroed};
 ghost use Rattle.bitfield.specs.Lists.{listSet, listGet, listHighestSetBit, listIsZero, listNumSetBits, listNot, listShiftUp};
 
 fn first_told(bytes: &[u8; 256], len: usize, n: usize) -> Told
@@ -161,36 +163,88 @@ impl BitList {
         result_of(self, made, n)
     }
 
-    fn merge_with(self, other: BitList, op: Op) -> ListResult
-        ensures { λ r. ⌜ r ≡ listMerge op self other ⌝ }
+    // The bits that both have.
+    pub fn intersection(self, other: BitList) -> ListResult
+        ensures { λ r. ⌜ r ≡ listIntersection self other ⌝ }
     {
         let len = self.len;
         let n = self.n;
         let its_len = other.len;
         let told = pair_told(&self.bytes, len, n, &other.bytes, its_len, other.n);
-        let made = merge(told, op, &self.bytes, len, &other.bytes, its_len);
-        result_of(self, made, n)
-    }
-
-    // The bits that both have.
-    pub fn intersection(self, other: BitList) -> ListResult
-        ensures { λ r. ⌜ r ≡ listIntersection self other ⌝ }
-    {
-        self.merge_with(other, Op::And)
+        match told {
+            Told::Refused(x) => ListResult {
+                field: self,
+                told: Told::Refused(x),
+            },
+            Told::Fine => {
+                let bytes = combine(Op::And, &self.bytes, &other.bytes, 256);
+                let made = op_len(Op::And, len, its_len);
+                ListResult {
+                    field: BitList {
+                        bytes,
+                        len: made,
+                        n,
+                    },
+                    told: Told::Fine,
+                }
+            }
+        }
     }
 
     // The bits that either has.
     pub fn union(self, other: BitList) -> ListResult
         ensures { λ r. ⌜ r ≡ listUnion self other ⌝ }
     {
-        self.merge_with(other, Op::Or)
+        let len = self.len;
+        let n = self.n;
+        let its_len = other.len;
+        let told = pair_told(&self.bytes, len, n, &other.bytes, its_len, other.n);
+        match told {
+            Told::Refused(x) => ListResult {
+                field: self,
+                told: Told::Refused(x),
+            },
+            Told::Fine => {
+                let bytes = combine(Op::Or, &self.bytes, &other.bytes, 256);
+                let made = op_len(Op::Or, len, its_len);
+                ListResult {
+                    field: BitList {
+                        bytes,
+                        len: made,
+                        n,
+                    },
+                    told: Told::Fine,
+                }
+            }
+        }
     }
 
     // The bits that the other one has not.
     pub fn difference(self, other: BitList) -> ListResult
         ensures { λ r. ⌜ r ≡ listDifference self other ⌝ }
     {
-        self.merge_with(other, Op::AndNot)
+        let len = self.len;
+        let n = self.n;
+        let its_len = other.len;
+        let told = pair_told(&self.bytes, len, n, &other.bytes, its_len, other.n);
+        match told {
+            Told::Refused(x) => ListResult {
+                field: self,
+                told: Told::Refused(x),
+            },
+            Told::Fine => {
+                let bytes = combine(Op::AndNot, &self.bytes, &other.bytes, 256);
+                let made = op_len(Op::AndNot, len, its_len);
+                ListResult {
+                    field: BitList {
+                        bytes,
+                        len: made,
+                        n,
+                    },
+                    told: Told::Fine,
+                }
+            }
+        }
     }
 
     // Whether every set bit is set in the other one.

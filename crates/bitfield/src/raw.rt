@@ -1,14 +1,13 @@
-// Raw bytes of a held bitfield: 256 of them, of which the first ones are in use. Loops that make bytes go byte by byte over those in
-// use; those that only look at bits go by words of eight bytes, 32 in all.
+// Raw bytes of a held bitfield: 256 of them, of which the first ones are in use. Loops that make bytes go byte by byte; those that only
+// look at bits go by words of eight bytes, 32 in all, or by two halves of the bytes at once.
 use super::body::bytes_for;
-use standard::words::word_at;
 ghost use mathlib.Core.Path.{_≡_};
 ghost use mathlib.Core.List.{_++_};
 ghost use Prim.Native.Nat.{_+_, _*_, _/_, _%_, _^_, _<_, _≤_};
 ghost use lib.Count.{ones};
 ghost use lib.Dec.{eqb};
 ghost use lib.ListN.{length, take, drop};
-ghost use Rattle.standard.specs.Bytes.{Bytes, num, le};
+ghost use Rattle.standard.specs.Bytes.{Bytes, num, le, four};
 ghost use Rattle.standard.specs.Bits.{bit};
 ghost use Rattle.bitfield.specs.Body.{bytesFor};
 ghost use Rattle.bitfield.specs.Raw.{Raw, opOf, keep, firsts, clean, maskOf};
@@ -61,12 +60,29 @@ pub(crate) fn copy_of(bytes: &[u8], used: usize) -> [u8; 256]
     out
 }
 
-// The w-th word.
+fn wide(x: u8) -> usize
+    ensures { λ r. ⌜ (r ≡ x) × (r < 256) ⌝ }
+{
+    x as usize
+}
+
+// The four bytes from p on.
+fn four_of(bytes: &[u8; 256], p: usize) -> usize
+    requires { ⌜ p + 4 ≤ 256 ⌝ }
+    ensures { λ r. ⌜ (r ≡ four (now (bytes .entry)) p) × (r < 2 ^ 32) ⌝ }
+{
+    wide(bytes[p])
+        + 256 * wide(bytes[p + 1])
+        + 65536 * wide(bytes[p + 2])
+        + 16777216 * wide(bytes[p + 3])
+}
+
+// The w-th word: one load, with no test of where it ends.
 fn word_of(bytes: &[u8; 256], w: usize) -> u64
     requires { ⌜ (w < 32) × Raw (now bytes) ⌝ }
     ensures { λ r. ⌜ Word (now (bytes .entry)) (8 * w) r ⌝ }
 {
-    (word_at(bytes, 2 * w) + 4294967296 * word_at(bytes, 2 * w + 1)) as u64
+    (four_of(bytes, 8 * w) + 4294967296 * four_of(bytes, 8 * w + 4)) as u64
 }
 
 // Whether the words from one on are all zero.
@@ -83,11 +99,42 @@ pub(crate) fn none_from(bytes: &[u8; 256], from: usize) -> bool
     acc == 0
 }
 
+// Whether the bytes from one of the first half on are all zero. As many from there on as a half has, and the second half, are all of them:
+// so the loop has one length, and the compiler takes it sixteen bytes at a time and lays it out.
+fn none_in_halves(bytes: &[u8; 256], from: usize) -> bool
+    requires { ⌜ (from ≤ 128) × Raw (now bytes) ⌝ }
+    ensures { λ r. ⌜ r ≡ eqb (num (drop from (now (bytes .entry)))) 0 ⌝ }
+{
+    let mut acc = 0u8;
+    let mut k = 0;
+    while k < 128 {
+        acc |= bytes[from + k] | bytes[128 + k];
+        k += 1;
+    }
+    acc == 0
+}
+
+// Nothing set behind an end in the first half.
+fn is_clean_low(bytes: &[u8; 256], len: usize) -> bool
+    requires { ⌜ (len < 1024) × Raw (now bytes) ⌝ }
+    ensures { λ r. ⌜ r ≡ clean (now (bytes .entry)) len ⌝ }
+{
+    let q = len / 8;
+    let x = bytes[q];
+    if x >> (len % 8) != 0 {
+        return false;
+    }
+    none_in_halves(bytes, q + 1)
+}
+
 // At most 2,048 bits, and nothing set behind them.
 pub(crate) fn is_clean(bytes: &[u8; 256], len: usize) -> bool
     requires { ⌜ Raw (now bytes) ⌝ }
     ensures { λ r. ⌜ r ≡ clean (now (bytes .entry)) len ⌝ }
 {
+    if len < 1024 {
+        return is_clean_low(bytes, len);
+    }
     if len > 2048 {
         return false;
     }
@@ -170,6 +217,9 @@ pub(crate) fn ones_in(bytes: &[u8; 256], words: usize) -> usize
     requires { ⌜ (words ≤ 32) × Raw (now bytes) × (num (drop (8 * words) (now bytes)) ≡ 0) ⌝ }
     ensures { λ r. ⌜ r ≡ ones (num (now (bytes .entry))) ⌝ }
 {
+    if words == 1 {
+        return ones_of(word_of(bytes, 0));
+    }
     let mut sum = 0usize;
     let mut w = 0;
     while w < words {

@@ -19,9 +19,11 @@ use super::calls::set_bit;
 use super::calls::shift;
 use super::calls::subset_told;
 use super::calls::zero_told;
+use super::fields::op_len;
 use super::fields::read;
 use super::fields::zeros;
 use super::raw::Op;
+use super::raw::combine;
 use super::raw::put_raw;
 use super::tests::is_vector;
 use super::tests::limit_told;
@@ -37,7 +39,7 @@ ghost use Rattle.standard.specs.Choice.{andAlso};
 ghost use Rattle.bitfield.specs.Held.{oneTold, twoTold, vectorGood};
 ghost use Rattle.bitfield.specs.Raw.{Raw};
 ghost use Rattle.bitfield.specs.Vectors.{noVector, vectorOutcome, vectorNew, vectorFromBytes, vectorIntoBytes, vectorBuffer};
-ghost use Rattle.bitfield.specs.Vectors.{vectorMerge, vectorIntersection, vectorUnion, vectorDifference, vectorIsSubset};
+ghost use Rattle.bitfield.specs.Vectors.{vectorIntersection, vectorUnion, vectorDifference, vectorIsSubset};
 ghost use Rattle.bitfield.specs.Vectors.{vectorSet, vectorGet, vectorHighestSetBit, vectorIsZero, vectorNumSetBits, vectorNot, vectorShiftUp};
 
 fn first_told(bytes: &[u8; 256], len: usize, n: usize) -> Told
@@ -147,36 +149,88 @@ impl BitVector {
         }
     }
 
-    fn merge_with(self, other: BitVector, op: Op) -> VectorResult
-        ensures { λ r. ⌜ r ≡ vectorMerge op self other ⌝ }
+    // The bits that both have.
+    pub fn intersection(self, other: BitVector) -> VectorResult
+        ensures { λ r. ⌜ r ≡ vectorIntersection self other ⌝ }
     {
         let len = self.len;
         let n = self.n;
         let its_len = other.len;
         let told = pair_told(&self.bytes, len, n, &other.bytes, its_len, other.n);
-        let made = merge(told, op, &self.bytes, len, &other.bytes, its_len);
-        result_of(self, made, n)
-    }
-
-    // The bits that both have.
-    pub fn intersection(self, other: BitVector) -> VectorResult
-        ensures { λ r. ⌜ r ≡ vectorIntersection self other ⌝ }
-    {
-        self.merge_with(other, Op::And)
+        match told {
+            Told::Refused(x) => VectorResult {
+                field: self,
+                told: Told::Refused(x),
+            },
+            Told::Fine => {
+                let bytes = combine(Op::And, &self.bytes, &other.bytes, 256);
+                let made = op_len(Op::And, len, its_len);
+                VectorResult {
+                    field: BitVector {
+                        bytes,
+                        len: made,
+                        n,
+                    },
+                    told: Told::Fine,
+                }
+            }
+        }
     }
 
     // The bits that either has.
     pub fn union(self, other: BitVector) -> VectorResult
         ensures { λ r. ⌜ r ≡ vectorUnion self other ⌝ }
     {
-        self.merge_with(other, Op::Or)
+        let len = self.len;
+        let n = self.n;
+        let its_len = other.len;
+        let told = pair_told(&self.bytes, len, n, &other.bytes, its_len, other.n);
+        match told {
+            Told::Refused(x) => VectorResult {
+                field: self,
+                told: Told::Refused(x),
+            },
+            Told::Fine => {
+                let bytes = combine(Op::Or, &self.bytes, &other.bytes, 256);
+                let made = op_len(Op::Or, len, its_len);
+                VectorResult {
+                    field: BitVector {
+                        bytes,
+                        len: made,
+                        n,
+                    },
+                    told: Told::Fine,
+                }
+            }
+        }
     }
 
     // The bits that the other one has not.
     pub fn difference(self, other: BitVector) -> VectorResult
         ensures { λ r. ⌜ r ≡ vectorDifference self other ⌝ }
     {
-        self.merge_with(other, Op::AndNot)
+        let len = self.len;
+        let n = self.n;
+        let its_len = other.len;
+        let told = pair_told(&self.bytes, len, n, &other.bytes, its_len, other.n);
+        match told {
+            Told::Refused(x) => VectorResult {
+                field: self,
+                told: Told::Refused(x),
+            },
+            Told::Fine => {
+                let bytes = combine(Op::AndNot, &self.bytes, &other.bytes, 256);
+                let made = op_len(Op::AndNot, len, its_len);
+                VectorResult {
+                    field: BitVector {
+                        bytes,
+                        len: made,
+                        n,
+                    },
+                    told: Told::Fine,
+                }
+            }
+        }
     }
 
     // Whether every set bit is set in the other one.

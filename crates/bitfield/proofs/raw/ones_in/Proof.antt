@@ -1,4 +1,4 @@
--- `bitfield::raw::ones_in` meets its contract. The invariant: what is counted and what is left are all. Assumes nothing.
+-- `bitfield::raw::ones_in` meets its contract: one word by itself; else the invariant is that what is counted and what is left are all. Assumes nothing.
 use mathlib.Core.Path.{_≡_, refl}
 use Prim.Native.Nat.{_≤_, _<_, _+_, _*_, _-_}
 use native.Mathlib.Omega.{arith}
@@ -15,16 +15,29 @@ Inv-loop bytes words sum₀ w₀ sum w = (w ≤ words) × (sum ≤ 64 * w) × (s
 abbrev μ-loop : tie.MeasureT-loop
 μ-loop bytes words sum₀ w₀ sum w = words - w
 
-loop-holds : tie.Need-loop-holds Inv-loop μ-loop
-loop-holds c = (omega arith, omega arith, omega arith)
-
 word-of-requires : tie.Need-word-of-requires Inv-loop μ-loop
-word-of-requires c κs =
-    let c2 = c .before .before in
-    (omega arith, c2 .pre .1)
+word-of-requires c κs = (omega arith, c .before .pre .1)
 
 ones-of-requires : tie.Need-ones-of-requires Inv-loop μ-loop
 ones-of-requires c κs = tt
+
+returns : tie.Need-returns Inv-loop μ-loop
+returns c =
+    let t = c .before .before in
+    let more = ones-more _ (8 * 0) _ (c .before .word-of .ensures) in
+    let none = ones-none _ (rw (t .if1 .taken) at (t .before .pre .2)) in
+    omega (arith, more, none, c .ones-of .ensures .0)
+
+loop-holds : tie.Need-loop-holds Inv-loop μ-loop
+loop-holds c = (omega arith, omega arith, omega arith)
+
+word-of-requires-2 : tie.Need-word-of-requires-2 Inv-loop μ-loop
+word-of-requires-2 c κs =
+    let s = c .before .before .before in
+    (omega arith, s .pre .1)
+
+ones-of-requires-2 : tie.Need-ones-of-requires-2 Inv-loop μ-loop
+ones-of-requires-2 c κs = tt
 
 add-sum : tie.Need-add-sum Inv-loop μ-loop
 add-sum c = omega arith
@@ -39,14 +52,13 @@ loop-again : tie.Need-loop-again Inv-loop μ-loop
 loop-again c =
     let c3 = c .before .before .before in
     let l = c3 .loop in
-    let more = ones-more _ (8 * l .w) _ (c .before .word-of .ensures) in
+    let more = ones-more _ (8 * l .w) _ (c .before .word-of2 .ensures) in
     let e : 8 * (l .w + 1) ≡ 8 * l .w + 8 = omega arith in
-    (omega arith, omega arith, rw e (omega (arith, more, c .ones-of .ensures .0, l .inv .2)))
+    (omega arith, omega arith, rw e (omega (arith, more, c .ones-of2 .ensures .0, l .inv .2)))
 
-returns : tie.Need-returns Inv-loop μ-loop
-returns c =
-    let c2 = c .before .before in
-    let s = c2 in
+returns-2 : tie.Need-returns-2 Inv-loop μ-loop
+returns-2 c =
+    let s = c .before .before .before in
     let l = c .before .loop in
     let e : l .w ≡ s .args .words = omega arith in
     let all = rw e at (l .inv .2) in
@@ -59,11 +71,14 @@ ones-in-spec =
     (tie.spec
     Inv-loop
     μ-loop
-    loop-holds
     word-of-requires
     ones-of-requires
+    returns
+    loop-holds
+    word-of-requires-2
+    ones-of-requires-2
     add-sum
     add-w
     loop-less
     loop-again
-    returns)
+    returns-2)
