@@ -102,12 +102,12 @@ gathered-end l from acc g =
     zero-both acc _ (λ (a : acc ≡ 0). g .all a (nothing-left l (length l) refl)) (λ (z : num (drop from l) ≡ 0). g .none z .0)
 
 -- One byte, and those behind it
-pub byte-drop : (l : List ℕ) (i : ℕ) → i < length l → num (drop i l) ≡ getD l i 0 + 256 * num (drop (i + 1) l)
+byte-drop : (l : List ℕ) (i : ℕ) → i < length l → num (drop i l) ≡ getD l i 0 + 256 * num (drop (i + 1) l)
 unfolding num
 byte-drop l i h = rw (drop-cons l i 0 h, add-one i)
 
 -- Where nothing is set from a place on, nothing is set from a later one on.
-none-behind : (l : List ℕ) (i j : ℕ) → i ≤ j → num (drop i l) ≡ 0 → num (drop j l) ≡ 0
+pub none-behind : (l : List ℕ) (i j : ℕ) → i ≤ j → num (drop i l) ≡ 0 → num (drop j l) ≡ 0
 unfolding num
 none-behind l i j h z =
     let e : i + (j - i) ≡ j = omega arith in

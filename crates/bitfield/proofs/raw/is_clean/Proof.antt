@@ -4,7 +4,7 @@ use native.Mathlib.Omega.{arith}
 use borrow.Author.Tests.{lt-leb}
 use borrow.Author.Needs.{needs}
 use Rattle.bitfield.specs.Raw.{clean}
-use Rattle.bitfield.proofs.Clean.{clean-full, word-not, word-rest}
+use Rattle.bitfield.proofs.Clean.{clean-full, clean-not, clean-rest}
 use Rattle.bitfield.proofs.raw.is_clean.Statement.{statement}
 use Rattle.bitfield.proofs.raw.is_clean.Tie as tie
 
@@ -33,7 +33,7 @@ returns-4 : tie.Need-returns-4
 returns-4 c =
     let c2 = c .before .before in
     let s = c2 .before .before .before in
-    word-not _ (s .args .len) _ (s .pre) (c2 .before .if2 .left) (c2 .if3 .left) (c .before .word-of .ensures) (c .if4 .taken)
+    clean-not _ (s .args .len) _ (s .pre) (c2 .before .if2 .left) (c2 .if3 .left) (c .before .word-of .ensures) (c .if4 .taken)
 
 add-none-from : tie.Need-add-none-from
 add-none-from c = search needs
@@ -45,7 +45,7 @@ returns-5 : tie.Need-returns-5
 returns-5 c =
     let b = c .before .before in
     let s = b .before .before .before .before in
-    let tests = word-rest _ (s .args .len) _ (s .pre) (b .before .before .if2 .left) (b .before .if3 .left) (b .word-of .ensures) in
+    let tests = clean-rest _ (s .args .len) _ (s .pre) (b .before .before .if2 .left) (b .before .if3 .left) (b .word-of .ensures) in
     c .none-from .ensures ∙ tests (c .before .if4 .left)
 
 pub is-clean-spec : {M : Type 1} → statement M

@@ -5,7 +5,7 @@ use native.Mathlib.Omega.{arith}
 use lib.Count.{ones}
 use lib.ListN.{drop}
 use Rattle.standard.specs.Bytes.{num}
-use Rattle.bitfield.proofs.Loops.{ones-more, ones-none}
+use Rattle.bitfield.proofs.Loops.{none-behind, ones-more, ones-none}
 use Rattle.bitfield.proofs.raw.ones_in.Statement.{statement}
 use Rattle.bitfield.proofs.raw.ones_in.Tie as tie
 
@@ -25,7 +25,7 @@ returns : tie.Need-returns Inv-loop μ-loop
 returns c =
     let t = c .before .before in
     let more = ones-more _ (8 * 0) _ (c .before .word-of .ensures) in
-    let none = ones-none _ (rw (t .if1 .taken) at (t .before .pre .2)) in
+    let none = ones-none _ (none-behind _ (8 * t .before .args .words) 8 (omega arith) (t .before .pre .2)) in
     omega (arith, more, none, c .ones-of .ensures .0)
 
 loop-holds : tie.Need-loop-holds Inv-loop μ-loop
