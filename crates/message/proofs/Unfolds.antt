@@ -29,7 +29,7 @@ use Rattle.message.specs.declared.items.Choice.{Choice}
 use Rattle.message.specs.declared.unfolding.Place.{Place}
 use Rattle.message.proofs.Rows.{row-next, span-ok}
 use Rattle.message.proofs.Bodies.{fields-read, bare-says, body-says, body-below}
-use Rattle.message.proofs.Entries.{container-accepted, union-never, body-accepted}
+use Rattle.message.proofs.Entries.{below-six, container-accepted, union-never, body-accepted}
 use Rattle.message.proofs.Theorem.{read-start}
 use Rattle.message.proofs.UnfoldLeaves.{plain-room, plain-filled}
 
@@ -304,10 +304,6 @@ module _ (lens l : List ℕ) (t : ℕ) (n : Node) (e : n ≡ nodeOf l t) (g : Un
 
       pub body-accepts : Accepts (treeOf l o) (take (length b - 1) (drop 1 b))
       body-accepts = accepts-at _ _ (0 + 1) (body-accepted lens l t n e g b 0 (h .accepted) k o q)
-
--- A kind below 6 has no lower types.
-pub below-six : (kind : ℕ) → kind < 6 → (kind ≡ 6 → ⊥) × (kind ≡ 7 → ⊥)
-below-six kind h = (λ (q : kind ≡ 6). omega arith, λ (q : kind ≡ 7). omega arith)
 
 -- The items of a kind below 3 are copied.
 module _ (l : List ℕ) (f k : ℕ) (e : k ≡ nodeOf l f .kind) (h : k < 3) (b o p : List ℕ) (at : Place) where

@@ -2,6 +2,7 @@
 use crate::fields::locate;
 use crate::items::Choice;
 use crate::items::select;
+use layout::kind_of;
 use layout::look;
 use standard::words::put_four;
 use standard::words::word_at;
@@ -87,10 +88,16 @@ fn list_fields(
         let from = w.from;
         let to = w.to;
         let place = start + from;
-        at = list_item(out, at, lens, layout, f, &b[from..to], place);
         p = w.next;
         a += 1;
         left -= 1;
+        let kind = kind_of(layout, f);
+        if kind < 6 {
+            put_entry(out, at, f, &b[from..to], place);
+            at += 12;
+            continue;
+        }
+        at = list_item(out, at, lens, layout, f, &b[from..to], place);
     }
     at
 }

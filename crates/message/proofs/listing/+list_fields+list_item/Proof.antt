@@ -9,6 +9,7 @@ use Rattle.standard.proofs.Store.{stored-then, stored-none, room-then}
 use Rattle.message.proofs.Rows.{row-below, row-under, under-below, span-ok, span-length}
 use Rattle.message.proofs.Bodies.{node-ok, container-row, body-below}
 use Rattle.message.proofs.Entries.{Storing, storing-accepted, storing-room, storing-next, storing-end, stored-length, room-long, list-container, list-leaf, container-accepted, union-bare, union-body, union-never, body-accepted}
+use Rattle.message.proofs.Entries.{leaf-stored}
 use Prim.Native.Nat.{ℕ, _<_}
 use borrow.Fn.Kinds.{In}
 use borrow.Fn.PlainCycle.{Measures, is, falls, and}
@@ -18,6 +19,7 @@ use Rattle.message.proofs.listing.+list_fields+list_item.Lts-list_field
 use Rattle.message.proofs.listing.list_item.Reads as list-item
 use Rattle.message.proofs.listing.list_item.Kinds as list-item-kinds
 use Rattle.message.proofs.listing.+list_fields+list_item.Lts-list_item as list-item-lts
+use Rattle.layout.proofs.kind_of.Reads as kind-of-reads
 use Rattle.layout.proofs.look.Reads as look-reads
 use Rattle.message.proofs.fields.locate.Reads as locate-reads
 use Rattle.message.proofs.items.select.Reads as select-reads
@@ -55,7 +57,18 @@ list-fields-μ-loop out₀ at0 lens layout t a0 n b start at₀ a₀ left₀ p�
 
 -- what `list_fields` calls, at the measure t
 abbrev list-fields-calls : ℕ → list-fields-lts.Claims
-list-fields-calls t = (word-at-reads.Asked, word-at-reads.Learnt, locate-reads.Asked, locate-reads.Learnt, list-item-below t, list-item.Post)
+list-fields-calls t = (
+  word-at-reads.Asked,
+  word-at-reads.Learnt,
+  locate-reads.Asked,
+  locate-reads.Learnt,
+  kind-of-reads.Asked,
+  kind-of-reads.Learnt,
+  put-entry-reads.Asked,
+  put-entry-reads.Learnt,
+  list-item-below t,
+  list-item.Post,
+)
 
 -- what `list_item` calls, at the measure t
 abbrev list-item-calls : ℕ → list-item-lts.Claims
@@ -110,85 +123,156 @@ list-fields-add-place t c =
       c7 .pre .1 .1,
     )
 
-list-fields-sub-list-item : (t : ℕ) → list-fields-lts.Need-sub-list-item (list-fields-calls t) (list-fields-at t) list-fields.Post
+list-fields-add-a : (t : ℕ) → list-fields-lts.Need-add-a (list-fields-calls t) (list-fields-at t) list-fields.Post
     list-fields-Inv-loop list-fields-μ-loop
-list-fields-sub-list-item t c =
-    let c2 = c .before .before in
-    let c3 = c2 .before in
-    let c4 = c3 .before in
-    omega (
-      arith,
-      span-ok _ _ _ _ _ _ _ _ (c4 .loop .inv .row) (c3 .loop-test .taken) (c2 .word-at .ensures .0) (c4 .loop .inv .ranges) _ (c .before
-          .locate .ensures),
-    )
+list-fields-add-a t c =
+    let c3 = c .before .before .before in
+    omega (arith, c3 .loop .inv .row .near)
 
-list-fields-part-list-item-start : (t : ℕ) → list-fields-lts.Need-part-list-item-start (list-fields-calls t) (list-fields-at t) list-fields.Post
+list-fields-sub-left : (t : ℕ) → list-fields-lts.Need-sub-left (list-fields-calls t) (list-fields-at t) list-fields.Post
     list-fields-Inv-loop list-fields-μ-loop
-list-fields-part-list-item-start t c =
-    let c2 = c .before .before in
-    let c3 = c2 .before in
-    let c4 = c3 .before in
-    span-ok _ _ _ _ _ _ _ _ (c4 .loop .inv .row) (c3 .loop-test .taken) (c2 .word-at .ensures .0) (c4 .loop .inv .ranges) _ (c .before .locate
-    .ensures) .0
+list-fields-sub-left t c = omega arith
 
-list-fields-part-list-item-end : (t : ℕ) → list-fields-lts.Need-part-list-item-end (list-fields-calls t) (list-fields-at t) list-fields.Post
+list-fields-kind-of-requires : (t : ℕ) → list-fields-lts.Need-kind-of-requires (list-fields-calls t) (list-fields-at t) list-fields.Post
     list-fields-Inv-loop list-fields-μ-loop
-list-fields-part-list-item-end t c =
-    let c2 = c .before .before in
-    let c3 = c2 .before in
-    let c4 = c3 .before in
-    span-ok _ _ _ _ _ _ _ _ (c4 .loop .inv .row) (c3 .loop-test .taken) (c2 .word-at .ensures .0) (c4 .loop .inv .ranges) _ (c .before .locate
-    .ensures) .1
+list-fields-kind-of-requires t c κs = search needs
 
-list-fields-list-item-requires : (t : ℕ) → list-fields-lts.Need-list-item-requires (list-fields-calls t) (list-fields-at t) list-fields.Post
+list-fields-sub-put-entry : (t : ℕ) → list-fields-lts.Need-sub-put-entry (list-fields-calls t) (list-fields-at t) list-fields.Post
     list-fields-Inv-loop list-fields-μ-loop
-list-fields-list-item-requires t c κs =
-    let c2 = c .before .before in
-    let c3 = c2 .before in
+list-fields-sub-put-entry t c =
+    let c3 = c .before .before .before in
     let c4 = c3 .before in
     let c5 = c4 .before in
-    let c9 = c5 .before .before .before .before in (
-      omega (arith, row-below _ _ _ _ _ _ (c5 .loop .inv .row) (c4 .loop-test .taken) (c3 .word-at .ensures .0), c9 .pre .0),
-      (
-        row-under _ _ _ _ _ _
-            (c5 .loop .inv .row) (c4 .loop-test .taken) (c3 .word-at .ensures .0),
-        omega (
-          arith,
-          span-ok _ _ _ _ _ _ _ _ (c5 .loop .inv .row) (c4 .loop-test
-              .taken) (c3 .word-at .ensures .0) (c5 .loop .inv .ranges) _ (c2 .locate .ensures),
-          span-length _ _ _ _ _ _ _ _ (c5 .loop .inv .row) (c4
-              .loop-test .taken) (c3 .word-at .ensures .0) (c5 .loop .inv .ranges) _ (c2 .locate .ensures),
-          c9 .pre .1 .1,
-        ),
-        storing-accepted _ _ _ _ _ _ _ _ _
-            _ _ _ _ _ _ (c5 .loop .inv) (c4 .loop-test .taken) (c3 .word-at .ensures .0) _ (c2 .locate .ensures),
-        storing-room _ _ _ _ _ _ _ _ _ _ _ _ _ _ _
-            (c5 .loop .inv) (c4 .loop-test .taken) (c3 .word-at .ensures .0) _ (c2 .locate .ensures),
+    let c6 = c5 .before in
+    omega (arith, span-ok _ _ _ _ _ _ _ _ (c6 .loop .inv .row) (c5 .loop-test .taken) (c4 .word-at .ensures .0) (c6 .loop .inv .ranges) _ (c3 .locate .ensures))
+
+list-fields-part-put-entry-start : (t : ℕ) → list-fields-lts.Need-part-put-entry-start (list-fields-calls t) (list-fields-at t) list-fields.Post
+    list-fields-Inv-loop list-fields-μ-loop
+list-fields-part-put-entry-start t c =
+    let c3 = c .before .before .before in
+    let c4 = c3 .before in
+    let c5 = c4 .before in
+    let c6 = c5 .before in
+    span-ok _ _ _ _ _ _ _ _ (c6 .loop .inv .row) (c5 .loop-test .taken) (c4 .word-at .ensures .0) (c6 .loop .inv .ranges) _ (c3 .locate .ensures) .0
+
+list-fields-part-put-entry-end : (t : ℕ) → list-fields-lts.Need-part-put-entry-end (list-fields-calls t) (list-fields-at t) list-fields.Post
+    list-fields-Inv-loop list-fields-μ-loop
+list-fields-part-put-entry-end t c =
+    let c3 = c .before .before .before in
+    let c4 = c3 .before in
+    let c5 = c4 .before in
+    let c6 = c5 .before in
+    span-ok _ _ _ _ _ _ _ _ (c6 .loop .inv .row) (c5 .loop-test .taken) (c4 .word-at .ensures .0) (c6 .loop .inv .ranges) _ (c3 .locate .ensures) .1
+
+list-fields-put-entry-requires : (t : ℕ) → list-fields-lts.Need-put-entry-requires (list-fields-calls t) (list-fields-at t) list-fields.Post
+    list-fields-Inv-loop list-fields-μ-loop
+list-fields-put-entry-requires t c κs =
+    let c4 = c .before .before .before .before in
+    let c5 = c4 .before in
+    let c6 = c5 .before in
+    let c7 = c6 .before in
+    let c11 = c7 .before .before .before .before in (
+      room-long _ _ _ _ _ (storing-room _ _ _ _ _ _ _ _ _ _ _ _ _ _ _ (c7 .loop .inv) (c6 .loop-test .taken) (c5 .word-at .ensures .0) _ (c4 .locate .ensures)),
+      omega (
+        arith,
+        span-ok _ _ _ _ _ _ _ _ (c7 .loop .inv .row) (c6 .loop-test .taken) (c5 .word-at .ensures .0) (c7 .loop .inv .ranges) _ (c4 .locate .ensures),
+        span-length _ _ _ _ _ _ _ _ (c7 .loop .inv .row) (c6 .loop-test .taken) (c5 .word-at .ensures .0) (c7 .loop .inv .ranges) _ (c4 .locate .ensures),
+        c11 .pre .1 .1,
       ),
     )
 
-list-fields-add-a : (t : ℕ) → list-fields-lts.Need-add-a (list-fields-calls t) (list-fields-at t) list-fields.Post list-fields-Inv-loop list-fields-μ-loop
-list-fields-add-a t c =
-    let c8 = c .before .before .before .before .before .before .before .before in
-    omega (arith, c8 .loop .inv .row .near)
+list-fields-add-at : (t : ℕ) → list-fields-lts.Need-add-at (list-fields-calls t) (list-fields-at t) list-fields.Post
+    list-fields-Inv-loop list-fields-μ-loop
+list-fields-add-at t c =
+    let c7 = c .before .before .before .before .before .before .before in
+    let c8 = c7 .before in
+    let c9 = c8 .before in
+    let c10 = c9 .before in
+    let c14 = c10 .before .before .before .before in
+    let room = room-long _ _ _ _ _ (storing-room _ _ _ _ _ _ _ _ _ _ _ _ _ _ _ (c10 .loop .inv) (c9 .loop-test .taken) (c8 .word-at .ensures .0) _
+    (c7 .locate .ensures)) in
+    omega (arith, room, stored-length _ _ _ _ _ (c10 .loop .inv .stored), c14 .good)
 
-list-fields-sub-left : (t : ℕ) → list-fields-lts.Need-sub-left (list-fields-calls t) (list-fields-at t) list-fields.Post list-fields-Inv-loop list-fields-μ-loop
-list-fields-sub-left t c = omega arith
-
-list-fields-loop-less : (t : ℕ) → list-fields-lts.Need-loop-less (list-fields-calls t) (list-fields-at t) list-fields.Post list-fields-Inv-loop
-    list-fields-μ-loop
+list-fields-loop-less : (t : ℕ) → list-fields-lts.Need-loop-less (list-fields-calls t) (list-fields-at t) list-fields.Post
+    list-fields-Inv-loop list-fields-μ-loop
 list-fields-loop-less t c = omega arith
 
-list-fields-loop-again : (t : ℕ) → list-fields-lts.Need-loop-again (list-fields-calls t) (list-fields-at t) list-fields.Post list-fields-Inv-loop
-    list-fields-μ-loop
+list-fields-loop-again : (t : ℕ) → list-fields-lts.Need-loop-again (list-fields-calls t) (list-fields-at t) list-fields.Post
+    list-fields-Inv-loop list-fields-μ-loop
 list-fields-loop-again t c =
     let c2 = c .before .before in
     let c5 = c2 .before .before .before in
     let c6 = c5 .before in
     let c7 = c6 .before in
     let c8 = c7 .before in
-    storing-next _ _ _ _ _ _ _ _ _ _ _ _ _ _ _ (c8 .loop .inv) (c7 .loop-test .taken) (c6 .word-at .ensures .0) _ (c5 .locate .ensures) _ _ (c2
-    .list-item .ensures)
+    let c9 = c8 .before in
+    let c10 = c9 .before in
+    storing-next _ _ _ _ _ _ _ _ _ _ _ _ _ _ _ (c10 .loop .inv) (c9 .loop-test .taken) (c8 .word-at .ensures .0) _ (c7 .locate .ensures) _ _
+    (leaf-stored _ _ _ (c6 .kind-of .ensures) (c5 .if1 .taken) _ _ _ _ _ _ (c2 .put-entry .ensures))
+
+list-fields-sub-list-item : (t : ℕ) → list-fields-lts.Need-sub-list-item (list-fields-calls t) (list-fields-at t) list-fields.Post
+    list-fields-Inv-loop list-fields-μ-loop
+list-fields-sub-list-item t c =
+    let c3 = c .before .before .before in
+    let c4 = c3 .before in
+    let c5 = c4 .before in
+    let c6 = c5 .before in
+    omega (arith, span-ok _ _ _ _ _ _ _ _ (c6 .loop .inv .row) (c5 .loop-test .taken) (c4 .word-at .ensures .0) (c6 .loop .inv .ranges) _ (c3 .locate .ensures))
+
+list-fields-part-list-item-start : (t : ℕ) → list-fields-lts.Need-part-list-item-start (list-fields-calls t) (list-fields-at t) list-fields.Post
+    list-fields-Inv-loop list-fields-μ-loop
+list-fields-part-list-item-start t c =
+    let c3 = c .before .before .before in
+    let c4 = c3 .before in
+    let c5 = c4 .before in
+    let c6 = c5 .before in
+    span-ok _ _ _ _ _ _ _ _ (c6 .loop .inv .row) (c5 .loop-test .taken) (c4 .word-at .ensures .0) (c6 .loop .inv .ranges) _ (c3 .locate .ensures) .0
+
+list-fields-part-list-item-end : (t : ℕ) → list-fields-lts.Need-part-list-item-end (list-fields-calls t) (list-fields-at t) list-fields.Post
+    list-fields-Inv-loop list-fields-μ-loop
+list-fields-part-list-item-end t c =
+    let c3 = c .before .before .before in
+    let c4 = c3 .before in
+    let c5 = c4 .before in
+    let c6 = c5 .before in
+    span-ok _ _ _ _ _ _ _ _ (c6 .loop .inv .row) (c5 .loop-test .taken) (c4 .word-at .ensures .0) (c6 .loop .inv .ranges) _ (c3 .locate .ensures) .1
+
+list-fields-list-item-requires : (t : ℕ) → list-fields-lts.Need-list-item-requires (list-fields-calls t) (list-fields-at t) list-fields.Post
+    list-fields-Inv-loop list-fields-μ-loop
+list-fields-list-item-requires t c κs =
+    let c4 = c .before .before .before .before in
+    let c5 = c4 .before in
+    let c6 = c5 .before in
+    let c7 = c6 .before in
+    let c11 = c7 .before .before .before .before in (
+      omega (arith, row-below _ _ _ _ _ _ (c7 .loop .inv .row) (c6 .loop-test .taken) (c5 .word-at .ensures .0), c11 .pre .0),
+      (
+        row-under _ _ _ _ _ _ (c7 .loop .inv .row) (c6 .loop-test .taken) (c5 .word-at .ensures .0),
+        omega (
+          arith,
+          span-ok _ _ _ _ _ _ _ _ (c7 .loop .inv .row) (c6 .loop-test .taken) (c5 .word-at .ensures .0) (c7 .loop .inv .ranges) _ (c4 .locate .ensures),
+          span-length _ _ _ _ _ _ _ _ (c7 .loop .inv .row) (c6 .loop-test .taken) (c5 .word-at .ensures .0) (c7 .loop .inv .ranges) _ (c4 .locate .ensures),
+          c11 .pre .1 .1,
+        ),
+        storing-accepted _ _ _ _ _ _ _ _ _ _ _ _ _ _ _ (c7 .loop .inv) (c6 .loop-test .taken) (c5 .word-at .ensures .0) _ (c4 .locate .ensures),
+        storing-room _ _ _ _ _ _ _ _ _ _ _ _ _ _ _ (c7 .loop .inv) (c6 .loop-test .taken) (c5 .word-at .ensures .0) _ (c4 .locate .ensures),
+      ),
+    )
+
+list-fields-loop-less-2 : (t : ℕ) → list-fields-lts.Need-loop-less-2 (list-fields-calls t) (list-fields-at t) list-fields.Post
+    list-fields-Inv-loop list-fields-μ-loop
+list-fields-loop-less-2 t c = omega arith
+
+list-fields-loop-again-2 : (t : ℕ) → list-fields-lts.Need-loop-again-2 (list-fields-calls t) (list-fields-at t) list-fields.Post
+    list-fields-Inv-loop list-fields-μ-loop
+list-fields-loop-again-2 t c =
+    let c2 = c .before .before in
+    let c7 = c2 .before .before .before .before .before in
+    let c8 = c7 .before in
+    let c9 = c8 .before in
+    let c10 = c9 .before in
+    storing-next _ _ _ _ _ _ _ _ _ _ _ _ _ _ _ (c10 .loop .inv) (c9 .loop-test .taken) (c8 .word-at .ensures .0) _ (c7 .locate .ensures) _ _
+    (c2 .list-item .ensures)
 
 list-fields-same-length : (t : ℕ) → list-fields-lts.Need-same-length (list-fields-calls t) (list-fields-at t) list-fields.Post list-fields-Inv-loop
     list-fields-μ-loop
@@ -388,14 +472,22 @@ pub +list-fields+list-item-spec : {M : Type 1} → statement M
     (list-fields-word-at-requires t)
     (list-fields-locate-requires t)
     (list-fields-add-place t)
+    (list-fields-add-a t)
+    (list-fields-sub-left t)
+    (list-fields-kind-of-requires t)
+    (list-fields-sub-put-entry t)
+    (list-fields-part-put-entry-start t)
+    (list-fields-part-put-entry-end t)
+    (list-fields-put-entry-requires t)
+    (list-fields-add-at t)
+    (list-fields-loop-less t)
+    (list-fields-loop-again t)
     (list-fields-sub-list-item t)
     (list-fields-part-list-item-start t)
     (list-fields-part-list-item-end t)
     (list-fields-list-item-requires t)
-    (list-fields-add-a t)
-    (list-fields-sub-left t)
-    (list-fields-loop-less t)
-    (list-fields-loop-again t)
+    (list-fields-loop-less-2 t)
+    (list-fields-loop-again-2 t)
     (list-fields-same-length t)
     (list-fields-returns t))
     λ t. list-item-lts.spec (list-item-calls t)

@@ -9,7 +9,8 @@ use Rattle.message.proofs.Rows.{row-below, row-under, under-below, span
 use Rattle.message.proofs.Bodies.{node-ok, container-row, body-below}
 use Rattle.message.proofs.UnfoldLeaves.{stored-length}
 use Rattle.message.proofs.Unfolds.{Filling, filled-none, filled-then, rooms-then, selector-filled, filling-accepts, filling-rooms, filling-next, filling-end, fields-accepts, container-rooms, container-filled, leaf-accepts, leaf-rooms, leaf-filled, union-room, union-long, bare-filled, never, body-words, body-bytes, body-accepts}
-use Rattle.message.proofs.Unfolds.{below-six, copied-room, copied-filled}
+use Rattle.message.proofs.Entries.{below-six}
+use Rattle.message.proofs.Unfolds.{copied-room, copied-filled}
 use Prim.Native.Nat.{ℕ, _<_}
 use borrow.Fn.Kinds.{In}
 use borrow.Fn.PlainCycle.{Measures, is, falls, and}
