@@ -22,6 +22,7 @@ use Rattle.layout.specs.declared.Node.{Node}
 use Rattle.layout.proofs.Facts.{as-leaf}
 use Rattle.message.specs.Steps.{Row, rowOf, isPlain}
 use Rattle.message.proofs.Rows.{row-below, row-head}
+use Rattle.message.proofs.Entries.{below-six}
 use Rattle.value.specs.Walk.{Walked, upto, wrong, withBody, walkItem, walkFields}
 use Rattle.value.specs.Write.{bytesAt, writeItem, partsFrom}
 use Rattle.value.specs.Steps.{cap, measured, extra, IsUpto}
@@ -35,18 +36,12 @@ use Rattle.value.proofs.Fills.{Writing, writing-upto, writing-room, wri
 
 -- A kind below 6 has no lower types, and the number of its type is no matter.
 module _ (l : List ℕ) (f : ℕ) (n : Node) (e : n ≡ nodeOf l f) (h : n .kind < 6) where
-  not-six : n .kind ≡ 6 → ⊥
-  not-six q = omega arith
-
-  not-seven : n .kind ≡ 7 → ⊥
-  not-seven q = omega arith
-
   module _ (c b : List ℕ) (i j : ℕ) where
     below-walk : walkItem (treeOf l f) c b i j ≡ walkItem (leafOf 0 n) c b i j
-    below-walk = tree-walk l f n e not-six not-seven c b i j
+    below-walk = let s = below-six (n .kind) h in tree-walk l f n e (s .0) (s .1) c b i j
 
     below-write : writeItem (treeOf l f) c b i j ≡ writeItem (leafOf 0 n) c b i j
-    below-write = tree-write l f n e not-six not-seven c b i j
+    below-write = let s = below-six (n .kind) h in tree-write l f n e (s .0) (s .1) c b i j
 
     pub below-measured : (r : Measured) → r ≡ measured (walkItem (leafOf 0 n) c b i j) (length (writeItem (leafOf 0 n) c b i j)) →
         r ≡ measured (walkItem (treeOf l f) c b i j) (length (writeItem (treeOf l f) c b i j))
@@ -62,7 +57,8 @@ module _ (l : List ℕ) (f : ℕ) (n : Node) (e : n ≡ nodeOf l f) (h : n .kind
     below-put o at r o′ p = rw (below-walk, below-write) p
 
 -- What was stored, under another name.
-pub put-as : (o : List ℕ) (at : ℕ) (x : List ℕ) (w : Walked) (r r₀ : Stop) (o′ o₁ : List ℕ) → o′ ≡ o₁ → r ≡ r₀ → Put o at x w r₀ o₁ → Put o at x w r o′
+pub put-as : (o : List ℕ) (at : ℕ) (x : List ℕ) (w : Walked) (r r₀ : Stop) (o′ o₁ : List ℕ) → o′ ≡ o₁ → r ≡ r₀ → Put o at x w r₀ o₁ →
+    Put o at x w r o′
 put-as o at x w r r₀ o′ o₁ d e p = rw (d, e) p
 
 -- A type whose items are k bytes of the bodies, whatever they are
@@ -98,7 +94,8 @@ module _ (lens l : List ℕ) (t a left f : ℕ) (g : Row lens l t a left) (z : 0
       let n = nodeOf l f in
       let s = plain-kind (n .kind) (sym (ap isPlain d) ∙ h) in
       let b : n .kind < 6 = ⊎-elim (λ (p : n .kind ≡ 0). omega arith) (λ (p : n .kind ≡ 2). omega arith) s in
-      let x : Plain (treeOf l f) (n .second) = rw (as-leaf l f n refl (not-six l f n refl b) (not-seven l f n refl b)) (plain-leaf f n s) in
+      let v = below-six (n .kind) b in
+      let x : Plain (treeOf l f) (n .second) = rw (as-leaf l f n refl (v .0) (v .1)) (plain-leaf f n s) in
       let y : k ≡ n .second = q ∙ g .under .found f (row-below lens l t a left f g z e) ∙ ap lenOf (x .head) in
       rw y x
 
@@ -110,7 +107,8 @@ module _ (lens l : List ℕ) (t a₀ n : ℕ) (c b : List ℕ) (i₀ j₀ : ℕ)
       let y : length (writeItem (treeOf l f) c b i j) ≡ k = ap length (p .write c b i j) ∙ length-bytesAt b j k (leb-true _ _ h) in
       let w : walkItem (treeOf l f) c b i j ≡ upto i (j + k) = p .walk c b i j ∙ rw h in
       let d : headOf k ≡ Fixed k = ap headOf q ∙ row-head lens l t a left f (g .row) z e ∙ p .head in
-      let x = measuring-next lens l t a₀ n c b i₀ j₀ sum a left i j f g z e (record { word = i; byte = j + k; len = cap k }) (rw (w, y)) k q (cap k) (rw d (omega arith)) in
+      let x = measuring-next lens l t a₀ n c b i₀ j₀ sum a left i j f g z e (record { word = i; byte = j + k; len = cap k }) (rw (w, y)) k q (cap k)
+      (rw d (omega arith)) in
       let v : cap (sum + cap k) ≡ cap (sum + k) = omega arith in
       rw v at x
 

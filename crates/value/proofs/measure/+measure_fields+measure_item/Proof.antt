@@ -228,12 +228,12 @@ measure-fields-look-requires : (t : ℕ) → measure-fields-lts.Need-look-requir
     measure-fields-Inv-loop measure-fields-μ-loop
 measure-fields-look-requires t c κs = search needs
 
-measure-fields-measure-leaf-requires : (t : ℕ) → measure-fields-lts.Need-measure-leaf-requires (measure-fields-calls t) (measure-fields-at t) measure-fields.Post
-    measure-fields-Inv-loop measure-fields-μ-loop
+measure-fields-measure-leaf-requires : (t : ℕ) → measure-fields-lts.Need-measure-leaf-requires (measure-fields-calls t) (measure-fields-at t)
+    measure-fields.Post measure-fields-Inv-loop measure-fields-μ-loop
 measure-fields-measure-leaf-requires t c κs = search needs
 
-measure-fields-measure-item-requires : (t : ℕ) → measure-fields-lts.Need-measure-item-requires (measure-fields-calls t) (measure-fields-at t) measure-fields.Post
-    measure-fields-Inv-loop measure-fields-μ-loop
+measure-fields-measure-item-requires : (t : ℕ) → measure-fields-lts.Need-measure-item-requires (measure-fields-calls t) (measure-fields-at t)
+    measure-fields.Post measure-fields-Inv-loop measure-fields-μ-loop
 measure-fields-measure-item-requires t c κs =
     let c7 = c .before .before .before .before .before .before .before in
     let c8 = c7 .before in

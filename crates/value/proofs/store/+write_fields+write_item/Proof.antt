@@ -190,7 +190,8 @@ write-fields-add-byte t c =
     let field =
     plain-field _ _ _ _ _ _ (c6 .loop .inv .row) (c5 .loop-test .taken) (c4 .word-at .ensures .0) _ refl _ (c2 .kind-of .ensures)
     (sym (c1 .is-plain .ensures) ∙ c .if1 .taken) in
-    let there = writing-there _ _ _ _ _ _ _ _ _ _ _ _ _ _ _ _ _ _ _ (c13 .pre .1 .walk) (c6 .loop .inv) (c5 .loop-test .taken) (c4 .word-at .ensures .0) _ refl field in
+    let there = writing-there _ _ _ _ _ _ _ _ _ _ _ _ _ _ _ _ _ _ _ (c13 .pre .1 .walk) (c6 .loop .inv) (c5 .loop-test .taken)
+    (c4 .word-at .ensures .0) _ refl field in
     omega (arith, there, c13 .good)
 
 write-fields-sub-copy-into : (t : ℕ) → write-fields-lts.Need-sub-copy-into (write-fields-calls t) (write-fields-at t) write-fields.Post
@@ -214,7 +215,8 @@ write-fields-part-copy-into-end t c =
     let field =
     plain-field _ _ _ _ _ _ (c7 .loop .inv .row) (c6 .loop-test .taken) (c5 .word-at .ensures .0) _ refl _ (c3 .kind-of .ensures)
     (sym (c2 .is-plain .ensures) ∙ c1 .if1 .taken) in
-    let there = writing-there _ _ _ _ _ _ _ _ _ _ _ _ _ _ _ _ _ _ _ (c14 .pre .1 .walk) (c7 .loop .inv) (c6 .loop-test .taken) (c5 .word-at .ensures .0) _ refl field in
+    let there = writing-there _ _ _ _ _ _ _ _ _ _ _ _ _ _ _ _ _ _ _ (c14 .pre .1 .walk) (c7 .loop .inv) (c6 .loop-test .taken)
+    (c5 .word-at .ensures .0) _ refl field in
     there .0
 
 write-fields-copy-into-requires : (t : ℕ) → write-fields-lts.Need-copy-into-requires (write-fields-calls t) (write-fields-at t) write-fields.Post
@@ -230,7 +232,8 @@ write-fields-copy-into-requires t c κs =
     let field =
     plain-field _ _ _ _ _ _ (c8 .loop .inv .row) (c7 .loop-test .taken) (c6 .word-at .ensures .0) _ refl _ (c4 .kind-of .ensures)
     (sym (c3 .is-plain .ensures) ∙ c2 .if1 .taken) in
-    let there = writing-there _ _ _ _ _ _ _ _ _ _ _ _ _ _ _ _ _ _ _ (c15 .pre .1 .walk) (c8 .loop .inv) (c7 .loop-test .taken) (c6 .word-at .ensures .0) _ refl field in
+    let there = writing-there _ _ _ _ _ _ _ _ _ _ _ _ _ _ _ _ _ _ _ (c15 .pre .1 .walk) (c8 .loop .inv) (c7 .loop-test .taken)
+    (c6 .word-at .ensures .0) _ refl field in
     simp (length-take, length-drop) (omega (arith, there))
 
 write-fields-add-p : (t : ℕ) → write-fields-lts.Need-add-p (write-fields-calls t) (write-fields-at t) write-fields.Post
@@ -246,7 +249,8 @@ write-fields-add-p t c =
     let field =
     plain-field _ _ _ _ _ _ (c11 .loop .inv .row) (c10 .loop-test .taken) (c9 .word-at .ensures .0) _ refl _ (c7 .kind-of .ensures)
     (sym (c6 .is-plain .ensures) ∙ c5 .if1 .taken) in
-    let there = writing-there _ _ _ _ _ _ _ _ _ _ _ _ _ _ _ _ _ _ _ (c18 .pre .1 .walk) (c11 .loop .inv) (c10 .loop-test .taken) (c9 .word-at .ensures .0) _ refl field in
+    let there = writing-there _ _ _ _ _ _ _ _ _ _ _ _ _ _ _ _ _ _ _ (c18 .pre .1 .walk) (c11 .loop .inv) (c10 .loop-test .taken)
+    (c9 .word-at .ensures .0) _ refl field in
     omega (arith, there, c11 .loop .inv .long, c18 .good)
 
 write-fields-loop-less : (t : ℕ) → write-fields-lts.Need-loop-less (write-fields-calls t) (write-fields-at t) write-fields.Post
@@ -267,7 +271,8 @@ write-fields-loop-again t c =
     let field =
     plain-field _ _ _ _ _ _ (c11 .loop .inv .row) (c10 .loop-test .taken) (c9 .word-at .ensures .0) _ refl _ (c7 .kind-of .ensures)
     (sym (c6 .is-plain .ensures) ∙ c5 .if1 .taken) in
-    writing-plain _ _ _ _ _ _ _ _ _ _ _ _ _ _ _ _ _ _ _ (c18 .pre .1 .walk) (c11 .loop .inv) (c10 .loop-test .taken) (c9 .word-at .ensures .0) _ refl field _ (c2 .copy-into .ensures)
+    writing-plain _ _ _ _ _ _ _ _ _ _ _ _ _ _ _ _ _ _ _ (c18 .pre .1 .walk) (c11 .loop .inv) (c10 .loop-test .taken)
+    (c9 .word-at .ensures .0) _ refl field _ (c2 .copy-into .ensures)
 
 write-fields-begin-requires : (t : ℕ) → write-fields-lts.Need-begin-requires (write-fields-calls t) (write-fields-at t) write-fields.Post
     write-fields-Inv-loop write-fields-μ-loop
@@ -292,8 +297,10 @@ write-fields-put-leaf-requires t c κs =
     let c13 = c12 .before in
     let c14 = c13 .before in
     let c21 = c14 .before .before .before .before .before .before .before in
-    below-asked _ _ _ (c3 .look .ensures) (c1 .if2 .taken) _ _ _ _ _ _ (writing-upto _ _ _ _ _ _ _ _ _ _ _ _ _ _ _ _ _ _ _ (c21 .pre .1 .walk) (c14 .loop .inv) (c13 .loop-test .taken) (c12 .word-at .ensures .0))
-    (writing-room _ _ _ _ _ _ _ _ _ _ _ _ _ _ _ _ _ _ _ (c21 .pre .1 .walk) (c14 .loop .inv) (c13 .loop-test .taken) (c12 .word-at .ensures .0) _ refl _ _ (c6 .begin .ensures))
+    below-asked _ _ _ (c3 .look .ensures) (c1 .if2 .taken) _ _ _ _ _ _
+    (writing-upto _ _ _ _ _ _ _ _ _ _ _ _ _ _ _ _ _ _ _ (c21 .pre .1 .walk) (c14 .loop .inv) (c13 .loop-test .taken) (c12 .word-at .ensures .0))
+    (writing-room _ _ _ _ _ _ _ _ _ _ _ _ _ _ _ _ _ _ _ (c21 .pre .1 .walk) (c14 .loop .inv) (c13 .loop-test .taken) (c12 .word-at .ensures .0) _ refl _ _
+    (c6 .begin .ensures))
 
 write-fields-write-item-requires : (t : ℕ) → write-fields-lts.Need-write-item-requires (write-fields-calls t) (write-fields-at t) write-fields.Post
     write-fields-Inv-loop write-fields-μ-loop
@@ -307,7 +314,8 @@ write-fields-write-item-requires t c κs =
       (
         row-under _ _ _ _ _ _ (c14 .loop .inv .row) (c13 .loop-test .taken) (c12 .word-at .ensures .0),
         writing-upto _ _ _ _ _ _ _ _ _ _ _ _ _ _ _ _ _ _ _ (c21 .pre .1 .walk) (c14 .loop .inv) (c13 .loop-test .taken) (c12 .word-at .ensures .0),
-        writing-room _ _ _ _ _ _ _ _ _ _ _ _ _ _ _ _ _ _ _ (c21 .pre .1 .walk) (c14 .loop .inv) (c13 .loop-test .taken) (c12 .word-at .ensures .0) _ refl _ _ (c6 .begin .ensures),
+        writing-room _ _ _ _ _ _ _ _ _ _ _ _ _ _ _ _ _ _ _ (c21 .pre .1 .walk) (c14 .loop .inv) (c13 .loop-test .taken)
+            (c12 .word-at .ensures .0) _ refl _ _ (c6 .begin .ensures),
       ),
     )
 
@@ -318,7 +326,13 @@ write-fields-next-head-requires t c κs =
     let c12 = c11 .before in
     let c13 = c12 .before in
     let c20 = c13 .before .before .before .before .before .before .before in
-    λ z. omega (arith, writing-four _ _ _ _ _ _ _ _ _ _ _ _ _ _ _ _ _ _ _ (c20 .pre .1 .walk) (c13 .loop .inv) (c12 .loop-test .taken) (c11 .word-at .ensures .0) _ refl z, c13 .loop .inv .long, c20 .good)
+    λ z. omega (
+      arith,
+      writing-four _ _ _ _ _ _ _ _ _ _ _ _ _ _ _ _ _ _ _ (c20 .pre .1 .walk) (c13 .loop .inv) (c12 .loop-test .taken)
+          (c11 .word-at .ensures .0) _ refl z,
+      c13 .loop .inv .long,
+      c20 .good,
+    )
 
 write-fields-next-tail-requires : (t : ℕ) → write-fields-lts.Need-next-tail-requires (write-fields-calls t) (write-fields-at t) write-fields.Post
     write-fields-Inv-loop write-fields-μ-loop
@@ -346,7 +360,8 @@ write-fields-loop-again-2 t c =
     (λ h. put-as _ _ _ _ (c2 .if2 .s) _ (c2 .if2 .out) _ (h .5) (h .6) (h .2 .ensures))
     (c2 .if2 .came) in
     rw (c1 .next-head .ensures, c .next-tail .ensures)
-    (writing-next _ _ _ _ _ _ _ _ _ _ _ _ _ _ _ _ _ _ _ (c22 .pre .1 .walk) (c15 .loop .inv) (c14 .loop-test .taken) (c13 .word-at .ensures .0) _ refl _ _ (c7 .begin .ensures) (c2 .if2 .s) (c2 .if2 .out) put)
+    (writing-next _ _ _ _ _ _ _ _ _ _ _ _ _ _ _ _ _ _ _ (c22 .pre .1 .walk) (c15 .loop .inv) (c14 .loop-test .taken) (c13 .word-at .ensures .0) _ refl _ _
+    (c7 .begin .ensures) (c2 .if2 .s) (c2 .if2 .out) put)
 
 write-fields-same-length : (t : ℕ) → write-fields-lts.Need-same-length (write-fields-calls t) (write-fields-at t) write-fields.Post
     write-fields-Inv-loop write-fields-μ-loop
