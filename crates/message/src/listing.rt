@@ -63,7 +63,8 @@ pub(crate) fn list_item(
     }
 }
 
-// Stores the listing of the n fields of type t that the words from a0 on name, and returns where it ends.
+// Stores the listing of the n fields of type t that the words from a0 on name, and returns where it ends. A kind below 6 has no lower types:
+// its record is its listing.
 fn list_fields(
     out: &mut [u8],
     at0: usize,

@@ -167,7 +167,8 @@ pub(crate) fn unfold_item(
     }
 }
 
-// Stores the value forms of the n fields of type t that the words from a0 on name, and returns where they end.
+// Stores the value forms of the n fields of type t that the words from a0 on name, and returns where they end. A kind below 3 is its body
+// bytes alone, another below 6 has no lower types: only a container or a union is unfolded as an item.
 fn unfold_fields(
     contents: &mut [u32],
     bodies: &mut [u8],

@@ -298,7 +298,8 @@ pub(crate) fn measure_item(
     }
 }
 
-// Measures the forms of the n fields of type t that the words from a0 on name.
+// Measures the forms of the n fields of type t that the words from a0 on name. Most fields are numbers or fixed bytes, which need no call,
+// and another kind below 6 has no lower types: only a container or a union is measured as an item.
 fn measure_fields(
     lens: &[u32],
     layout: &[u8],

@@ -232,6 +232,7 @@ pub(crate) fn write_item(
 }
 
 // Stores the n fields of type t that the words from a0 on name: each head in the fixed portion, each body of variable size behind it.
+// A number or fixed bytes are copied at once, another kind below 6 has no lower types: only a container or a union is stored as an item.
 fn write_fields(
     out: &mut [u8],
     start: usize,
