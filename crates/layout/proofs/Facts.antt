@@ -117,6 +117,16 @@ fields-cons l lower a zero h = absurd (omega arith)
 fields-cons l lower a (suc n) h = let e : suc n - 1 ≡ n = omega arith in rw e
 
 -- The first of some fields, and the rest.
+module _ (l : List ℕ) (t a left : ℕ) (h : wordAt l a < t) (p : 0 < left) where
+  pub fields-at : fields l (trees l t) a left ≡ field (treeOf l (wordAt l a)) (fields l (trees l t) (a + 1) (left - 1))
+  fields-at =
+      fields-cons l (trees l t) a left p
+      ∙ ap (λ (x : Ty). field x (fields l (trees l t) (a + 1) (left - 1))) (trees-get l t (wordAt l a) (boolean 0) h)
+
+  pub heads-at : (f : ℕ) → f ≡ wordAt l a → heads (fields l (trees l t) a left) ≡ head (treeOf l f) ∷ heads (fields l (trees l t) (a + 1) (left - 1))
+  unfolding heads
+  heads-at f e = rw (fields-at, e)
+
 module _ (l : List ℕ) (t a left : ℕ) (g : Lower l t a left) (p : 0 < left) where
   pub lower-here : wordAt l a < t
   unfolding Lower
@@ -127,13 +137,10 @@ module _ (l : List ℕ) (t a left : ℕ) (g : Lower l t a left) (p : 0 < left) w
   lower-rest = λ i h. let e : a + (i + 1) ≡ a + 1 + i = omega arith in rw e at (g (i + 1) (omega arith))
 
   pub fields-first : fields l (trees l t) a left ≡ field (treeOf l (wordAt l a)) (fields l (trees l t) (a + 1) (left - 1))
-  fields-first =
-      fields-cons l (trees l t) a left p
-      ∙ ap (λ (x : Ty). field x (fields l (trees l t) (a + 1) (left - 1))) (trees-get l t (wordAt l a) (boolean 0) lower-here)
+  fields-first = fields-at l t a left lower-here p
 
   pub heads-first : (f : ℕ) → f ≡ wordAt l a → heads (fields l (trees l t) a left) ≡ head (treeOf l f) ∷ heads (fields l (trees l t) (a + 1) (left - 1))
-  unfolding heads
-  heads-first f e = rw (fields-first, e)
+  heads-first f e = heads-at l t a left lower-here p f e
 
 pub fields-none : (l : List ℕ) (lower : List Ty) (a left : ℕ) → left ≤ 0 → fields l lower a left ≡ end
 unfolding fields

@@ -8,6 +8,7 @@ use native.Mathlib.Omega.{arith}
 use borrow.Author.Tests.{lt-ltb, le-ltb, ne-eqb}
 use lib.ListN.{set}
 use lib.Dec.{ltb}
+use Rattle.layout.specs.Table.{count, mayName, refs}
 use Rattle.standard.specs.Choice.{pick}
 use Rattle.standard.specs.Bytes.{wordAt}
 use Rattle.standard.specs.Types.{Ty, Tys, end, field, head, headAll, heads, joined, width, portion, LegalTy}
@@ -15,14 +16,14 @@ use Rattle.standard.specs.declared.Head.{Head}
 use Rattle.standard.specs.declared.Head.the-variants.{Fixed, Variable}
 use Rattle.standard.proofs.Laws.{fixed-some}
 use Rattle.layout.specs.Tree.{nodeOf, fields, trees, treeOf, lenOf, headOf, filled}
-use Rattle.layout.specs.Legal.{Lower, LegalNode, Legal}
+use Rattle.layout.specs.Legal.{LegalNode, Legal}
 use Rattle.layout.specs.Steps.{leafLen, sizesOf, Lengthened, Ended}
 use Rattle.layout.specs.declared.Node.{Node}
 use Rattle.layout.specs.declared.Sizes.{Sizes}
 use Rattle.layout.specs.declared.Checked.{Checked}
-use Rattle.layout.specs.declared.Checked.the-variants.{Bad}
-use Rattle.layout.proofs.Facts.{fields-first, fields-none, filled-set, head-len, as-container}
-use Rattle.layout.proofs.Tables.{Adding, adding-below, adding-next, adding-end, bad-upto}
+use Rattle.layout.specs.declared.Checked.the-variants.{Bad, Upto}
+use Rattle.layout.proofs.Facts.{fields-at, fields-none, filled-set, head-len, as-container}
+use Rattle.layout.proofs.Tables.{Adding, adding-next, adding-end, bad-upto, may-lower, refs-missing, refs-wrong, refs-lower}
 use Rattle.layout.proofs.Trees.{legal-tree, len-small, leaf-length}
 
 width-small : (m : ℕ) → m < 2 ^ 32 → width (headOf m) < 2 ^ 32
@@ -63,75 +64,111 @@ pub record Taking (l : List ℕ) (t known a₀ n : ℕ) (lens : List ℕ) (a lef
   pub adding : Adding l t a₀ n a left sum
   pub same : withRest fixed sum (headAll (fields l (trees l t) a left)) ≡ headAll (fields l (trees l t) a₀ n)
 
-pub taking-start : (l : List ℕ) (t known a₀ n : ℕ) (lens : List ℕ) → lens ≡ filled l known → Lower l t a₀ n → Taking l t known a₀ n lens a₀ n 0 true
-taking-start l t known a₀ n lens f h =
-    record { found = f; adding = record { lower = h; some = omega arith; place = refl; bound = omega arith; same = omega arith }; same = joined-zero _ }
+pub taking-start : (l : List ℕ) (t known a₀ n : ℕ) (lens : List ℕ) → lens ≡ filled l known → Taking l t known a₀ n lens a₀ n 0 true
+taking-start l t known a₀ n lens f =
+    record { found = f; adding = record { tests = refl; some = omega arith; place = refl; bound = omega arith; same = omega arith }; same = joined-zero _ }
 
 module _ (l : List ℕ) (t known a₀ n : ℕ) (lens : List ℕ) (a left sum : ℕ) (fixed : Bool) (f k : ℕ) (s : Taking l t known a₀ n lens a left sum fixed)
     (p : 0 < left) (e : f ≡ wordAt l a) (i : t ≤ known) where
-  pub taking-lower : f < t
-  taking-lower = adding-below l t a₀ n a left sum f (s .adding) p e
+  -- a word that is missing, or names no lower type
+  pub taking-missing : count l ≤ a → Bad (count l) ≡ refs l t false a₀ n
+  taking-missing h = refs-missing l t false a left _ p (s .adding .tests) h
 
-  pub taking-below : f < known
-  taking-below = omega (arith, taking-lower)
+  module _ (j : a < count l) (ok : Bool) (m : ok ≡ mayName f t false) where
+    pub taking-wrong : ok ≡ false → Bad a ≡ refs l t false a₀ n
+    taking-wrong u = refs-wrong l t false a left _ p (s .adding .tests) f ok j e m u
 
-  -- what the call for the field leaves in the array
-  pub taking-kept : (lens′ : List ℕ) → lens′ ≡ filled l (pick (ltb f known) known (known + 1)) → lens′ ≡ filled l known
-  taking-kept lens′ q = rw (lt-ltb f known taking-below) at q
+    module _ (u : ok ≡ true) where
+      pub taking-lower : f < t
+      taking-lower = may-lower f t false (sym m ∙ u) refl
 
-  module _ (g : Legal l known) (h : k ≡ lenOf (head (treeOf l f))) where
-    taking-legal : LegalTy (treeOf l f)
-    taking-legal = legal-tree l known f g taking-below
+      pub taking-below : f < known
+      taking-below = omega (arith, taking-lower)
 
-    taking-head : head (treeOf l f) ≡ headOf k
-    taking-head = rw h (sym (head-len (treeOf l f) taking-legal))
+      -- what the call for the field leaves in the array
+      pub taking-kept : (lens′ : List ℕ) → lens′ ≡ filled l (pick (ltb f known) known (known + 1)) → lens′ ≡ filled l known
+      taking-kept lens′ q = rw (lt-ltb f known taking-below) at q
 
-    taking-small : k < 2 ^ 32
-    unfolding Legal
-    taking-small = rw h (len-small l f (g f taking-below))
+      module _ (g : Legal l known) (h : k ≡ lenOf (head (treeOf l f))) where
+        taking-legal : LegalTy (treeOf l f)
+        taking-legal = legal-tree l known f g taking-below
 
-    taking-first : (x : Head) → head (treeOf l f) ≡ x → withRest fixed sum (joined x (headAll (fields l (trees l t) (a + 1) (left - 1)))) ≡
-        headAll (fields l (trees l t) a₀ n)
-    unfolding head
-    taking-first x q = rw (← q, e) (rw (fields-first l t a left (s .adding .lower) p) at (s .same))
+        taking-head : head (treeOf l f) ≡ headOf k
+        taking-head = rw h (sym (head-len (treeOf l f) taking-legal))
 
-    module _ (w : ℕ) (v : w ≡ width (headOf k)) where
-      pub taking-width : w < 2 ^ 32
-      taking-width = rw v (width-small k taking-small)
+        taking-small : k < 2 ^ 32
+        unfolding Legal
+        taking-small = rw h (len-small l f (g f taking-below))
 
-      taking-adding : Adding l t a₀ n (a + 1) (left - 1) (sum + w)
-      taking-adding = adding-next l t a₀ n a left sum f (s .adding) p e w (rw taking-head v) taking-width
+        taking-first : (x : Head) → head (treeOf l f) ≡ x → withRest fixed sum (joined x (headAll (fields l (trees l t) (a + 1) (left - 1)))) ≡
+            headAll (fields l (trees l t) a₀ n)
+        unfolding head
+        taking-first x q = rw (← q, e) (rw (fields-at l t a left (rw (← e) taking-lower) p) at (s .same))
 
-      pub taking-fixed : (lens′ : List ℕ) → lens′ ≡ filled l (pick (ltb f known) known (known + 1)) → (k ≡ 0 → ⊥) →
-          Taking l t known a₀ n lens′ (a + 1) (left - 1) (sum + w) fixed
-      unfolding width
-      taking-fixed lens′ q z =
-          let y : w ≡ k = rw (ne-eqb k 0 z) at v in
-          record {
-            found = taking-kept lens′ q;
-            adding = taking-adding;
-            same =
-                rw y (sym (with-next fixed sum k _) ∙ taking-first (Fixed k) (rw (ne-eqb k 0 z) at taking-head));
-          }
+        module _ (w : ℕ) (v : w ≡ width (headOf k)) where
+          pub taking-width : w < 2 ^ 32
+          taking-width = rw v (width-small k taking-small)
 
-      pub taking-variable : (lens′ : List ℕ) → lens′ ≡ filled l (pick (ltb f known) known (known + 1)) → k ≡ 0 →
-          Taking l t known a₀ n lens′ (a + 1) (left - 1) (sum + w) false
-      taking-variable lens′ q z =
-          record { found = taking-kept lens′ q; adding = taking-adding; same = sym (with-variable fixed sum _) ∙ taking-first Variable (rw z at taking-head) }
+          taking-adding : Adding l t a₀ n (a + 1) (left - 1) (sum + w)
+          taking-adding = adding-next l t a₀ n a left sum f (s .adding) p e j taking-lower w (rw taking-head v) taking-width
+
+          pub taking-fixed : (lens′ : List ℕ) → lens′ ≡ filled l (pick (ltb f known) known (known + 1)) → (k ≡ 0 → ⊥) →
+              Taking l t known a₀ n lens′ (a + 1) (left - 1) (sum + w) fixed
+          unfolding width
+          taking-fixed lens′ q z =
+              let y : w ≡ k = rw (ne-eqb k 0 z) at v in
+              record {
+                found = taking-kept lens′ q;
+                adding = taking-adding;
+                same =
+                    rw y (sym (with-next fixed sum k _) ∙ taking-first (Fixed k) (rw (ne-eqb k 0 z) at taking-head));
+              }
+
+          pub taking-variable : (lens′ : List ℕ) → lens′ ≡ filled l (pick (ltb f known) known (known + 1)) → k ≡ 0 →
+              Taking l t known a₀ n lens′ (a + 1) (left - 1) (sum + w) false
+          taking-variable lens′ q z =
+              record { found = taking-kept lens′ q; adding = taking-adding; same = sym (with-variable fixed sum _) ∙ taking-first Variable (rw z at taking-head) }
 
 pub taking-end : (l : List ℕ) (t known a₀ n : ℕ) (lens : List ℕ) (a left sum : ℕ) (fixed : Bool) → Taking l t known a₀ n lens a left sum fixed →
-    left ≤ 0 → record { portion = sum; length = pick fixed sum 0 } ≡ sizesOf (fields l (trees l t) a₀ n)
-unfolding head
+    left ≤ 0 → record { end = Upto a; portion = sum; length = pick fixed sum 0 } ≡ sizesOf (refs l t false a₀ n) (fields l (trees l t) a₀ n)
+unfolding head sizesOf
 taking-end l t known a₀ n lens a left sum fixed s h =
     let q = rw (fields-none l (trees l t) a left h) at (s .same) in
     let y : pick fixed sum 0 ≡ lenOf (headAll (fields l (trees l t) a₀ n)) = sym (with-end fixed sum) ∙ ap lenOf q in
-    rw (← adding-end l t a₀ n a left sum (s .adding) h, y)
+    let d = adding-end l t a₀ n a left sum (s .adding) h in
+    rw (← d .0, ← d .1, y)
+
+pub no-sizes : (x : Checked) (w : ℕ) (ts : Tys) → Bad w ≡ x → record { end = Bad w; portion = 0; length = 0 } ≡ sizesOf x ts
+unfolding sizesOf
+no-sizes x w ts h = rw (← h)
+
+-- Of fields whose words are accepted, all sizes are those of the fields.
+pub sizes-end : (x : Checked) (ts : Tys) (s : Sizes) → s ≡ sizesOf x ts → s .end ≡ x
+unfolding sizesOf
+sizes-end (Bad w) ts s e = ap (λ (y : Sizes). y .end) e
+sizes-end (Upto i) ts s e = ap (λ (y : Sizes). y .end) e
+
+module _ (x : Checked) (ts : Tys) (s : Sizes) (i : ℕ) (e : s ≡ sizesOf x ts) (u : x ≡ Upto i) where
+  sizes-known : s ≡ record { end = Upto i; portion = portion (heads ts); length = lenOf (headAll ts) }
+  unfolding sizesOf
+  sizes-known = rw u at e
+
+  pub sizes-portion : s .portion ≡ portion (heads ts)
+  sizes-portion = ap (λ (y : Sizes). y .portion) sizes-known
+
+  pub sizes-length : s .length ≡ lenOf (headAll ts)
+  sizes-length = ap (λ (y : Sizes). y .length) sizes-known
 
 -- The length of a container is that of its fields.
-pub sizes-len : (l : List ℕ) (t : ℕ) (r : Node) (s : Sizes) → r ≡ nodeOf l t → r .kind ≡ 6 →
-    s ≡ sizesOf (fields l (trees l t) (r .at + 2) (r .second)) → s .length ≡ lenOf (head (treeOf l t))
+pub sizes-len : (l : List ℕ) (t : ℕ) (r : Node) (s : Sizes) (i : ℕ) → r ≡ nodeOf l t → r .kind ≡ 6 →
+    s ≡ sizesOf (refs l t false (r .at + 2) (r .second)) (fields l (trees l t) (r .at + 2) (r .second)) →
+    refs l t false (r .at + 2) (r .second) ≡ Upto i → s .length ≡ lenOf (head (treeOf l t))
 unfolding head
-sizes-len l t r s e h q = rw (as-container l t r e h) (ap (λ (x : Sizes). x .length) q)
+sizes-len l t r s i e h q u = rw (as-container l t r e h) (sizes-length _ _ s i q u)
+
+-- Of a legal container the words are accepted.
+pub legal-refs : (l : List ℕ) (t : ℕ) (r : Node) → LegalNode l t r → r .kind ≡ 6 → refs l t false (r .at + 2) (r .second) ≡ Upto (r .at + 2 + r .second)
+legal-refs l t r g h = refs-lower l t (r .second) (r .at + 2) (g .lower h) (g .within h)
 
 -- A length that is found is remembered.
 pub lengthened : (l : List ℕ) (known t r : ℕ) (lens : List ℕ) → lens ≡ filled l known → t ≤ known → known ≤ t → t < 64 →
@@ -157,11 +194,8 @@ len-portion (field t ts) = go (head t) (headAll ts) (len-portion ts)
     go (Fixed n) Variable q = omega arith
     go Variable g q = omega arith
 
-pub sizes-small : (ts : Tys) (s : Sizes) → s ≡ sizesOf ts → s .portion ≤ 4294967295 → s .length < 2 ^ 32
-sizes-small ts s e h =
-    let p : s .portion ≡ portion (heads ts) = ap (λ (x : Sizes). x .portion) e in
-    let q : s .length ≡ lenOf (headAll ts) = ap (λ (x : Sizes). x .length) e in
-    omega (arith, p, q, len-portion ts)
+pub sizes-small : (x : Checked) (ts : Tys) (s : Sizes) (i : ℕ) → s ≡ sizesOf x ts → x ≡ Upto i → s .portion ≤ 4294967295 → s .length < 2 ^ 32
+sizes-small x ts s i e u h = omega (arith, sizes-portion x ts s i e u, sizes-length x ts s i e u, len-portion ts)
 
 -- The type t, whose body starts at the word at.
 module _ (l : List ℕ) (t at : ℕ) (w : at ≡ wordAt l (1 + t)) where
@@ -169,9 +203,10 @@ module _ (l : List ℕ) (t at : ℕ) (w : at ≡ wordAt l (1 + t)) where
   unfolding nodeOf
   node-here k m p q = rw (p, q, w)
 
-  pub container-len : (n : ℕ) (s : Sizes) → wordAt l at ≡ 6 → n ≡ wordAt l (at + 1) → s ≡ sizesOf (fields l (trees l t) (at + 2) n) →
+  pub container-len : (n : ℕ) (s : Sizes) (i : ℕ) → wordAt l at ≡ 6 → n ≡ wordAt l (at + 1) →
+      s ≡ sizesOf (refs l t false (at + 2) n) (fields l (trees l t) (at + 2) n) → refs l t false (at + 2) n ≡ Upto i →
       s .length ≡ lenOf (head (treeOf l t))
-  container-len n s k m q = sizes-len l t (record { kind = wordAt l at; at = at; second = n }) s (node-here _ n refl m) k q
+  container-len n s i k m q u = sizes-len l t (record { kind = wordAt l at; at = at; second = n }) s i (node-here _ n refl m) k q u
 
   pub leaf-found : (k m v : ℕ) (lens : List ℕ) → k ≡ wordAt l at → m ≡ wordAt l (at + 1) → (k ≡ 6 → ⊥) →
       v ≡ leafLen (record { kind = k; at = at; second = m }) → lens ≡ filled l t → t < 64 → set lens t v ≡ filled l (t + 1)

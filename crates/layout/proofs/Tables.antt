@@ -20,7 +20,7 @@ use Rattle.layout.specs.Steps.{Known, Typed, Tabled}
 use Rattle.layout.specs.declared.Node.{Node}
 use Rattle.layout.specs.declared.Checked.{Checked}
 use Rattle.layout.specs.declared.Checked.the-variants.{Bad, Upto}
-use Rattle.layout.proofs.Facts.{fields-first, fields-none, heads-first, lower-here, lower-rest, filled-get, length-filled, head-len, legal-below, legal-more}
+use Rattle.layout.proofs.Facts.{fields-none, heads-at, lower-here, lower-rest, filled-get, length-filled, head-len, legal-below, legal-more}
 use Rattle.layout.proofs.Trees.{legal-tree, len-small}
 
 -- A found length, as a head.
@@ -61,27 +61,29 @@ module _ (l : List ℕ) (t : ℕ) (none : Bool) (a left : ℕ) (x : Checked) (p 
     pub refs-next : ok ≡ true → refs l t none (a + 1) (left - 1) ≡ x
     refs-next s = rw (refs-cons l t none a left p, lt-ltb _ _ h, ← q, ← r, s) at e
 
--- The loop of `fields_len`: what is added to the fixed portion, and what is left to add.
+-- The loop of `fields_len`: what is added to the fixed portion, and what is left to add and to test.
 pub record Adding (l : List ℕ) (t a₀ n a left sum : ℕ) : Type 0 where
-  pub lower : Lower l t a left
+  pub tests : refs l t false a left ≡ refs l t false a₀ n
   pub some : left ≤ n
   pub place : a + left ≡ a₀ + n
   pub bound : sum + 4294967296 * left ≤ 4294967296 * n
   pub same : sum + portion (heads (fields l (trees l t) a left)) ≡ portion (heads (fields l (trees l t) a₀ n))
 
-module _ (l : List ℕ) (t a₀ n a left sum f : ℕ) (s : Adding l t a₀ n a left sum) (p : 0 < left) (e : f ≡ wordAt l a) where
-  pub adding-below : f < t
-  adding-below = rw e (lower-here l t a left (s .lower) p)
+module _ (l : List ℕ) (t a₀ n a left sum f : ℕ) (s : Adding l t a₀ n a left sum) (p : 0 < left) (e : f ≡ wordAt l a) (i : a < count l) (h : f < t) where
+  adding-tests : refs l t false (a + 1) (left - 1) ≡ refs l t false a₀ n
+  adding-tests = refs-next l t false a left _ p (s .tests) f true i e (rw (lt-ltb f t h)) refl
 
   pub adding-next : (w : ℕ) → w ≡ width (head (treeOf l f)) → w < 2 ^ 32 → Adding l t a₀ n (a + 1) (left - 1) (sum + w)
   unfolding portion
   adding-next w q z =
-      let x = rw (heads-first l t a left (s .lower) p f e, ← q) at (s .same) in
-      record { lower = lower-rest l t a left (s .lower) p; some = omega arith; place = omega (arith, s .place); bound = omega arith; same = omega arith }
+      let x = rw (heads-at l t a left (rw (← e) h) p f e, ← q) at (s .same) in
+      record { tests = adding-tests; some = omega arith; place = omega (arith, s .place); bound = omega arith; same = omega arith }
 
-pub adding-end : (l : List ℕ) (t a₀ n a left sum : ℕ) → Adding l t a₀ n a left sum → left ≤ 0 → sum ≡ portion (heads (fields l (trees l t) a₀ n))
+pub adding-end : (l : List ℕ) (t a₀ n a left sum : ℕ) → Adding l t a₀ n a left sum → left ≤ 0 →
+    (Upto a ≡ refs l t false a₀ n) × (sum ≡ portion (heads (fields l (trees l t) a₀ n)))
 unfolding heads portion
-adding-end l t a₀ n a left sum s h = omega (arith, rw (fields-none l (trees l t) a left h) at (s .same))
+adding-end l t a₀ n a left sum s h =
+    (sym (refs-none l t false a left h) ∙ s .tests, omega (arith, rw (fields-none l (trees l t) a left h) at (s .same)))
 
 -- An accepted answer, by its tests.
 upto-left : (c : Bool) (u : Checked) (w e : ℕ) → pick c u (Bad w) ≡ Upto e → (c ≡ true) × (u ≡ Upto e)
@@ -102,7 +104,7 @@ both-true : (a b : Bool) → andAlso a b ≡ true → (a ≡ true) × (b ≡ tru
 both-true true b h = (refl, h)
 both-true false b h = let z : _≡_ {A = ℕ} 0 1 = cc in absurd (omega arith)
 
-may-lower : (w t : ℕ) (none : Bool) → mayName w t none ≡ true → none ≡ false → w < t
+pub may-lower : (w t : ℕ) (none : Bool) → mayName w t none ≡ true → none ≡ false → w < t
 may-lower w t none h q = go (ltb w t) refl (rw q at h)
   where
     go : (a : Bool) → ltb w t ≡ a → orElse a false ≡ true → w < t
@@ -119,24 +121,36 @@ may-bare w t none h q = go (ltb w t) none refl (rw (ne-eqb _ _ q) at h)
 
 -- Accepted references are within the table, and each may stand there.
 refs-say : (l : List ℕ) (t : ℕ) (none : Bool) (n a e : ℕ) → a ≤ count l → refs l t none a n ≡ Upto e →
-    (e ≤ count l) × ((i : ℕ) → i < n → mayName (wordAt l (a + i)) t none ≡ true)
+    (e ≤ count l) × (e ≡ a + n) × ((i : ℕ) → i < n → mayName (wordAt l (a + i)) t none ≡ true)
 unfolding refs
-refs-say l t none zero a e k h = (omega (arith, upto-inj a e h), λ i q. absurd (omega arith))
+refs-say l t none zero a e k h = (omega (arith, upto-inj a e h), omega (arith, upto-inj a e h), λ i q. absurd (omega arith))
 refs-say l t none (suc n) a e k h =
     let p = upto-left (ltb a (count l)) _ (count l) e h in
     let q = upto-left (mayName (wordAt l a) t none) (refs l t none (a + 1) n) a e (p .1) in
     let r = refs-say l t none n (a + 1) e (omega (arith, ltb-true a (count l) (p .0))) (q .1) in
-    (r .0, all (q .0) (r .1))
+    (r .0, omega (arith, r .1), all (q .0) (r .2))
   where
     all : mayName (wordAt l a) t none ≡ true → ((i : ℕ) → i < n → mayName (wordAt l (a + 1 + i)) t none ≡ true) → (i : ℕ) → i < suc n →
         mayName (wordAt l (a + i)) t none ≡ true
     all x f zero j = rw add-zero x
     all x f (suc i) j = let s : a + suc i ≡ a + 1 + i = omega arith in rw s (f i (omega arith))
 
+-- And references to lower types within the table are accepted.
+pub refs-lower : (l : List ℕ) (t n a : ℕ) → Lower l t a n → a + n ≤ count l → refs l t false a n ≡ Upto (a + n)
+unfolding refs
+refs-lower l t zero a g h = ap Upto (omega arith)
+refs-lower l t (suc n) a g h =
+    let f = lower-here l t a (suc n) g (omega arith) in
+    let e : suc n - 1 ≡ n = omega arith in
+    let r = refs-lower l t n (a + 1) (rw e at (lower-rest l t a (suc n) g (omega arith))) (omega arith) in
+    let q : a + 1 + n ≡ a + suc n = omega arith in
+    rw (lt-ltb a (count l) (omega arith), lt-ltb (wordAt l a) t f) (rw q at r)
+
 pub record Many (l : List ℕ) (t at most : ℕ) (none : Bool) (e : ℕ) : Type 0 where
   pub some : 1 ≤ wordAt l (at + 1)
   pub few : wordAt l (at + 1) ≤ most
   pub within : e ≤ count l
+  pub ends : e ≡ at + 2 + wordAt l (at + 1)
   pub each : (i : ℕ) → i < wordAt l (at + 1) → mayName (wordAt l (at + 2 + i)) t none ≡ true
 
 pub many-says : (l : List ℕ) (t at most : ℕ) (none : Bool) (e : ℕ) → many l t at none most ≡ Upto e → Many l t at most none e
@@ -146,7 +160,7 @@ many-says l t at most none e h =
     let q = upto-left (andAlso (ltb 0 (wordAt l (at + 1))) (leb (wordAt l (at + 1)) most)) _ (at + 1) e (p .1) in
     let r = both-true (ltb 0 (wordAt l (at + 1))) (leb (wordAt l (at + 1)) most) (q .0) in
     let s = refs-say l t none (wordAt l (at + 1)) (at + 2) e (omega (arith, ltb-true (at + 1) (count l) (p .0))) (q .1) in
-    record { some = ltb-true _ _ (r .0); few = leb-true _ _ (r .1); within = s .0; each = s .1 }
+    record { some = ltb-true _ _ (r .0); few = leb-true _ _ (r .1); within = s .0; ends = s .1; each = s .2 }
 
 pub many-lower : (l : List ℕ) (t at most e : ℕ) → Many l t at most false e → Lower l t (at + 2) (wordAt l (at + 1))
 unfolding Lower
@@ -238,6 +252,8 @@ module _ (l : List ℕ) (t at e : ℕ) (h : bodyEnd l t at ≡ Upto e) where
         leaf = λ k n. leaf-says l at e (leaf k n) .0;
         some = some-of;
         few = λ k. container-says l t at e (six k) .0 .few;
+        within =
+            λ k. let m = container-says l t at e (six k) .0 in omega (arith, m .within, m .ends);
         lower = λ k. many-lower l t at 64 e (container-says l t at e (six k) .0);
         short = λ k. container-says l t at e (six k) .1;
         most = λ k. many-says l t at 128 true e (seven k) .few;

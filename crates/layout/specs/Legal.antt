@@ -6,7 +6,7 @@ use mathlib.Core.Bool.{true}
 use Rattle.standard.specs.Bytes.{wordAt}
 use Rattle.standard.specs.Types.{portion, heads}
 use Rattle.layout.specs.Tree.{nodeOf, fields, trees}
-use Rattle.layout.specs.Table.{leafWord}
+use Rattle.layout.specs.Table.{count, leafWord}
 use Rattle.layout.specs.declared.Node.{Node}
 
 -- The n words from at on name types below t.
@@ -25,6 +25,7 @@ pub record LegalNode (l : List ℕ) (t : ℕ) (n : Node) : Type 0 where
   pub leaf : n .kind < 6 → (n .kind ≡ 1 → ⊥) → leafWord (n .kind) (n .second) ≡ true
   pub some : 6 ≤ n .kind → 1 ≤ n .second
   pub few : n .kind ≡ 6 → n .second ≤ 64
+  pub within : n .kind ≡ 6 → n .at + 2 + n .second ≤ count l
   pub lower : n .kind ≡ 6 → Lower l t (n .at + 2) (n .second)
   pub short : n .kind ≡ 6 → portion (heads (fields l (trees l t) (n .at + 2) (n .second))) < 2 ^ 32
   pub most : n .kind ≡ 7 → n .second ≤ 128

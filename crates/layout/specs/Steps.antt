@@ -12,7 +12,7 @@ use Rattle.layout.specs.Legal.{Legal}
 use Rattle.layout.specs.declared.Node.{Node}
 use Rattle.layout.specs.declared.Sizes.{Sizes}
 use Rattle.layout.specs.declared.Checked.{Checked}
-use Rattle.layout.specs.declared.Checked.the-variants.{Upto}
+use Rattle.layout.specs.declared.Checked.the-variants.{Bad, Upto}
 
 -- The first k types of the table l are legal, and their lengths stand in lens.
 pub record Known (lens l : List ℕ) (k : ℕ) : Type 0 where
@@ -24,9 +24,11 @@ pub record Known (lens l : List ℕ) (k : ℕ) : Type 0 where
 abbrev pub leafLen : Node → ℕ
 leafLen n = lenOf (head (leafOf 0 n))
 
--- What some fields take of a fixed portion, and their length; 0 stands for variable size
-abbrev pub sizesOf : Tys → Sizes
-sizesOf ts = record { portion = portion (heads ts); length = lenOf (headAll ts) }
+-- Where the words of some fields end, what the fields take of a fixed portion, and their length, where 0 stands for variable size; or the
+-- first bad word alone
+unfoldable pub sizesOf : Checked → Tys → Sizes
+sizesOf (Bad w) ts = record { end = Bad w; portion = 0; length = 0 }
+sizesOf (Upto e) ts = record { end = Upto e; portion = portion (heads ts); length = lenOf (headAll ts) }
 
 -- r is the length of the type t, and lens′ has it.
 pub record Lengthened (l : List ℕ) (known t r : ℕ) (lens′ : List ℕ) : Type 0 where

@@ -7,9 +7,11 @@ ghost use Prim.Native.Nat.{_+_, _≤_, _<_, _^_};
 ghost use lib.ListN.{set};
 ghost use Rattle.standard.specs.Bytes.{wordAt};
 ghost use Rattle.standard.specs.Types.{isWidth, width};
+ghost use mathlib.Core.Bool.{false};
 ghost use Rattle.layout.specs.Tree.{nodeOf, fields, trees, headOf};
 ghost use Rattle.layout.specs.Table.{count, mayName, refs, many, containerEnd, leafWord, leafEnd, bodyEnd, typesEnd, typesOf, tableOf, lengthsOf, toldOf};
-ghost use Rattle.layout.specs.Legal.{Lower, Legal};
+ghost use Rattle.layout.specs.declared.Checked.the-variants.{Bad};
+ghost use Rattle.layout.specs.Legal.{Legal};
 ghost use Rattle.layout.specs.Steps.{Known, leafLen, sizesOf, Lengthened, Ended, Typed, Tabled};
 
 // What stands in an option's place where it has no body.
@@ -28,8 +30,10 @@ pub enum Checked {
     Upto(usize),
 }
 
-// What some fields take of a fixed portion, and how long they are, 0 if one of them is of variable size.
+// Where the words of some fields end, or the first bad one; what the fields take of a fixed portion, and how long they are, 0 if one of them is
+// of variable size.
 struct Sizes {
+    end: Checked,
     portion: usize,
     length: usize,
 }
@@ -222,7 +226,18 @@ fn fixed_len(lens: &mut [u32; 64], known: usize, layout: &[u8], t: usize) -> usi
     len
 }
 
-// The sizes of the n fields of type t that the words from a0 on name, from their fixed lengths.
+// The words are not those of fields: nothing is known of their sizes.
+fn no_fields(w: usize) -> Sizes
+    ensures { λ r. ⌜ r ≡ record { end = Bad w; portion = 0; length = 0 } ⌝ }
+{
+    Sizes {
+        end: Checked::Bad(w),
+        portion: 0,
+        length: 0,
+    }
+}
+
+// The n words from a0 on are there and name types below t, the fields of type t: their sizes, from their fixed lengths.
 fn fields_len(
     lens: &mut [u32; 64],
     known: usize,
@@ -231,16 +246,24 @@ fn fields_len(
     a0: usize,
     n: usize,
 ) -> Sizes
-    requires { ⌜ Known (now lens) (now layout) known × (t ≤ known) × Lower (now layout) t a0 n × (n ≤ 64) × (a0 < 2 ^ 62) ⌝ }
-    ensures { λ r. ⌜ r ≡ sizesOf (fields (now (layout .entry)) (trees (now (layout .entry)) t) a0 n) ⌝ }
+    requires { ⌜ Known (now lens) (now layout) known × (t ≤ known) × (n ≤ 64) × (a0 < 2 ^ 62) ⌝ }
+    ensures { λ r. ⌜ r ≡ sizesOf (refs (now (layout .entry)) t false a0 n) (fields (now (layout .entry)) (trees (now (layout .entry)) t) a0 n) ⌝ }
     ensures { λ _. ⌜ now (lens .exit) ≡ now (lens .entry) ⌝ }
 {
+    let words = layout.len() / 4;
     let mut a = a0;
     let mut left = n;
     let mut portion: usize = 0;
     let mut fixed = true;
     while left > 0 {
+        if a >= words {
+            return no_fields(words);
+        }
         let f = word_at(layout, a);
+        let ok = may_name(f, t, false);
+        if !ok {
+            return no_fields(a);
+        }
         let k = fixed_len(lens, known, layout, f);
         if k == 0 {
             fixed = false;
@@ -250,22 +273,35 @@ fn fields_len(
         left -= 1;
     }
     let length = if fixed { portion } else { 0 };
-    Sizes { portion, length }
+    Sizes {
+        end: Checked::Upto(a),
+        portion,
+        length,
+    }
 }
 
-// The container t at the word at: its references end, and its fixed portion fits an offset; its length goes to `lens`.
+// The container t at the word at: a number of fields, their words, and a fixed portion that fits an offset; its length goes to `lens`.
 fn container_end(lens: &mut [u32; 64], layout: &[u8], t: usize, at: usize) -> Checked
     requires { ⌜ Known (now lens) (now layout) t × (t < 64) × (at < 2 ^ 32) × (at ≡ wordAt (now layout) (1 + t)) × (wordAt (now layout) at ≡ 6) ⌝ }
     ensures { λ r. ⌜ Ended (now (layout .entry)) t (containerEnd (now (layout .entry)) t at) r (now (lens .exit)) ⌝ }
 {
-    let c = many_end(layout, t, at, false, 64);
-    match c {
+    let words = layout.len() / 4;
+    let next = at + 1;
+    if next >= words {
+        return Checked::Bad(words);
+    }
+    let n = word_at(layout, next);
+    if n == 0 {
+        return Checked::Bad(next);
+    }
+    if n > 64 {
+        return Checked::Bad(next);
+    }
+    let sizes = fields_len(lens, t, layout, t, at + 2, n);
+    let end = sizes.end;
+    match end {
         Checked::Bad(w) => Checked::Bad(w),
         Checked::Upto(e) => {
-            let next = at + 1;
-            let n = word_at(layout, next);
-            let first = at + 2;
-            let sizes = fields_len(lens, t, layout, t, first, n);
             if sizes.portion > 4294967295 {
                 return Checked::Bad(at);
             }

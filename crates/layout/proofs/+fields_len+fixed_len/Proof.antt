@@ -4,11 +4,13 @@ use mathlib.Core.Logic.{⊎-elim}
 use Prim.Native.Nat.{_+_, _*_}
 use native.Mathlib.Omega.{arith}
 use borrow.Author.Needs.{needs}
-use borrow.Author.Tests.{lt-ltb}
+use borrow.Author.Tests.{lt-ltb, not-true, not-false}
+use Rattle.layout.specs.Table.{count}
 use Rattle.layout.proofs.Facts.{length-filled, legal-node, legal-below}
 use Rattle.layout.proofs.Trees.{leaf-length, len-small}
 use Rattle.layout.proofs.Tables.{known-len, known-small}
-use Rattle.layout.proofs.Lengths.{Taking, taking-start, taking-lower, taking-below, taking-width, taking-kept, taking-fixed, taking-variable, taking-end, sizes-len, lengthened}
+use Rattle.layout.proofs.Lengths.{Taking, taking-start, taking-missing, taking-wrong, taking-lower, taking-width, taking-fixed, taking-variable, taking-end, no-sizes}
+use Rattle.layout.proofs.Lengths.{sizes-len, legal-refs, lengthened}
 use Prim.Native.Nat.{ℕ, _<_}
 use borrow.Fn.Kinds.{In}
 use borrow.Fn.PlainCycle.{Measures, is, falls, and}
@@ -20,6 +22,8 @@ use Rattle.layout.proofs.fixed_len.Kinds as fixed-len-kinds
 use Rattle.layout.proofs.+fields_len+fixed_len.Lts-fixed_len as fixed-len-lts
 use Rattle.layout.proofs.leaf_len.Reads as leaf-len-reads
 use Rattle.layout.proofs.look.Reads as look-reads
+use Rattle.layout.proofs.may_name.Reads as may-name-reads
+use Rattle.layout.proofs.no_fields.Reads as no-fields-reads
 use Rattle.layout.proofs.width_of.Reads as width-of-reads
 use Rattle.standard.proofs.words.word_at.Reads as word-at-reads
 use Rattle.layout.proofs.+fields_len+fixed_len.{statement}
@@ -48,64 +52,112 @@ fixed-len-below t =
 
 -- what each of the two calls, at the measure t
 abbrev fields-len-calls : ℕ → fields-len-lts.Claims
-fields-len-calls t = (word-at-reads.Asked, word-at-reads.Learnt, fixed-len-below t, fixed-len.Post, width-of-reads.Asked, width-of-reads.Learnt)
+fields-len-calls t = (
+  no-fields-reads.Asked,
+  no-fields-reads.Learnt,
+  word-at-reads.Asked,
+  word-at-reads.Learnt,
+  may-name-reads.Asked,
+  may-name-reads.Learnt,
+  fixed-len-below t,
+  fixed-len.Post,
+  width-of-reads.Asked,
+  width-of-reads.Learnt,
+)
 
 abbrev fixed-len-calls : ℕ → fixed-len-lts.Claims
 fixed-len-calls t = (look-reads.Asked, look-reads.Learnt, leaf-len-reads.Asked, leaf-len-reads.Learnt, fields-len-below t, fields-len.Post)
 
 abbrev fields-len-Inv-loop : fields-len-lts.InvT-loop
-fields-len-Inv-loop lens₀ known layout t a0 n a₀ left₀ portion₀ fixed₀ lens a left portion fixed =
-    Taking layout t known a0 n lens a left portion fixed
+fields-len-Inv-loop lens₀ known layout t a0 n words a₀ left₀ portion₀ fixed₀ lens a left portion fixed =
+    (words ≡ count layout) × Taking layout t known a0 n lens a left portion fixed
 
 abbrev fields-len-μ-loop : fields-len-lts.MeasureT-loop
-fields-len-μ-loop lens₀ known layout t a0 n a₀ left₀ portion₀ fixed₀ lens a left portion fixed = left
+fields-len-μ-loop lens₀ known layout t a0 n words a₀ left₀ portion₀ fixed₀ lens a left portion fixed = left
 
 fields-len-loop-holds : (t : ℕ) → fields-len-lts.Need-loop-holds (fields-len-calls t) (fields-len-at t) fields-len.Post fields-len-Inv-loop fields-len-μ-loop
-fields-len-loop-holds t c =
-    let c1 = c .before in
-    taking-start _ _ _ _ _ _ (c1 .pre .1 .0 .found) (c1 .pre .1 .2)
+unfolding count
+fields-len-loop-holds t c = (refl, taking-start _ _ _ _ _ _ (c .before .pre .1 .0 .found))
 
-fields-len-word-at-requires : (t : ℕ) → fields-len-lts.Need-word-at-requires (fields-len-calls t) (fields-len-at t) fields-len.Post
-    fields-len-Inv-loop fields-len-μ-loop
-fields-len-word-at-requires t c κs = search needs
+fields-len-no-fields-requires : (t : ℕ) → fields-len-lts.Need-no-fields-requires (fields-len-calls t) (fields-len-at t) fields-len.Post fields-len-Inv-loop fields-len-μ-loop
+fields-len-no-fields-requires t c κs = search needs
 
-fields-len-fixed-len-requires : (t : ℕ) → fields-len-lts.Need-fixed-len-requires (fields-len-calls t) (fields-len-at t) fields-len.Post
-    fields-len-Inv-loop fields-len-μ-loop
-fields-len-fixed-len-requires t c κs =
+fields-len-returns : (t : ℕ) → fields-len-lts.Need-returns (fields-len-calls t) (fields-len-at t) fields-len.Post fields-len-Inv-loop fields-len-μ-loop
+unfolding count
+fields-len-returns t c =
     let c1 = c .before in
     let c2 = c1 .before in
     let c3 = c2 .before in
     let c5 = c3 .before .before in
-    let h = taking-lower _ _ _ _ _ _ _ _ _ _ _ 0 (c3 .loop .inv) (c2 .loop-test .taken) (c1 .word-at .ensures .0) (c5 .pre .1 .1) in (
-      rw (← c5 .pre .0) (omega (arith, h)),
-      (
-        record { found = c3 .loop .inv .found; legal = c5 .pre .1 .0 .legal; few = c5 .pre .1 .0 .few },
-        legal-below _ _ _ (omega (arith, h, c5 .pre .1 .1)) (c5 .pre .1 .0 .legal),
-        omega (arith, h, c5 .pre .1 .1),
-        omega (arith, h, c5 .pre .1 .1, c5 .pre .1 .0 .few),
-      ),
-    )
+    let miss = taking-missing _ _ _ _ _ _ _ _ _ _ _ 0 (c3 .loop .inv .1) (c2 .loop-test .taken) refl (c5 .pre .1 .1) (c1 .if1 .taken) in
+    (c .no-fields .ensures ∙ no-sizes _ _ _ miss, c3 .loop .inv .1 .found ∙ sym (c5 .pre .1 .0 .found))
 
-fields-len-width-of-requires : (t : ℕ) → fields-len-lts.Need-width-of-requires (fields-len-calls t) (fields-len-at t) fields-len.Post
-    fields-len-Inv-loop fields-len-μ-loop
-fields-len-width-of-requires t c κs = search needs
+fields-len-word-at-requires : (t : ℕ) → fields-len-lts.Need-word-at-requires (fields-len-calls t) (fields-len-at t) fields-len.Post fields-len-Inv-loop fields-len-μ-loop
+fields-len-word-at-requires t c κs = search needs
 
-fields-len-add-portion : (t : ℕ) → fields-len-lts.Need-add-portion (fields-len-calls t) (fields-len-at t) fields-len.Post fields-len-Inv-loop fields-len-μ-loop
-fields-len-add-portion t c =
-    let c2 = c .before .before in
-    let c4 = c2 .before .before in
+fields-len-may-name-requires : (t : ℕ) → fields-len-lts.Need-may-name-requires (fields-len-calls t) (fields-len-at t) fields-len.Post fields-len-Inv-loop fields-len-μ-loop
+fields-len-may-name-requires t c κs = search needs
+
+fields-len-no-fields-requires-2 : (t : ℕ) → fields-len-lts.Need-no-fields-requires-2 (fields-len-calls t) (fields-len-at t) fields-len.Post fields-len-Inv-loop fields-len-μ-loop
+fields-len-no-fields-requires-2 t c κs = search needs
+
+fields-len-returns-2 : (t : ℕ) → fields-len-lts.Need-returns-2 (fields-len-calls t) (fields-len-at t) fields-len.Post fields-len-Inv-loop fields-len-μ-loop
+unfolding count
+fields-len-returns-2 t c =
+    let c1 = c .before in
+    let c2 = c1 .before in
+    let c3 = c2 .before in
+    let c4 = c3 .before in
     let c5 = c4 .before in
     let c6 = c5 .before in
     let c8 = c6 .before .before in
-    let w = taking-width _ _ _ _ _ _ _ _ _ _ _ _ (c6 .loop .inv) (c5 .loop-test .taken) (c4 .word-at .ensures .0) (c8 .pre .1 .1)
-    (c8 .pre .1 .0 .legal) (c2 .fixed-len .ensures .gives) _ (c .width-of .ensures) in
-    omega (arith, w, c6 .loop .inv .adding .bound, c8 .pre .1 .3, c5 .loop-test .taken)
+    let bad = taking-wrong _ _ _ _ _ _ _ _ _ _ _ 0 (c6 .loop .inv .1) (c5 .loop-test .taken) (c3 .word-at .ensures .0) (c8 .pre .1 .1) (c4 .if1 .left) _ (c2 .may-name .ensures) (not-true _ (c1 .if2 .taken)) in
+    (c .no-fields2 .ensures ∙ no-sizes _ _ _ bad, c6 .loop .inv .1 .found ∙ sym (c8 .pre .1 .0 .found))
+
+fields-len-fixed-len-requires : (t : ℕ) → fields-len-lts.Need-fixed-len-requires (fields-len-calls t) (fields-len-at t) fields-len.Post fields-len-Inv-loop fields-len-μ-loop
+unfolding count
+fields-len-fixed-len-requires t c κs =
+    let c1 = c .before in
+    let c2 = c1 .before in
+    let c3 = c2 .before in
+    let c4 = c3 .before in
+    let c5 = c4 .before in
+    let c6 = c5 .before in
+    let c8 = c6 .before .before in
+    let h = taking-lower _ _ _ _ _ _ _ _ _ _ _ 0 (c6 .loop .inv .1) (c5 .loop-test .taken) (c3 .word-at .ensures .0) (c8 .pre .1 .1) (c4 .if1 .left) _ (c2 .may-name .ensures) (not-false _ (c1 .if2 .left)) in (
+      rw (← c8 .pre .0) (omega (arith, h)),
+      (
+        record { found = c6 .loop .inv .1 .found; legal = c8 .pre .1 .0 .legal; few = c8 .pre .1 .0 .few },
+        legal-below _ _ _ (omega (arith, h, c8 .pre .1 .1)) (c8 .pre .1 .0 .legal),
+        omega (arith, h, c8 .pre .1 .1),
+        omega (arith, h, c8 .pre .1 .1, c8 .pre .1 .0 .few),
+      ),
+    )
+
+fields-len-width-of-requires : (t : ℕ) → fields-len-lts.Need-width-of-requires (fields-len-calls t) (fields-len-at t) fields-len.Post fields-len-Inv-loop fields-len-μ-loop
+fields-len-width-of-requires t c κs = search needs
+
+fields-len-add-portion : (t : ℕ) → fields-len-lts.Need-add-portion (fields-len-calls t) (fields-len-at t) fields-len.Post fields-len-Inv-loop fields-len-μ-loop
+unfolding count
+fields-len-add-portion t c =
+    let c1 = c .before in
+    let c2 = c1 .before in
+    let c4 = c2 .before .before in
+    let c5 = c4 .before in
+    let c6 = c5 .before in
+    let c7 = c6 .before in
+    let c8 = c7 .before in
+    let c9 = c8 .before in
+    let c11 = c9 .before .before in
+    let w = taking-width _ _ _ _ _ _ _ _ _ _ _ _ (c9 .loop .inv .1) (c8 .loop-test .taken) (c6 .word-at .ensures .0) (c11 .pre .1 .1) (c7 .if1 .left) _ (c5 .may-name .ensures)
+    (not-false _ (c4 .if2 .left)) (c11 .pre .1 .0 .legal) (c2 .fixed-len .ensures .gives) _ (c .width-of .ensures) in
+    omega (arith, w, c9 .loop .inv .1 .adding .bound, c11 .pre .1 .2, c8 .loop-test .taken)
 
 fields-len-add-a : (t : ℕ) → fields-len-lts.Need-add-a (fields-len-calls t) (fields-len-at t) fields-len.Post fields-len-Inv-loop fields-len-μ-loop
 fields-len-add-a t c =
-    let c6 = c .before .before .before .before .before .before in
-    let c8 = c6 .before .before in
-    omega (arith, c6 .loop .inv .adding .place, c8 .pre .1 .3, c8 .pre .1 .4)
+    let c9 = c .before .before .before .before .before .before .before .before .before in
+    let c11 = c9 .before .before in
+    omega (arith, c9 .loop .inv .1 .adding .place, c11 .pre .1 .2, c11 .pre .1 .3)
 
 fields-len-sub-left : (t : ℕ) → fields-len-lts.Need-sub-left (fields-len-calls t) (fields-len-at t) fields-len.Post fields-len-Inv-loop fields-len-μ-loop
 fields-len-sub-left t c = omega arith
@@ -114,31 +166,39 @@ fields-len-loop-less : (t : ℕ) → fields-len-lts.Need-loop-less (fields-len-c
 fields-len-loop-less t c = omega arith
 
 fields-len-loop-again : (t : ℕ) → fields-len-lts.Need-loop-again (fields-len-calls t) (fields-len-at t) fields-len.Post fields-len-Inv-loop fields-len-μ-loop
+unfolding count
 fields-len-loop-again t c =
     let c1 = c .before in
     let c2 = c1 .before in
     let c4 = c2 .before .before in
     let c5 = c4 .before in
     let c6 = c5 .before in
-    let c8 = c6 .before .before in
-    ⊎-elim
-    (λ h. rw (h .1) (taking-variable _ _ _ _ _ _ _ _ _ _ _ _ (c6 .loop .inv) (c5 .loop-test .taken) (c4 .word-at .ensures .0) (c8 .pre .1 .1) (c8 .pre .1 .0 .legal) (c2 .fixed-len .ensures .gives) _ (c .width-of .ensures) _ (c2 .fixed-len .ensures .found) (h .0 .taken)))
-    (λ h. rw (h .1) (taking-fixed _ _ _ _ _ _ _ _ _ _ _ _ (c6 .loop .inv) (c5 .loop-test .taken) (c4 .word-at .ensures .0) (c8 .pre .1 .1) (c8 .pre .1 .0 .legal) (c2 .fixed-len .ensures .gives) _ (c .width-of .ensures) _ (c2 .fixed-len .ensures .found) (h .0 .left)))
-    (c1 .if1 .came)
+    let c7 = c6 .before in
+    let c8 = c7 .before in
+    let c9 = c8 .before in
+    let c11 = c9 .before .before in (
+      refl,
+      ⊎-elim
+          (λ h. rw (h .1) (taking-variable _ _ _ _ _ _ _ _ _ _ _ _ (c9 .loop .inv .1) (c8 .loop-test .taken) (c6 .word-at .ensures .0) (c11 .pre .1 .1) (c7 .if1 .left) _ (c5 .may-name .ensures)
+          (not-false _ (c4 .if2 .left)) (c11 .pre .1 .0 .legal) (c2 .fixed-len .ensures .gives) _ (c .width-of .ensures) _ (c2 .fixed-len .ensures .found) (h .0 .taken)))
+          (λ h. rw (h .1) (taking-fixed _ _ _ _ _ _ _ _ _ _ _ _ (c9 .loop .inv .1) (c8 .loop-test .taken) (c6 .word-at .ensures .0) (c11 .pre .1 .1) (c7 .if1 .left) _ (c5 .may-name .ensures)
+          (not-false _ (c4 .if2 .left)) (c11 .pre .1 .0 .legal) (c2 .fixed-len .ensures .gives) _ (c .width-of .ensures) _ (c2 .fixed-len .ensures .found) (h .0 .left)))
+          (c1 .if3 .came),
+    )
 
-fields-len-returns : (t : ℕ) → fields-len-lts.Need-returns (fields-len-calls t) (fields-len-at t) fields-len.Post fields-len-Inv-loop fields-len-μ-loop
-fields-len-returns t c =
+fields-len-returns-3 : (t : ℕ) → fields-len-lts.Need-returns-3 (fields-len-calls t) (fields-len-at t) fields-len.Post fields-len-Inv-loop fields-len-μ-loop
+fields-len-returns-3 t c =
     let c1 = c .before in
     let c2 = c1 .before in
     let c4 = c2 .before .before in
-    (rw (c .if2 .taken) at (taking-end _ _ _ _ _ _ _ _ _ _ (c2 .loop .inv) (c1 .loop-test .left)), c2 .loop .inv .found ∙ sym (c4 .pre .1 .0 .found))
+    (rw (c .if4 .taken) at (taking-end _ _ _ _ _ _ _ _ _ _ (c2 .loop .inv .1) (c1 .loop-test .left)), c2 .loop .inv .1 .found ∙ sym (c4 .pre .1 .0 .found))
 
-fields-len-returns-2 : (t : ℕ) → fields-len-lts.Need-returns-2 (fields-len-calls t) (fields-len-at t) fields-len.Post fields-len-Inv-loop fields-len-μ-loop
-fields-len-returns-2 t c =
+fields-len-returns-4 : (t : ℕ) → fields-len-lts.Need-returns-4 (fields-len-calls t) (fields-len-at t) fields-len.Post fields-len-Inv-loop fields-len-μ-loop
+fields-len-returns-4 t c =
     let c1 = c .before in
     let c2 = c1 .before in
     let c4 = c2 .before .before in
-    (rw (c .if2 .left) at (taking-end _ _ _ _ _ _ _ _ _ _ (c2 .loop .inv) (c1 .loop-test .left)), c2 .loop .inv .found ∙ sym (c4 .pre .1 .0 .found))
+    (rw (c .if4 .left) at (taking-end _ _ _ _ _ _ _ _ _ _ (c2 .loop .inv .1) (c1 .loop-test .left)), c2 .loop .inv .1 .found ∙ sym (c4 .pre .1 .0 .found))
 
 fixed-len-mul-result : (t : ℕ) → fixed-len-lts.Need-mul-result (fixed-len-calls t) (fixed-len-at t) fixed-len.Post
 fixed-len-mul-result t c =
@@ -210,14 +270,15 @@ fixed-len-fields-len-requires t c κs =
     let c4 = c2 .before .before in
     let c7 = c4 .before .before .before in
     let g = legal-node _ _ _ (c4 .look .ensures) (c7 .pre .1 .1) in
-    (rw (← c7 .pre .0) (omega arith), (c7 .pre .1 .0, c7 .pre .1 .2, g .lower (c2 .if2 .left), g .few (c2 .if2 .left), omega (arith, g .near)))
+    (rw (← c7 .pre .0) (omega arith), (c7 .pre .1 .0, c7 .pre .1 .2, g .few (c2 .if2 .left), omega (arith, g .near)))
 
 fixed-len-cast-lens-2 : (t : ℕ) → fixed-len-lts.Need-cast-lens-2 (fixed-len-calls t) (fixed-len-at t) fixed-len.Post
 fixed-len-cast-lens-2 t c =
     let c3 = c .before .before .before in
     let c5 = c3 .before .before in
     let c8 = c5 .before .before .before in
-    let e = sizes-len _ _ _ _ (c5 .look .ensures) (c3 .if2 .left) (c .fields-len .ensures .0) in
+    let g = legal-node _ _ _ (c5 .look .ensures) (c8 .pre .1 .1) in
+    let e = sizes-len _ _ _ _ _ (c5 .look .ensures) (c3 .if2 .left) (c .fields-len .ensures .0) (legal-refs _ _ _ g (c3 .if2 .left)) in
     omega (arith, e, len-small _ _ (legal-node _ _ _ refl (c8 .pre .1 .1)))
 
 fixed-len-mul-lens-2 : (t : ℕ) → fixed-len-lts.Need-mul-lens-2 (fixed-len-calls t) (fixed-len-at t) fixed-len.Post
@@ -236,7 +297,8 @@ fixed-len-returns-3 t c =
     let c5 = c3 .before .before in
     let c6 = c5 .before in
     let c8 = c6 .before .before in
-    let e = sizes-len _ _ _ _ (c5 .look .ensures) (c3 .if2 .left) (c .fields-len .ensures .0) in
+    let g = legal-node _ _ _ (c5 .look .ensures) (c8 .pre .1 .1) in
+    let e = sizes-len _ _ _ _ _ (c5 .look .ensures) (c3 .if2 .left) (c .fields-len .ensures .0) (legal-refs _ _ _ g (c3 .if2 .left)) in
     lengthened _ _ _ _ _ (c .fields-len .ensures .1 ∙ c8 .pre .1 .0 .found) (c8 .pre .1 .2) (c6 .if1 .left) (c8 .pre .1 .3) e
 
 pub +fields-len+fixed-len-spec : {M : Type 1} → statement M
@@ -246,7 +308,12 @@ pub +fields-len+fixed-len-spec : {M : Type 1} → statement M
     fields-len-Inv-loop
     fields-len-μ-loop
     (fields-len-loop-holds t)
+    (fields-len-no-fields-requires t)
+    (fields-len-returns t)
     (fields-len-word-at-requires t)
+    (fields-len-may-name-requires t)
+    (fields-len-no-fields-requires-2 t)
+    (fields-len-returns-2 t)
     (fields-len-fixed-len-requires t)
     (fields-len-width-of-requires t)
     (fields-len-add-portion t)
@@ -254,8 +321,8 @@ pub +fields-len+fixed-len-spec : {M : Type 1} → statement M
     (fields-len-sub-left t)
     (fields-len-loop-less t)
     (fields-len-loop-again t)
-    (fields-len-returns t)
-    (fields-len-returns-2 t))
+    (fields-len-returns-3 t)
+    (fields-len-returns-4 t))
     λ t. fixed-len-lts.spec (fixed-len-calls t)
     (fixed-len-at t)
     fixed-len.Post
