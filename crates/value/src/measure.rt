@@ -324,8 +324,7 @@ fn measure_fields(
         let k = lens[f] as usize;
         a += 1;
         left -= 1;
-        let plain = is_plain(kind_of(layout, f));
-        if plain {
+        if is_plain(kind_of(layout, f)) {
             if !has(bodies, j, k) {
                 return Measured::Wrong(Refusal::BadValue(1, bodies.len()));
             }
@@ -341,8 +340,7 @@ fn measure_fields(
         };
         match r {
             Measured::Upto(m) => {
-                let own = with_offset(k, m.len);
-                sum = add(sum, own);
+                sum = add(sum, with_offset(k, m.len));
                 i = m.word;
                 j = m.byte;
             }
