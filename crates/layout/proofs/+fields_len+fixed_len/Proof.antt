@@ -9,7 +9,8 @@ use Rattle.layout.specs.Table.{count}
 use Rattle.layout.proofs.Facts.{length-filled, legal-node, legal-below}
 use Rattle.layout.proofs.Trees.{leaf-length, len-small}
 use Rattle.layout.proofs.Tables.{known-len, known-small}
-use Rattle.layout.proofs.Lengths.{Taking, taking-start, taking-missing, taking-wrong, taking-lower, taking-width, taking-fixed, taking-variable, taking-end, no-sizes}
+use Rattle.layout.proofs.Lengths.{Taking, taking-start, taking-missing, taking-wrong, taking-lower, taking-width}
+use Rattle.layout.proofs.Lengths.{taking-fixed, taking-variable, taking-end, no-sizes}
 use Rattle.layout.proofs.Lengths.{sizes-len, legal-refs, lengthened}
 use Prim.Native.Nat.{ℕ, _<_}
 use borrow.Fn.Kinds.{In}
@@ -75,11 +76,13 @@ fields-len-Inv-loop lens₀ known layout t a0 n words a₀ left₀ portion₀ fi
 abbrev fields-len-μ-loop : fields-len-lts.MeasureT-loop
 fields-len-μ-loop lens₀ known layout t a0 n words a₀ left₀ portion₀ fixed₀ lens a left portion fixed = left
 
-fields-len-loop-holds : (t : ℕ) → fields-len-lts.Need-loop-holds (fields-len-calls t) (fields-len-at t) fields-len.Post fields-len-Inv-loop fields-len-μ-loop
+fields-len-loop-holds : (t : ℕ) → fields-len-lts.Need-loop-holds (fields-len-calls t) (fields-len-at t) fields-len.Post fields-len-Inv-loop
+    fields-len-μ-loop
 unfolding count
 fields-len-loop-holds t c = (refl, taking-start _ _ _ _ _ _ (c .before .pre .1 .0 .found))
 
-fields-len-no-fields-requires : (t : ℕ) → fields-len-lts.Need-no-fields-requires (fields-len-calls t) (fields-len-at t) fields-len.Post fields-len-Inv-loop fields-len-μ-loop
+fields-len-no-fields-requires : (t : ℕ) → fields-len-lts.Need-no-fields-requires (fields-len-calls t) (fields-len-at t) fields-len.Post
+    fields-len-Inv-loop fields-len-μ-loop
 fields-len-no-fields-requires t c κs = search needs
 
 fields-len-returns : (t : ℕ) → fields-len-lts.Need-returns (fields-len-calls t) (fields-len-at t) fields-len.Post fields-len-Inv-loop fields-len-μ-loop
@@ -92,13 +95,16 @@ fields-len-returns t c =
     let miss = taking-missing _ _ _ _ _ _ _ _ _ _ _ 0 (c3 .loop .inv .1) (c2 .loop-test .taken) refl (c5 .pre .1 .1) (c1 .if1 .taken) in
     (c .no-fields .ensures ∙ no-sizes _ _ _ miss, c3 .loop .inv .1 .found ∙ sym (c5 .pre .1 .0 .found))
 
-fields-len-word-at-requires : (t : ℕ) → fields-len-lts.Need-word-at-requires (fields-len-calls t) (fields-len-at t) fields-len.Post fields-len-Inv-loop fields-len-μ-loop
+fields-len-word-at-requires : (t : ℕ) → fields-len-lts.Need-word-at-requires (fields-len-calls t) (fields-len-at t) fields-len.Post
+    fields-len-Inv-loop fields-len-μ-loop
 fields-len-word-at-requires t c κs = search needs
 
-fields-len-may-name-requires : (t : ℕ) → fields-len-lts.Need-may-name-requires (fields-len-calls t) (fields-len-at t) fields-len.Post fields-len-Inv-loop fields-len-μ-loop
+fields-len-may-name-requires : (t : ℕ) → fields-len-lts.Need-may-name-requires (fields-len-calls t) (fields-len-at t) fields-len.Post
+    fields-len-Inv-loop fields-len-μ-loop
 fields-len-may-name-requires t c κs = search needs
 
-fields-len-no-fields-requires-2 : (t : ℕ) → fields-len-lts.Need-no-fields-requires-2 (fields-len-calls t) (fields-len-at t) fields-len.Post fields-len-Inv-loop fields-len-μ-loop
+fields-len-no-fields-requires-2 : (t : ℕ) → fields-len-lts.Need-no-fields-requires-2 (fields-len-calls t) (fields-len-at t) fields-len.Post
+    fields-len-Inv-loop fields-len-μ-loop
 fields-len-no-fields-requires-2 t c κs = search needs
 
 fields-len-returns-2 : (t : ℕ) → fields-len-lts.Need-returns-2 (fields-len-calls t) (fields-len-at t) fields-len.Post fields-len-Inv-loop fields-len-μ-loop
@@ -111,10 +117,12 @@ fields-len-returns-2 t c =
     let c5 = c4 .before in
     let c6 = c5 .before in
     let c8 = c6 .before .before in
-    let bad = taking-wrong _ _ _ _ _ _ _ _ _ _ _ 0 (c6 .loop .inv .1) (c5 .loop-test .taken) (c3 .word-at .ensures .0) (c8 .pre .1 .1) (c4 .if1 .left) _ (c2 .may-name .ensures) (not-true _ (c1 .if2 .taken)) in
+    let bad = taking-wrong _ _ _ _ _ _ _ _ _ _ _ 0 (c6 .loop .inv .1) (c5 .loop-test .taken) (c3 .word-at .ensures .0) (c8 .pre .1 .1)
+    (c4 .if1 .left) _ (c2 .may-name .ensures) (not-true _ (c1 .if2 .taken)) in
     (c .no-fields2 .ensures ∙ no-sizes _ _ _ bad, c6 .loop .inv .1 .found ∙ sym (c8 .pre .1 .0 .found))
 
-fields-len-fixed-len-requires : (t : ℕ) → fields-len-lts.Need-fixed-len-requires (fields-len-calls t) (fields-len-at t) fields-len.Post fields-len-Inv-loop fields-len-μ-loop
+fields-len-fixed-len-requires : (t : ℕ) → fields-len-lts.Need-fixed-len-requires (fields-len-calls t) (fields-len-at t) fields-len.Post
+    fields-len-Inv-loop fields-len-μ-loop
 unfolding count
 fields-len-fixed-len-requires t c κs =
     let c1 = c .before in
@@ -124,7 +132,8 @@ fields-len-fixed-len-requires t c κs =
     let c5 = c4 .before in
     let c6 = c5 .before in
     let c8 = c6 .before .before in
-    let h = taking-lower _ _ _ _ _ _ _ _ _ _ _ 0 (c6 .loop .inv .1) (c5 .loop-test .taken) (c3 .word-at .ensures .0) (c8 .pre .1 .1) (c4 .if1 .left) _ (c2 .may-name .ensures) (not-false _ (c1 .if2 .left)) in (
+    let h = taking-lower _ _ _ _ _ _ _ _ _ _ _ 0 (c6 .loop .inv .1) (c5 .loop-test .taken) (c3 .word-at .ensures .0) (c8 .pre .1 .1)
+    (c4 .if1 .left) _ (c2 .may-name .ensures) (not-false _ (c1 .if2 .left)) in (
       rw (← c8 .pre .0) (omega (arith, h)),
       (
         record { found = c6 .loop .inv .1 .found; legal = c8 .pre .1 .0 .legal; few = c8 .pre .1 .0 .few },
@@ -134,10 +143,12 @@ fields-len-fixed-len-requires t c κs =
       ),
     )
 
-fields-len-width-of-requires : (t : ℕ) → fields-len-lts.Need-width-of-requires (fields-len-calls t) (fields-len-at t) fields-len.Post fields-len-Inv-loop fields-len-μ-loop
+fields-len-width-of-requires : (t : ℕ) → fields-len-lts.Need-width-of-requires (fields-len-calls t) (fields-len-at t) fields-len.Post
+    fields-len-Inv-loop fields-len-μ-loop
 fields-len-width-of-requires t c κs = search needs
 
-fields-len-add-portion : (t : ℕ) → fields-len-lts.Need-add-portion (fields-len-calls t) (fields-len-at t) fields-len.Post fields-len-Inv-loop fields-len-μ-loop
+fields-len-add-portion : (t : ℕ) → fields-len-lts.Need-add-portion (fields-len-calls t) (fields-len-at t) fields-len.Post
+    fields-len-Inv-loop fields-len-μ-loop
 unfolding count
 fields-len-add-portion t c =
     let c1 = c .before in
@@ -149,7 +160,8 @@ fields-len-add-portion t c =
     let c8 = c7 .before in
     let c9 = c8 .before in
     let c11 = c9 .before .before in
-    let w = taking-width _ _ _ _ _ _ _ _ _ _ _ _ (c9 .loop .inv .1) (c8 .loop-test .taken) (c6 .word-at .ensures .0) (c11 .pre .1 .1) (c7 .if1 .left) _ (c5 .may-name .ensures)
+    let w = taking-width _ _ _ _ _ _ _ _ _ _ _ _ (c9 .loop .inv .1) (c8 .loop-test .taken) (c6 .word-at .ensures .0) (c11 .pre .1 .1)
+    (c7 .if1 .left) _ (c5 .may-name .ensures)
     (not-false _ (c4 .if2 .left)) (c11 .pre .1 .0 .legal) (c2 .fixed-len .ensures .gives) _ (c .width-of .ensures) in
     omega (arith, w, c9 .loop .inv .1 .adding .bound, c11 .pre .1 .2, c8 .loop-test .taken)
 
@@ -165,7 +177,8 @@ fields-len-sub-left t c = omega arith
 fields-len-loop-less : (t : ℕ) → fields-len-lts.Need-loop-less (fields-len-calls t) (fields-len-at t) fields-len.Post fields-len-Inv-loop fields-len-μ-loop
 fields-len-loop-less t c = omega arith
 
-fields-len-loop-again : (t : ℕ) → fields-len-lts.Need-loop-again (fields-len-calls t) (fields-len-at t) fields-len.Post fields-len-Inv-loop fields-len-μ-loop
+fields-len-loop-again : (t : ℕ) → fields-len-lts.Need-loop-again (fields-len-calls t) (fields-len-at t) fields-len.Post fields-len-Inv-loop
+    fields-len-μ-loop
 unfolding count
 fields-len-loop-again t c =
     let c1 = c .before in
@@ -179,10 +192,14 @@ fields-len-loop-again t c =
     let c11 = c9 .before .before in (
       refl,
       ⊎-elim
-          (λ h. rw (h .1) (taking-variable _ _ _ _ _ _ _ _ _ _ _ _ (c9 .loop .inv .1) (c8 .loop-test .taken) (c6 .word-at .ensures .0) (c11 .pre .1 .1) (c7 .if1 .left) _ (c5 .may-name .ensures)
-          (not-false _ (c4 .if2 .left)) (c11 .pre .1 .0 .legal) (c2 .fixed-len .ensures .gives) _ (c .width-of .ensures) _ (c2 .fixed-len .ensures .found) (h .0 .taken)))
-          (λ h. rw (h .1) (taking-fixed _ _ _ _ _ _ _ _ _ _ _ _ (c9 .loop .inv .1) (c8 .loop-test .taken) (c6 .word-at .ensures .0) (c11 .pre .1 .1) (c7 .if1 .left) _ (c5 .may-name .ensures)
-          (not-false _ (c4 .if2 .left)) (c11 .pre .1 .0 .legal) (c2 .fixed-len .ensures .gives) _ (c .width-of .ensures) _ (c2 .fixed-len .ensures .found) (h .0 .left)))
+          (λ h. rw (h .1) (taking-variable _ _ _ _ _ _ _ _ _ _ _ _ (c9 .loop .inv .1) (c8 .loop-test .taken) (c6 .word-at .ensures .0)
+          (c11 .pre .1 .1) (c7 .if1 .left) _ (c5 .may-name .ensures)
+          (not-false _ (c4 .if2 .left)) (c11 .pre .1 .0 .legal) (c2 .fixed-len .ensures .gives) _ (c .width-of .ensures) _
+          (c2 .fixed-len .ensures .found) (h .0 .taken)))
+          (λ h. rw (h .1) (taking-fixed _ _ _ _ _ _ _ _ _ _ _ _ (c9 .loop .inv .1) (c8 .loop-test .taken) (c6 .word-at .ensures .0)
+          (c11 .pre .1 .1) (c7 .if1 .left) _ (c5 .may-name .ensures)
+          (not-false _ (c4 .if2 .left)) (c11 .pre .1 .0 .legal) (c2 .fixed-len .ensures .gives) _ (c .width-of .ensures) _
+          (c2 .fixed-len .ensures .found) (h .0 .left)))
           (c1 .if3 .came),
     )
 
