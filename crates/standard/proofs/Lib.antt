@@ -6,3 +6,6 @@ pub mod Join
 pub mod Laws
 pub mod Pieces
 pub mod Published
+pub mod Kept
+pub mod Only
+pub mod OnlyWords
