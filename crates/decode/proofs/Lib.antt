@@ -8,3 +8,5 @@ pub mod Calls
 pub mod Close
 pub mod Spans
 pub mod Items
+pub mod Kept
+pub mod Only
