@@ -2,3 +2,5 @@
 pub mod Copy
 pub mod Container
 pub mod Round
+pub mod Kept
+pub mod Only
