@@ -1,3 +1,4 @@
 -- What the walks share, and how a reader goes on.
 pub mod Land
 pub mod Readers
+pub mod Only
