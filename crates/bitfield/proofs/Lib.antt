@@ -12,3 +12,5 @@ pub mod Marks
 pub mod Tolds
 pub mod Results
 pub mod Serial
+pub mod Kept
+pub mod Only
