@@ -2,3 +2,4 @@
 pub mod Land
 pub mod Lends
 pub mod Refusals
+pub mod Only
