@@ -3,3 +3,4 @@ pub mod Facts
 pub mod Trees
 pub mod Tables
 pub mod Lengths
+pub mod Only
