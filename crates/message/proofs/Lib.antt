@@ -13,3 +13,5 @@ pub mod Theorem
 pub mod Tiles
 pub mod UnfoldTheorem
 pub mod Cases
+pub mod Kept
+pub mod Only
