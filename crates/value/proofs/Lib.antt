@@ -10,3 +10,5 @@ pub mod Forms
 pub mod Values
 pub mod Accepts
 pub mod Round
+pub mod Kept
+pub mod Only
