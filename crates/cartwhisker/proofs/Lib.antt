@@ -1,2 +1,4 @@
 -- What a host may lean on besides the promises of the two calls.
 pub mod Zero
+pub mod Kept
+pub mod Only
