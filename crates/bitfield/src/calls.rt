@@ -48,7 +48,7 @@ pub(crate) fn made(field: Field) -> Outcome
     }
 }
 
-// intersection, union, difference, not
+// The complement, and any other operation by bytes.
 pub(crate) fn merge<'a>(
     told: Told,
     op: Op,
