@@ -168,7 +168,7 @@ sizes-len l t r s i e h q u = rw (as-container l t r e h) (sizes-length _ _ s i 
 
 -- Of a legal container the words are accepted.
 pub legal-refs : (l : List ℕ) (t : ℕ) (r : Node) → LegalNode l t r → r .kind ≡ 6 → refs l t false (r .at + 2) (r .second) ≡ Upto (r .at + 2 + r .second)
-legal-refs l t r g h = refs-lower l t (r .second) (r .at + 2) (g .lower h) (g .within h)
+legal-refs l t r g h = refs-lower l t (r .second) (r .at + 2) (g .lower h) (g .within (omega arith))
 
 -- A length that is found is remembered.
 pub lengthened : (l : List ℕ) (known t r : ℕ) (lens : List ℕ) → lens ≡ filled l known → t ≤ known → known ≤ t → t < 64 →

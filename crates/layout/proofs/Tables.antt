@@ -232,28 +232,33 @@ module _ (l : List ℕ) (t at e : ℕ) (h : bodyEnd l t at ≡ Upto e) where
       go false false false true p q r s = leaf-says l at e (body-kind false false false true p q r s) .1
       go false false false false p q r s = bad-upto at e (body-kind false false false false p q r s)
 
-  some-of : 6 ≤ wordAt l at → 1 ≤ wordAt l (at + 1)
-  some-of k = go (eqb (wordAt l at) 6) refl
+  -- A container or a union: a number of 1 on, and as many words.
+  counted : 6 ≤ wordAt l at → (1 ≤ wordAt l (at + 1)) × (at + 2 + wordAt l (at + 1) ≤ count l)
+  counted k = go (eqb (wordAt l at) 6) refl
     where
-      go : (c : Bool) → eqb (wordAt l at) 6 ≡ c → 1 ≤ wordAt l (at + 1)
-      go true p = container-says l t at e (six (eqb-true _ _ p)) .0 .some
+      said : (most : ℕ) (none : Bool) → Many l t at most none e → (1 ≤ wordAt l (at + 1)) × (at + 2 + wordAt l (at + 1) ≤ count l)
+      said most none m = (m .some, omega (arith, m .within, m .ends))
+
+      go : (c : Bool) → eqb (wordAt l at) 6 ≡ c → (1 ≤ wordAt l (at + 1)) × (at + 2 + wordAt l (at + 1) ≤ count l)
+      go true p = said 64 false (container-says l t at e (six (eqb-true _ _ p)) .0)
       go false p =
           let n : wordAt l at ≡ 6 → ⊥ = eqb-false _ _ p in
-          many-says l t at 128 true e (seven (omega (arith, body-known))) .some
+          said 128 true (many-says l t at 128 true e (seven (omega (arith, body-known))))
 
-  pub body-legal : Bytes l → wordAt l (1 + t) ≡ at → LegalNode l t (nodeOf l t)
+  pub body-legal : Bytes l → 1 + t < count l → wordAt l (1 + t) ≡ at → LegalNode l t (nodeOf l t)
   unfolding nodeOf
-  body-legal b w =
+  body-legal b i w =
       rw w
       (record {
         known = body-known;
+        listed = i;
+        begun = body-there;
         near = rw (← w) (word-bound l (1 + t) b);
         small = word-bound l (at + 1) b;
         leaf = λ k n. leaf-says l at e (leaf k n) .0;
-        some = some-of;
+        some = λ k. counted k .0;
         few = λ k. container-says l t at e (six k) .0 .few;
-        within =
-            λ k. let m = container-says l t at e (six k) .0 in omega (arith, m .within, m .ends);
+        within = λ k. counted k .1;
         lower = λ k. many-lower l t at 64 e (container-says l t at e (six k) .0);
         short = λ k. container-says l t at e (six k) .1;
         most = λ k. many-says l t at 128 true e (seven k) .few;
@@ -263,6 +268,7 @@ module _ (l : List ℕ) (t at e : ℕ) (h : bodyEnd l t at ≡ Upto e) where
 -- The loop of `types_end`: the types so far are legal and their lengths are found, and what is left gives the whole.
 pub record Checking (l lens : List ℕ) (n t at : ℕ) : Type 0 where
   pub some : t ≤ n
+  pub listed : n < count l
   pub within : at ≤ count l
   pub known : Known lens l t
   pub same : typesEnd l (n - t) t at ≡ typesEnd l n 0 (n + 1)
@@ -272,6 +278,10 @@ types-cons : (l : List ℕ) (k t at : ℕ) → 0 < k → typesEnd l k t at ≡
 unfolding typesEnd
 types-cons l zero t at h = absurd (omega arith)
 types-cons l (suc k) t at h = let e : suc k - 1 ≡ k = omega arith in rw e
+
+module _ (l lens : List ℕ) (n t at : ℕ) (g : Checking l lens n t at) (p : t < n) where
+  pub checking-listed : 1 + t < count l
+  checking-listed = omega (arith, g .listed)
 
 module _ (l lens : List ℕ) (n t at : ℕ) (g : Checking l lens n t at) (p : t < n) (w : ℕ) (q : w ≡ wordAt l (1 + t)) where
   pub checking-start : (w ≡ at → ⊥) → Bad (1 + t) ≡ typesEnd l n 0 (n + 1)
@@ -286,13 +296,14 @@ module _ (l lens : List ℕ) (n t at : ℕ) (g : Checking l lens n t at) (p : t 
 
     module _ (b : Bytes l) (e : ℕ) (h : Upto e ≡ bodyEnd l t at) where
       pub checking-legal : Legal l (t + 1)
-      checking-legal = legal-more l t (g .known .legal) (body-legal l t at e (sym h) b (sym q ∙ k))
+      checking-legal = legal-more l t (g .known .legal) (body-legal l t at e (sym h) b (checking-listed l lens n t at g p) (sym q ∙ k))
 
       pub checking-next : (lens′ : List ℕ) → n ≤ 64 → lens′ ≡ filled l (t + 1) → Checking l lens′ n (t + 1) e
       checking-next lens′ m f =
           let i : n - t - 1 ≡ n - (t + 1) = omega arith in
           record {
             some = omega arith;
+            listed = g .listed;
             within = body-within l t at e (sym h);
             known = record { found = f; legal = checking-legal; few = omega arith };
             same = rw (← h, i) at checking-body;
@@ -315,15 +326,15 @@ pub tabled : (l : List ℕ) (n : ℕ) (lens : List ℕ) → Upto n ≡ tableOf l
 tabled l n lens h f = record { gives = h; found = λ m q. rw (← upto-inj n m q) f }
 
 -- The types of an accepted table are legal.
-types-legal : (l : List ℕ) (k t at e : ℕ) → Bytes l → Legal l t → typesEnd l k t at ≡ Upto e → Legal l (t + k)
+types-legal : (l : List ℕ) (k t at e : ℕ) → Bytes l → t + k < count l → Legal l t → typesEnd l k t at ≡ Upto e → Legal l (t + k)
 unfolding typesEnd
-types-legal l zero t at e b g h = rw add-zero g
-types-legal l (suc k) t at e b g h =
+types-legal l zero t at e b i g h = rw add-zero g
+types-legal l (suc k) t at e b i g h =
     let p = upto-left (eqb (wordAt l (1 + t)) at) (onward (bodyEnd l t at) (λ i. typesEnd l k (t + 1) i)) (1 + t) e h in
     let q = upto-onward (bodyEnd l t at) (λ i. typesEnd l k (t + 1) i) e (p .1) in
-    let r = legal-more l t g (body-legal l t at (q .0) (q .1) b (eqb-true _ _ (p .0))) in
+    let r = legal-more l t g (body-legal l t at (q .0) (q .1) b (omega arith) (eqb-true _ _ (p .0))) in
     let s : t + 1 + k ≡ t + suc k = omega arith in
-    rw s at (types-legal l k (t + 1) (q .0) e b r (q .2))
+    rw s at (types-legal l k (t + 1) (q .0) e b (omega arith) r (q .2))
 
 no-types : (l : List ℕ) → Legal l 0
 unfolding Legal
@@ -359,7 +370,7 @@ table-legal l n b h =
     let s = types-say l (p .0) (p .1) in
     let none : Legal l 0 = no-types l in
     let z : 0 + p .0 ≡ n = omega arith in
-    (rw z at (types-legal l (p .0) 0 (p .0 + 1) (q .0) b none (q .1)), omega (arith, s .0), omega (arith, s .1))
+    (rw z at (types-legal l (p .0) 0 (p .0 + 1) (q .0) b (omega (arith, s .2)) none (q .1)), omega (arith, s .0), omega (arith, s .1))
 
 -- What `table_of` leaves.
 pub table-known : (l lens : List ℕ) (n : ℕ) → Bytes l → tableOf l ≡ Upto n → lens ≡ lengthsOf (tableOf l) l → Known lens l n × (1 ≤ n)

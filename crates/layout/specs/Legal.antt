@@ -20,12 +20,14 @@ LowerOrBare l t at n = (i : ℕ) → i < n → (wordAt l (at + i) ≡ 4294967295
 -- A legal type t of which the table says n.
 pub record LegalNode (l : List ℕ) (t : ℕ) (n : Node) : Type 0 where
   pub known : n .kind ≤ 7
+  pub listed : 1 + t < count l
+  pub begun : n .at < count l
   pub near : n .at < 2 ^ 32
   pub small : n .second < 2 ^ 32
   pub leaf : n .kind < 6 → (n .kind ≡ 1 → ⊥) → leafWord (n .kind) (n .second) ≡ true
   pub some : 6 ≤ n .kind → 1 ≤ n .second
   pub few : n .kind ≡ 6 → n .second ≤ 64
-  pub within : n .kind ≡ 6 → n .at + 2 + n .second ≤ count l
+  pub within : 6 ≤ n .kind → n .at + 2 + n .second ≤ count l
   pub lower : n .kind ≡ 6 → Lower l t (n .at + 2) (n .second)
   pub short : n .kind ≡ 6 → portion (heads (fields l (trees l t) (n .at + 2) (n .second))) < 2 ^ 32
   pub most : n .kind ≡ 7 → n .second ≤ 128

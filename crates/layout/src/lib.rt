@@ -1,6 +1,7 @@
 // The check of a layout table, lent as its little-endian bytes, with the fixed length of each of its types.
 use standard::Refusal;
 use standard::Told;
+use standard::words::four_at;
 use standard::words::word_at;
 ghost use mathlib.Core.Path.{_≡_};
 ghost use Prim.Native.Nat.{_+_, _≤_, _<_, _^_};
@@ -36,6 +37,15 @@ struct Sizes {
     end: Checked,
     portion: usize,
     length: usize,
+}
+
+// A word that is there: no comparison is needed.
+fn word_in(layout: &[u8], i: usize) -> usize
+    requires { ⌜ i < count (now layout) ⌝ }
+    ensures { λ r. ⌜ (r ≡ wordAt (now (layout .entry)) i) × (r < 2 ^ 32) ⌝ }
+{
+    let p = 4 * i;
+    four_at(&layout[p..p + 4], 0)
 }
 
 fn start_of(layout: &[u8], t: usize) -> usize
@@ -349,7 +359,7 @@ fn types_end(lens: &mut [u32; 64], layout: &[u8], n: usize) -> Checked
     let mut at = n + 1;
     while t < n {
         let next = 1 + t;
-        let w = word_at(layout, next);
+        let w = word_in(layout, next);
         if w != at {
             return Checked::Bad(next);
         }

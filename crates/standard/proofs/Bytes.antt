@@ -5,7 +5,7 @@ use Prim.Native.Nat.{ℕ, zero, suc, _+_, _-_, _*_, _/_, _%_, _≤_, _<_, _^_}
 use native.Mathlib.Nat.{add-zero, pow-succ', one-le-pow}
 use native.Mathlib.Omega.{arith}
 use lib.ListN.{length, getD, take, drop, length-append, length-take, length-drop, drop-of-length-le}
-use lib.Seq.{getD-drop, take-at}
+use lib.Seq.{getD-drop, take-at, take-all}
 use lib.Dec.{ltb}
 use mathlib.Core.Bool.{Bool, true, false}
 use borrow.Author.Tests.{lt-ltb, le-ltb}
@@ -118,6 +118,16 @@ take-bound (suc w) (x ∷ xs) h = rw (pow-succ' 256 w) (omega (arith, take-bound
 pub word-there : (l : List ℕ) (i : ℕ) → i < length l / 4 → four l (4 * i) ≡ wordAt l i
 unfolding wordAt
 word-there l i h = rw (lt-ltb i (length l / 4) h)
+
+-- Four bytes taken as a part say the same number, and those of a word are that word.
+pub four-part : (b : List ℕ) (p : ℕ) → four (take (p + 4 - p) (drop p b)) 0 ≡ four b p
+unfolding numAt
+four-part b p =
+    let e : p + 4 - p ≡ 4 = omega arith in
+    rw (e, take-all 4 (take 4 (drop p b)) (simp length-take (omega arith)))
+
+pub word-part : (l : List ℕ) (i : ℕ) → i < length l / 4 → four (take (4 * i + 4 - 4 * i) (drop (4 * i) l)) 0 ≡ wordAt l i
+word-part l i h = four-part l (4 * i) ∙ word-there l i h
 
 pub word-past : (l : List ℕ) (i : ℕ) → length l / 4 ≤ i → 0 ≡ wordAt l i
 unfolding wordAt

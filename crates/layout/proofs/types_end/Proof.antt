@@ -5,7 +5,7 @@ use native.Mathlib.Omega.{arith}
 use borrow.Author.Needs.{needs}
 use Rattle.layout.specs.Table.{count}
 use Rattle.standard.proofs.Bytes.{bytes-known}
-use Rattle.layout.proofs.Tables.{Checking, typed-bad, checking-start, checking-bad, checking-next, checking-end}
+use Rattle.layout.proofs.Tables.{Checking, typed-bad, checking-listed, checking-start, checking-bad, checking-next, checking-end}
 use Rattle.layout.proofs.types_end.Statement.{statement}
 use Rattle.layout.proofs.types_end.Tie as tie
 
@@ -23,20 +23,20 @@ unfolding count
 loop-holds c =
     let c1 = c .before in
     let e : c1 .args .n - 0 ≡ c1 .args .n = omega arith in
-    record { some = omega arith; within = omega (arith, c1 .pre .2); known = c1 .pre .0; same = rw e }
+    record { some = omega arith; listed = c1 .pre .2; within = omega (arith, c1 .pre .2); known = c1 .pre .0; same = rw e }
 
 add-next : tie.Need-add-next Inv-loop μ-loop
 add-next c = omega arith
 
-word-at-requires : tie.Need-word-at-requires Inv-loop μ-loop
-word-at-requires c κs = search needs
+word-in-requires : tie.Need-word-in-requires Inv-loop μ-loop
+word-in-requires c κs = checking-listed _ _ _ _ _ (c .before .loop .inv) (c .loop-test .taken)
 
 returns : tie.Need-returns Inv-loop μ-loop
 returns c =
     let c1 = c .before in
     let c2 = c1 .before in
     let c3 = c2 .before in
-    typed-bad _ _ _ _ (checking-start _ _ _ _ _ (c3 .loop .inv) (c2 .loop-test .taken) _ (c1 .word-at .ensures .0) (c .if1 .taken))
+    typed-bad _ _ _ _ (checking-start _ _ _ _ _ (c3 .loop .inv) (c2 .loop-test .taken) _ (c1 .word-in .ensures .0) (c .if1 .taken))
 
 body-end-requires : tie.Need-body-end-requires Inv-loop μ-loop
 body-end-requires c κs =
@@ -47,8 +47,8 @@ body-end-requires c κs =
     let c6 = c4 .before .before in (
       c4 .loop .inv .known,
       omega (arith, c6 .pre .1, c3 .loop-test .taken),
-      omega (arith, c2 .word-at .ensures .1, c1 .if1 .left),
-      sym (c1 .if1 .left) ∙ c2 .word-at .ensures .0,
+      omega (arith, c2 .word-in .ensures .1, c1 .if1 .left),
+      sym (c1 .if1 .left) ∙ c2 .word-in .ensures .0,
     )
 
 enum-known-c : tie.Need-enum-known-c Inv-loop μ-loop
@@ -63,7 +63,7 @@ returns-2 c =
     let c7 = c6 .before in
     let c8 = c7 .before in
     typed-bad _ _ _ _
-    (checking-bad _ _ _ _ _ (c8 .loop .inv) (c7 .loop-test .taken) _ (c6 .word-at .ensures .0) (c5 .if1 .left) _
+    (checking-bad _ _ _ _ _ (c8 .loop .inv) (c7 .loop-test .taken) _ (c6 .word-in .ensures .0) (c5 .if1 .left) _
     (sym (c1 .c .given .1) ∙ c3 .body-end .ensures .gives))
 
 enum-known-c-2 : tie.Need-enum-known-c-2 Inv-loop μ-loop
@@ -87,7 +87,7 @@ loop-again c =
     let c9 = c8 .before in
     let c10 = c9 .before in
     let b = bytes-known _ (λ i. c9 .shared-slice-known .given i .fits) in
-    checking-next _ _ _ _ _ (c8 .loop .inv) (c7 .loop-test .taken) _ (c6 .word-at .ensures .0) (c5 .if1 .left) b _
+    checking-next _ _ _ _ _ (c8 .loop .inv) (c7 .loop-test .taken) _ (c6 .word-in .ensures .0) (c5 .if1 .left) b _
     (sym (c1 .c2 .given .1) ∙ c3 .body-end .ensures .gives) _ (c10 .pre .1) (c3 .body-end .ensures .found _ (c1 .c2 .given .1))
 
 returns-3 : tie.Need-returns-3 Inv-loop μ-loop
@@ -105,7 +105,7 @@ types-end-spec =
     add-at
     loop-holds
     add-next
-    word-at-requires
+    word-in-requires
     returns
     body-end-requires
     enum-known-c
