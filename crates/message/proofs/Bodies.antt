@@ -6,7 +6,7 @@ use mathlib.Core.Logic.{_⊎_, inl, inr, ⊎-elim}
 use Prim.Native.Nat.{ℕ, zero, suc, _+_, _-_, _*_, _≤_, _<_, _^_}
 use native.Mathlib.Nat.{add-zero}
 use native.Mathlib.Omega.{arith}
-use borrow.Author.Tests.{eqb-true, eqb-false, ltb-true, ltb-false, lt-ltb, le-ltb, eq-eqb, ne-eqb, leb-true}
+use borrow.Author.Tests.{eqb-true, eqb-false, ltb-true, ltb-false, lt-ltb, le-ltb, eq-eqb, ne-eqb, leb-true, le-leb, lt-leb}
 use lib.ListN.{length, getD, take, drop, length-take, length-drop}
 use lib.Seq.{take-all}
 use lib.Dec.{eqb, leb, ltb}
@@ -19,7 +19,7 @@ use Rattle.standard.specs.declared.Head.the-variants.{Fixed}
 use Rattle.standard.specs.declared.Span.{Span}
 use Rattle.standard.specs.declared.Told.{Told}
 use Rattle.standard.specs.declared.Refusal.{Refusal}
-use Rattle.standard.specs.declared.Refusal.the-variants.{OutOfBoundsByte, UnionSelectorInvalid, InvalidByteLength}
+use Rattle.standard.specs.declared.Refusal.the-variants.{OutOfBoundsByte, UnionSelectorInvalid, InvalidByteLength, OverLimit}
 use Rattle.decode.specs.Builder.{layOut}
 use Rattle.decode.specs.Unions.{selectorOf, splitUnion}
 use Rattle.decode.specs.declared.union_selector.UnionSelector.{UnionSelector}
@@ -142,6 +142,21 @@ module _ (lens l : List ℕ) (t a₀ n : ℕ) (b : List ℕ) (s : ℕ) (sum : Co
       Refused r u v ≡ andThen (one 0 0) (readFields (rowOf l t a₀ n) b 0 s)
   reading-stop r u v h = rw (← h) at reading-first
 
+  -- Free bytes: of them only the length is asked.
+  module _ (d : Node) (i : d ≡ nodeOf l f) (k : d .kind ≡ 3) where
+    free-read : readItem (treeOf l f) (part b w) (s + w .from) ≡
+        pick (leb (w .to - w .from) (d .second)) (one 1 (w .to - w .from)) (Refused (OverLimit (w .to - w .from) (d .second)) f (s + w .from))
+    unfolding readItem
+    free-read = rw (as-free l f d i k, reading-span .2)
+
+    pub free-stop : d .second < w .to - w .from →
+        Refused (OverLimit (w .to - w .from) (d .second)) f (s + w .from) ≡ andThen (one 0 0) (readFields (rowOf l t a₀ n) b 0 s)
+    free-stop h = reading-stop _ _ _ (rw (lt-leb _ _ h) at (sym free-read))
+
+    pub free-next : w .to - w .from ≤ d .second → s + length b < 2 ^ 32 →
+        Reading lens l t a₀ n b s (plus sum (record { records = 1; words = 1; bytes = w .to - w .from })) (a + 1) (left - 1) (w .next)
+    free-next h m = reading-next _ m (rw (le-leb _ _ h) at (sym free-read))
+
 -- A plain field: its length stands in the table, and of its bytes nothing else is asked.
 module _ (lens l : List ℕ) (t a₀ n : ℕ) (b : List ℕ) (s : ℕ) (sum : Counts) (a left p f : ℕ) (g : Reading lens l t a₀ n b s sum a left p)
     (z : 0 < left) (e : f ≡ wordAt l a) (d : Node) (i : d ≡ nodeOf l f) (h : isPlain (d .kind) ≡ true) (k : ℕ) (q : k ≡ getD lens f 0) where
@@ -176,7 +191,12 @@ module _ (lens l : List ℕ) (t : ℕ) (n : Node) (e : n ≡ nodeOf l t) (g : Un
   pub container-row : n .kind ≡ 6 → Row lens l t (n .at + 2) (n .second)
   container-row k =
       let m = node-ok in
-      record { under = under-below lens l (t + 1) t (omega arith) g; near = omega (arith, m .near, m .few k); lower = m .lower k }
+      record {
+        under = under-below lens l (t + 1) t (omega arith) g;
+        near = omega (arith, m .near, m .few k);
+        there = m .within (omega arith);
+        lower = m .lower k;
+      }
 
   module _ (k : n .kind ≡ 6) (b : List ℕ) (s : ℕ) where
     pub container-read : readItem (treeOf l t) b s ≡ built (layOut (headsOf l t (n .at + 2) (n .second)) b) t s

@@ -142,11 +142,11 @@ module _ (l : List ℕ) (t : ℕ) (n : Node) (e : n ≡ nodeOf l t) (b : List �
 pub below-six : (kind : ℕ) → kind < 6 → (kind ≡ 6 → ⊥) × (kind ≡ 7 → ⊥)
 below-six kind h = (λ (q : kind ≡ 6). omega arith, λ (q : kind ≡ 7). omega arith)
 
-pub leaf-stored : (l : List ℕ) (f k : ℕ) → k ≡ nodeOf l f .kind → k < 6 → (o : List ℕ) (at : ℕ) (b : List ℕ) (s r : ℕ) (o′ : List ℕ) →
+pub leaf-stored : (l : List ℕ) (f : ℕ) (n : Node) → n ≡ nodeOf l f → n .kind < 6 → (o : List ℕ) (at : ℕ) (b : List ℕ) (s r : ℕ) (o′ : List ℕ) →
     Stored o at (entry f b s) r o′ → Stored o at (listItem (treeOf l f) b s) r o′
-leaf-stored l f k e h o at b s r o′ g =
-    let z = below-six (nodeOf l f .kind) (omega arith) in
-    rw (list-leaf l f (nodeOf l f) refl b s (z .0) (z .1)) g
+leaf-stored l f n e h o at b s r o′ g =
+    let z = below-six (n .kind) h in
+    rw (list-leaf l f n e b s (z .0) (z .1)) g
 
 -- The listing of the option that is asked for.
 module _ (l : List ℕ) (lower : List Ty) (b : List ℕ) (s : ℕ) where

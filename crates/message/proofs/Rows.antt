@@ -21,6 +21,7 @@ use Rattle.decode.specs.declared.builder.Progress.{Progress}
 use Rattle.decode.specs.declared.builder.Step.{Step}
 use Rattle.decode.proofs.Register.{step-within, beyond}
 use Rattle.layout.specs.Tree.{treeOf, fields, trees, lenOf, headOf}
+use Rattle.layout.specs.Table.{count}
 use Rattle.layout.specs.Legal.{Legal}
 use Rattle.layout.specs.Steps.{Known}
 use Rattle.layout.proofs.Facts.{fields-none, heads-first, lower-here, lower-rest, head-len, legal-below}
@@ -56,6 +57,9 @@ no-len-head : (h : Head) → ((n : ℕ) → h ≡ Fixed n → 1 ≤ n) → 0 ≡
 no-len-head (Fixed n) f e = absurd (omega (arith, f n refl))
 no-len-head Variable f e = refl
 
+pub row-there : (lens l : List ℕ) (t a left : ℕ) → Row lens l t a left → 0 < left → a < count l
+row-there lens l t a left g p = omega (arith, g .there)
+
 -- The first of some fields, and the rest.
 module _ (lens l : List ℕ) (t a left f : ℕ) (g : Row lens l t a left) (p : 0 < left) (e : f ≡ wordAt l a) where
   pub row-below : f < t
@@ -76,6 +80,9 @@ module _ (lens l : List ℕ) (t a left f : ℕ) (g : Row lens l t a left) (p : 0
   pub row-under : Under lens l (f + 1)
   row-under = let b = row-below in under-below lens l t (f + 1) (omega arith) (g .under)
 
+  pub row-legal : Legal l (f + 1)
+  row-legal = row-under .legal
+
   pub row-fixed : (k : ℕ) → k ≡ getD lens f 0 → (k ≡ 0 → ⊥) → Fixed k ≡ head (treeOf l f)
   row-fixed k q z = len-head (head (treeOf l f)) k (q ∙ g .under .found f row-below) z
 
@@ -88,7 +95,8 @@ module _ (lens l : List ℕ) (t a left f : ℕ) (g : Row lens l t a left) (p : 0
   row-heads h q = rw q (heads-first l t a left (g .lower) p f e)
 
   pub row-next : Row lens l t (a + 1) (left - 1)
-  row-next = record { under = g .under; near = omega (arith, g .near); lower = lower-rest l t a left (g .lower) p }
+  row-next =
+      record { under = g .under; near = omega (arith, g .near); there = omega (arith, g .there); lower = lower-rest l t a left (g .lower) p }
 
 pub heads-none : (l : List ℕ) (t a left : ℕ) → left ≤ 0 → headsOf l t a left ≡ []
 unfolding heads
@@ -194,6 +202,10 @@ pub seeking-end : (lens l : List ℕ) (t a₀ n : ℕ) (b : List ℕ) (p₀ a le
 unfolding next
 seeking-end lens l t a₀ n b p₀ a left p g h = rw (heads-none l t a left h) at (g .same)
 
+-- Where a field lies within the bytes b, and how long it is.
+abbrev pub Lies : List ℕ → Span → Type 0
+Lies b w = (w .from ≤ w .to) × (w .to ≤ length b) × (length (part b w) ≡ w .to - w .from)
+
 -- Where the first field lies.
 module _ (lens l : List ℕ) (t a left f : ℕ) (b : List ℕ) (p : ℕ) (g : Row lens l t a left) (z : 0 < left) (e : f ≡ wordAt l a)
     (r : InRange (headsOf l t a left) b p 0) where
@@ -218,3 +230,6 @@ module _ (lens l : List ℕ) (t a left f : ℕ) (b : List ℕ) (p : ℕ) (g : Ro
 
     pub span-length : length (part b w) ≡ w .to - w .from
     span-length = let k = span-ok in simp (length-take, length-drop) (omega arith)
+
+    pub span-lies : Lies b w
+    span-lies = (span-ok .0, span-ok .1, span-length)

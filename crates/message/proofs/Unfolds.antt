@@ -306,16 +306,16 @@ module _ (lens l : List ℕ) (t : ℕ) (n : Node) (e : n ≡ nodeOf l t) (g : Un
       body-accepts = accepts-at _ _ (0 + 1) (body-accepted lens l t n e g b 0 (h .accepted) k o q)
 
 -- The items of a kind below 3 are copied.
-module _ (l : List ℕ) (f k : ℕ) (e : k ≡ nodeOf l f .kind) (h : k < 3) (b o p : List ℕ) (at : Place) where
-  copied-kind : (nodeOf l f .kind ≡ 3 → ⊥) × (nodeOf l f .kind < 5)
-  copied-kind = (λ (q : nodeOf l f .kind ≡ 3). omega arith, omega arith)
+module _ (l : List ℕ) (f : ℕ) (n : Node) (e : n ≡ nodeOf l f) (h : n .kind < 3) (b o p : List ℕ) (at : Place) where
+  copied-kind : (n .kind ≡ 3 → ⊥) × (n .kind < 5)
+  copied-kind = (λ (q : n .kind ≡ 3). omega arith, omega arith)
 
-  copied-tree : treeOf l f ≡ leafOf f (nodeOf l f)
-  copied-tree = let s = below-six (nodeOf l f .kind) (omega arith) in as-leaf l f (nodeOf l f) refl (s .0) (s .1)
+  copied-tree : treeOf l f ≡ leafOf f n
+  copied-tree = let s = below-six (n .kind) (omega arith) in as-leaf l f n e (s .0) (s .1)
 
   pub copied-room : Rooms o p at (unfoldWords (treeOf l f) b) (unfoldBytes (treeOf l f) b) → Room p (at .byte) b
-  copied-room g = plain-room f (nodeOf l f) b o p at (copied-kind .0) (copied-kind .1) (rw copied-tree at g)
+  copied-room g = plain-room f n b o p at (copied-kind .0) (copied-kind .1) (rw copied-tree at g)
 
   pub copied-filled : (r : ℕ) (p′ : List ℕ) → Stored p (at .byte) b r p′ →
       Filled o p at (unfoldWords (treeOf l f) b) (unfoldBytes (treeOf l f) b) (record { word = at .word; byte = r }) o p′
-  copied-filled r p′ g = rw copied-tree (plain-filled f (nodeOf l f) b o p at (copied-kind .0) (copied-kind .1) r p′ g)
+  copied-filled r p′ g = rw copied-tree (plain-filled f n b o p at (copied-kind .0) (copied-kind .1) r p′ g)

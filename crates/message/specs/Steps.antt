@@ -16,6 +16,7 @@ use Rattle.decode.specs.Unions.{splitUnion}
 use Rattle.decode.specs.declared.builder.Progress.{Progress}
 use Rattle.decode.specs.declared.union_selector.SelectorResult.{SelectorResult}
 use Rattle.layout.specs.Tree.{treeOf, fields, trees, lenOf}
+use Rattle.layout.specs.Table.{count}
 use Rattle.layout.specs.Legal.{Lower, Legal}
 use Rattle.message.specs.declared.Counts.{Counts}
 use Rattle.message.specs.declared.Answer.{Answer}
@@ -29,10 +30,11 @@ pub record Under (lens l : List ℕ) (k : ℕ) : Type 0 where
   pub room : length lens ≡ 64
   pub found : (f : ℕ) → f < k → getD lens f 0 ≡ lenOf (head (treeOf l f))
 
--- n fields of the type t: the words from at on name lower types.
+-- n fields of the type t: the words from at on are there and name lower types.
 pub record Row (lens l : List ℕ) (t at n : ℕ) : Type 0 where
   pub under : Under lens l t
   pub near : at + n < 2 ^ 34
+  pub there : at + n ≤ count l
   pub lower : Lower l t at n
 
 -- Those fields, and their heads

@@ -1,13 +1,13 @@
 // The fields of a container: their registration, and where each of them lies.
+use crate::words::four_in;
+use crate::words::word_in;
 use standard::Refusal;
 use standard::Span;
 use standard::Told;
-use standard::words::four_at;
-use standard::words::word_at;
 ghost use mathlib.Core.Path.{_≡_};
 ghost use Prim.Native.Nat.{_+_, _-_, _≤_, _<_, _^_};
 ghost use lib.ListN.{length};
-ghost use Rattle.standard.specs.Bytes.{four, wordAt};
+ghost use Rattle.standard.specs.Bytes.{wordAt};
 ghost use Rattle.standard.specs.Types.{head, container};
 ghost use Rattle.standard.specs.Parts.{next, spanOf, InRange};
 ghost use Rattle.decode.specs.Builder.{buildAt, layOut};
@@ -48,7 +48,7 @@ fn lay_out(lens: &[u32; 64], layout: &[u8], t: usize, a0: usize, n: usize, b: &[
     let mut a = a0;
     let mut left = n;
     while left > 0 {
-        let f = word_at(layout, a);
+        let f = word_in(layout, a);
         let k = lens[f] as usize;
         a += 1;
         left -= 1;
@@ -63,7 +63,7 @@ fn lay_out(lens: &[u32; 64], layout: &[u8], t: usize, a0: usize, n: usize, b: &[
         if next > len {
             return Told::Refused(Refusal::InvalidLengthPrefix(len - p, 4));
         }
-        let o = four_at(b, p);
+        let o = four_in(b, p);
         if o > len {
             return Told::Refused(Refusal::OffsetOutOfBounds(o));
         }
@@ -96,14 +96,6 @@ pub(crate) fn container_told(
     lay_out(lens, layout, t, a0, n, b)
 }
 
-// The offset at p, whose four bytes are there: it needs no way for one that is cut off.
-fn offset_at(b: &[u8], p: usize) -> usize
-    requires { ⌜ p + 4 ≤ length (now b) ⌝ }
-    ensures { λ r. ⌜ r ≡ four (now (b .entry)) p ⌝ }
-{
-    four_at(&b[p..p + 4], 0)
-}
-
 // Where the next variable item starts, from the field at the position p0 on.
 fn next_start(
     lens: &[u32; 64],
@@ -121,10 +113,10 @@ fn next_start(
     let mut left = n;
     let mut p = p0;
     while left > 0 {
-        let f = word_at(layout, a);
+        let f = word_in(layout, a);
         let k = lens[f] as usize;
         if k == 0 {
-            return offset_at(b, p);
+            return four_in(b, p);
         }
         p += k;
         a += 1;
@@ -149,7 +141,7 @@ pub(crate) fn locate(
 {
     let k = lens[f] as usize;
     if k == 0 {
-        let from = offset_at(b, p);
+        let from = four_in(b, p);
         let next = p + 4;
         let after = a + 1;
         let rest = left - 1;

@@ -3,6 +3,8 @@ use crate::Answer;
 use crate::Counts;
 use crate::fields::container_told;
 use crate::fields::locate;
+use crate::words::look_in;
+use crate::words::word_in;
 use bitfield::BodyBits;
 use bitfield::body::bitlist_body;
 use bitfield::body::bitvector_body;
@@ -10,7 +12,6 @@ use decode::split_union_bytes;
 use decode::union_selector::SelectorResult;
 use layout::NO_BODY;
 use layout::Node;
-use layout::look;
 use standard::Refusal;
 use standard::Told;
 use standard::words::word_at;
@@ -191,17 +192,28 @@ fn add(c: Counts, d: Counts) -> Counts
     }
 }
 
-// Counts with one more item, which has so many body bytes and no contents words.
-fn one_more(c: Counts, bytes: usize) -> Counts
-    requires { ⌜ Small c (2 ^ 50) × (bytes < 2 ^ 32) ⌝ }
-    ensures { λ r. ⌜ r ≡ plus c (record { records = 1; words = 0; bytes = bytes }) ⌝ }
+// Counts with one more item, which has so many contents words and body bytes.
+fn one_more(c: Counts, words: usize, bytes: usize) -> Counts
+    requires { ⌜ Small c (2 ^ 50) × (words < 2 ^ 32) × (bytes < 2 ^ 32) ⌝ }
+    ensures { λ r. ⌜ r ≡ plus c (record { records = 1; words = words; bytes = bytes }) ⌝ }
 {
     let own = Counts {
         records: 1,
-        words: 0,
+        words,
         bytes,
     };
     add(c, own)
+}
+
+// A container's own record.
+fn own_record() -> Counts
+    ensures { λ r. ⌜ r ≡ record { records = 1; words = 0; bytes = 0 } ⌝ }
+{
+    Counts {
+        records: 1,
+        words: 0,
+        bytes: 0,
+    }
 }
 
 // A union's own record and selector, with what its body has.
@@ -244,7 +256,7 @@ pub(crate) fn item_check(
     requires { ⌜ Under (now lens) (now layout) (t + 1) × (start + length (now b) < 2 ^ 32) ⌝ }
     ensures { λ r. ⌜ r ≡ readItem (treeOf (now (layout .entry)) t) (now (b .entry)) start ⌝ }
 {
-    let n = look(layout, t);
+    let n = look_in(layout, t);
     let first = n.at + 2;
     if n.kind == 6 {
         let told = container_told(lens, layout, t, first, n.second, b);
@@ -268,22 +280,19 @@ pub(crate) fn item_check(
     }
 }
 
-// Checks the item b of a field whose type t has the words n: a leaf needs no second look at the table, and free bytes, the most common of
-// variable size, not even a call.
+// Checks the item b of a field whose type t has the words n: a leaf needs no second look at the table.
 fn field_item(lens: &[u32; 64], layout: &[u8], n: Node, t: usize, b: &[u8], start: usize) -> Answer
     requires { ⌜ Under (now lens) (now layout) (t + 1) × (start + length (now b) < 2 ^ 32) × (n ≡ nodeOf (now layout) t) ⌝ }
     ensures { λ r. ⌜ r ≡ readItem (treeOf (now (layout .entry)) t) (now (b .entry)) start ⌝ }
 {
-    if n.kind == 3 {
-        return free_check(n.second, t, b, start);
-    }
     if n.kind < 6 {
         return leaf_check(n, t, b, start);
     }
     item_check(lens, layout, t, b, start)
 }
 
-// Checks the n fields of type t that the words from a0 on name, and counts them with their container.
+// Checks the n fields of type t that the words from a0 on name, and counts them with their container. Numbers and fixed bytes have their
+// length from the registration, and free bytes, the most common of variable size, are asked for theirs alone: neither needs a call.
 fn field_check(
     lens: &[u32; 64],
     layout: &[u8],
@@ -296,21 +305,16 @@ fn field_check(
     requires { ⌜ Row (now lens) (now layout) t a0 n × (n ≤ 64) × (start + length (now b) < 2 ^ 32) × InRange (headsOf (now layout) t a0 n) (now b) 0 0 ⌝ }
     ensures { λ r. ⌜ r ≡ andThen (one 0 0) (readFields (rowOf (now (layout .entry)) t a0 n) (now (b .entry)) 0 start) ⌝ }
 {
-    let mut sum = Counts {
-        records: 1,
-        words: 0,
-        bytes: 0,
-    };
+    let mut sum = own_record();
     let mut a = a0;
     let mut left = n;
     let mut p = 0;
     while left > 0 {
-        let f = word_at(layout, a);
-        let node = look(layout, f);
-        let plain = is_plain(node.kind);
-        if plain {
+        let f = word_in(layout, a);
+        let node = look_in(layout, f);
+        if is_plain(node.kind) {
             let k = lens[f] as usize;
-            sum = one_more(sum, k);
+            sum = one_more(sum, 0, k);
             p += k;
             a += 1;
             left -= 1;
@@ -323,14 +327,18 @@ fn field_check(
         a += 1;
         left -= 1;
         let at = start + from;
+        if node.kind == 3 {
+            let len = to - from;
+            if len > node.second {
+                return Answer::Refused(Refusal::OverLimit(len, node.second), f, at);
+            }
+            sum = one_more(sum, 1, len);
+            continue;
+        }
         let r = field_item(lens, layout, node, f, &b[from..to], at);
         match r {
-            Answer::Accepted(c) => {
-                sum = add(sum, c);
-            }
-            Answer::Refused(x, u, v) => {
-                return Answer::Refused(x, u, v);
-            }
+            Answer::Accepted(c) => sum = add(sum, c),
+            Answer::Refused(x, u, v) => return Answer::Refused(x, u, v),
         }
     }
     Answer::Accepted(sum)

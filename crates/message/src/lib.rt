@@ -3,6 +3,7 @@ mod fields;
 mod items;
 mod listing;
 mod unfolding;
+mod words;
 
 use items::item_check;
 use layout::Checked;

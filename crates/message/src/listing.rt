@@ -2,10 +2,9 @@
 use crate::fields::locate;
 use crate::items::Choice;
 use crate::items::select;
-use layout::kind_of;
-use layout::look;
+use crate::words::look_in;
+use crate::words::word_in;
 use standard::words::put_four;
-use standard::words::word_at;
 ghost use mathlib.Core.Path.{_≡_};
 ghost use Prim.Native.Nat.{_+_, _≤_, _<_, _^_};
 ghost use lib.ListN.{length};
@@ -44,7 +43,7 @@ pub(crate) fn list_item(
 {
     put_entry(out, at, t, b, start);
     let next = at + 12;
-    let n = look(layout, t);
+    let n = look_in(layout, t);
     let first = n.at + 2;
     if n.kind == 6 {
         list_fields(out, next, lens, layout, t, first, n.second, b, start)
@@ -84,7 +83,7 @@ fn list_fields(
     let mut left = n;
     let mut p = 0;
     while left > 0 {
-        let f = word_at(layout, a);
+        let f = word_in(layout, a);
         let w = locate(lens, layout, t, a, left, f, b, p);
         let from = w.from;
         let to = w.to;
@@ -92,8 +91,8 @@ fn list_fields(
         p = w.next;
         a += 1;
         left -= 1;
-        let kind = kind_of(layout, f);
-        if kind < 6 {
+        let n = look_in(layout, f);
+        if n.kind < 6 {
             put_entry(out, at, f, &b[from..to], place);
             at += 12;
             continue;

@@ -2,12 +2,11 @@
 use crate::fields::locate;
 use crate::items::Choice;
 use crate::items::select;
+use crate::words::look_in;
+use crate::words::word_in;
 use bitfield::BodyBits;
 use bitfield::body::bitlist_body;
 use layout::Node;
-use layout::kind_of;
-use layout::look;
-use standard::words::word_at;
 ghost use mathlib.Core.Path.{_≡_};
 ghost use mathlib.Core.List.{[], _∷_};
 ghost use Prim.Native.Nat.{_+_, _-_, _≤_, _<_, _^_};
@@ -148,7 +147,7 @@ pub(crate) fn unfold_item(
     requires { ⌜ Under (now lens) (now layout) (t + 1) × (length (now b) < 2 ^ 32) × Accepts (treeOf (now layout) t) (now b) × Rooms (now contents) (now bodies) at (unfoldWords (treeOf (now layout) t) (now b)) (unfoldBytes (treeOf (now layout) t) (now b)) ⌝ }
     ensures { λ r. ⌜ Filled (now (contents .entry)) (now (bodies .entry)) at (unfoldWords (treeOf (now (layout .entry)) t) (now (b .entry))) (unfoldBytes (treeOf (now (layout .entry)) t) (now (b .entry))) r (now (contents .exit)) (now (bodies .exit)) ⌝ }
 {
-    let n = look(layout, t);
+    let n = look_in(layout, t);
     let first = n.at + 2;
     if n.kind == 6 {
         unfold_fields(contents, bodies, at, lens, layout, t, first, n.second, b)
@@ -188,22 +187,21 @@ fn unfold_fields(
     let mut left = n;
     let mut p = 0;
     while left > 0 {
-        let f = word_at(layout, a);
+        let f = word_in(layout, a);
         let w = locate(lens, layout, t, a, left, f, b, p);
         let from = w.from;
         let to = w.to;
         p = w.next;
         a += 1;
         left -= 1;
-        let kind = kind_of(layout, f);
-        if kind < 3 {
+        let n = look_in(layout, f);
+        if n.kind < 3 {
             let word = at.word;
             let place = at.byte;
             let byte = copy_into(bodies, place, &b[from..to]);
             at = Place { word, byte };
             continue;
         }
-        let n = look(layout, f);
         at = if n.kind < 6 {
             unfold_leaf(contents, bodies, at, n, f, &b[from..to])
         } else {

@@ -2,7 +2,7 @@
 use mathlib.Core.Path.{_≡_, refl, _∙_}
 use native.Mathlib.Omega.{arith}
 use borrow.Author.Needs.{needs}
-use Rattle.message.proofs.Rows.{row-small, row-few}
+use Rattle.message.proofs.Rows.{row-there, row-small, row-few}
 use Rattle.message.proofs.Numbers.{Counting, counting-new, counting-fixed, counting-long, counting-cut, counting-end}
 use Rattle.message.proofs.Numbers.{counting-past, counting-back, counting-first, counting-later}
 use Rattle.message.proofs.fields.lay_out.Statement.{statement}
@@ -17,24 +17,24 @@ abbrev μ-loop : tie.MeasureT-loop
 loop-holds : tie.Need-loop-holds Inv-loop μ-loop
 loop-holds c = counting-new (c .before .before .pre .0)
 
-word-at-requires : tie.Need-word-at-requires Inv-loop μ-loop
-word-at-requires c κs = search needs
+word-in-requires : tie.Need-word-in-requires Inv-loop μ-loop
+word-in-requires c κs = row-there _ _ _ _ _ (c .before .loop .inv .laying .row) (c .loop-test .taken)
 
 mul-k : tie.Need-mul-k Inv-loop μ-loop
-mul-k c = omega (arith, c .word-at .ensures .1)
+mul-k c = omega (arith, c .word-in .ensures .1)
 
 element-copy-out-k : tie.Need-element-copy-out-k Inv-loop μ-loop
 element-copy-out-k c =
     let c1 = c .before in
     let c2 = c1 .before in
-    row-few _ _ _ _ _ _ (c2 .loop .inv .laying .row) (c1 .loop-test .taken) (c .word-at .ensures .0)
+    row-few _ _ _ _ _ _ (c2 .loop .inv .laying .row) (c1 .loop-test .taken) (c .word-in .ensures .0)
 
 cast-k : tie.Need-cast-k Inv-loop μ-loop
 cast-k c =
     let c1 = c .before in
     let c2 = c1 .before in
     let c3 = c2 .before in
-    omega (arith, row-small _ _ _ _ _ _ (c3 .loop .inv .laying .row) (c2 .loop-test .taken) (c1 .word-at .ensures .0))
+    omega (arith, row-small _ _ _ _ _ _ (c3 .loop .inv .laying .row) (c2 .loop-test .taken) (c1 .word-in .ensures .0))
 
 add-a : tie.Need-add-a Inv-loop μ-loop
 add-a c =
@@ -52,7 +52,7 @@ add-p c =
     let c3 = c2 .before in
     let c4 = c3 .before in
     let c7 = c4 .before .before .before in
-    let s = row-small _ _ _ _ _ _ (c4 .loop .inv .laying .row) (c3 .loop-test .taken) (c2 .word-at .ensures .0) in
+    let s = row-small _ _ _ _ _ _ (c4 .loop .inv .laying .row) (c3 .loop-test .taken) (c2 .word-in .ensures .0) in
     omega (arith, s, c4 .loop .inv .laying .within, c7 .pre .1)
 
 returns : tie.Need-returns Inv-loop μ-loop
@@ -61,7 +61,7 @@ returns c =
     let c3 = c1 .before .before in
     let c4 = c3 .before in
     let c5 = c4 .before in
-    counting-long (c5 .loop .inv) (c4 .loop-test .taken) (c3 .word-at .ensures .0) refl (c1 .if1 .taken) (c .if2 .taken)
+    counting-long (c5 .loop .inv) (c4 .loop-test .taken) (c3 .word-in .ensures .0) refl (c1 .if1 .taken) (c .if2 .taken)
 
 loop-less : tie.Need-loop-less Inv-loop μ-loop
 loop-less c =
@@ -75,7 +75,7 @@ loop-again c =
     let c4 = c3 .before in
     let c5 = c4 .before in
     let c8 = c5 .before .before .before in
-    counting-fixed (c5 .loop .inv) (c4 .loop-test .taken) (c3 .word-at .ensures .0) refl (c1 .if1 .taken) (c .if2 .left) (c8 .pre .1)
+    counting-fixed (c5 .loop .inv) (c4 .loop-test .taken) (c3 .word-in .ensures .0) refl (c1 .if1 .taken) (c .if2 .left) (c8 .pre .1)
 
 add-next : tie.Need-add-next Inv-loop μ-loop
 add-next c =
@@ -94,10 +94,10 @@ returns-2 c =
     let c3 = c1 .before .before in
     let c4 = c3 .before in
     let c5 = c4 .before in
-    counting-cut (c5 .loop .inv) (c4 .loop-test .taken) (c3 .word-at .ensures .0) refl (c1 .if1 .left) (c .if3 .taken)
+    counting-cut (c5 .loop .inv) (c4 .loop-test .taken) (c3 .word-in .ensures .0) refl (c1 .if1 .left) (c .if3 .taken)
 
-four-at-requires : tie.Need-four-at-requires Inv-loop μ-loop
-four-at-requires c κs = search needs
+four-in-requires : tie.Need-four-in-requires Inv-loop μ-loop
+four-in-requires c κs = search needs
 
 returns-3 : tie.Need-returns-3 Inv-loop μ-loop
 returns-3 c =
@@ -107,8 +107,8 @@ returns-3 c =
     let c5 = c3 .before .before in
     let c6 = c5 .before in
     let c7 = c6 .before in
-    counting-past (c7 .loop .inv) (c6 .loop-test .taken) (c5 .word-at .ensures .0) refl (c3 .if1 .left)
-    (c2 .if3 .left) (c1 .four-at .ensures .0) (c .if4 .taken)
+    counting-past (c7 .loop .inv) (c6 .loop-test .taken) (c5 .word-in .ensures .0) refl (c3 .if1 .left)
+    (c2 .if3 .left) (c1 .four-in .ensures .0) (c .if4 .taken)
 
 returns-4 : tie.Need-returns-4 Inv-loop μ-loop
 returns-4 c =
@@ -119,8 +119,8 @@ returns-4 c =
     let c6 = c4 .before .before in
     let c7 = c6 .before in
     let c8 = c7 .before in
-    counting-back (c8 .loop .inv) (c7 .loop-test .taken) (c6 .word-at .ensures .0) refl (c4 .if1 .left)
-    (c3 .if3 .left) (c2 .four-at .ensures .0) (c1 .if4 .left) (c .if5 .taken)
+    counting-back (c8 .loop .inv) (c7 .loop-test .taken) (c6 .word-in .ensures .0) refl (c4 .if1 .left)
+    (c3 .if3 .left) (c2 .four-in .ensures .0) (c1 .if4 .left) (c .if5 .taken)
 
 loop-less-2 : tie.Need-loop-less-2 Inv-loop μ-loop
 loop-less-2 c =
@@ -137,8 +137,8 @@ loop-again-2 c =
     let c7 = c5 .before .before in
     let c8 = c7 .before in
     let c9 = c8 .before in
-    counting-first (c9 .loop .inv) (c8 .loop-test .taken) (c7 .word-at .ensures .0) refl (c5 .if1 .left)
-    (c4 .if3 .left) (c3 .four-at .ensures .0) (c2 .if4 .left) (c1 .if5 .left) (c .if6 .taken) (c3 .four-at .ensures .1)
+    counting-first (c9 .loop .inv) (c8 .loop-test .taken) (c7 .word-in .ensures .0) refl (c5 .if1 .left)
+    (c4 .if3 .left) (c3 .four-in .ensures .0) (c2 .if4 .left) (c1 .if5 .left) (c .if6 .taken) (c3 .four-in .ensures .1)
 
 loop-less-3 : tie.Need-loop-less-3 Inv-loop μ-loop
 loop-less-3 c =
@@ -155,8 +155,8 @@ loop-again-3 c =
     let c7 = c5 .before .before in
     let c8 = c7 .before in
     let c9 = c8 .before in
-    counting-later (c9 .loop .inv) (c8 .loop-test .taken) (c7 .word-at .ensures .0) refl (c5 .if1 .left)
-    (c4 .if3 .left) (c3 .four-at .ensures .0) (c2 .if4 .left) (c1 .if5 .left) (c .if6 .left)
+    counting-later (c9 .loop .inv) (c8 .loop-test .taken) (c7 .word-in .ensures .0) refl (c5 .if1 .left)
+    (c4 .if3 .left) (c3 .four-in .ensures .0) (c2 .if4 .left) (c1 .if5 .left) (c .if6 .left)
 
 finish-requires : tie.Need-finish-requires Inv-loop μ-loop
 finish-requires c κs = search needs
@@ -174,7 +174,7 @@ lay-out-spec =
     Inv-loop
     μ-loop
     loop-holds
-    word-at-requires
+    word-in-requires
     mul-k
     element-copy-out-k
     cast-k
@@ -187,7 +187,7 @@ lay-out-spec =
     add-next
     sub-t24
     returns-2
-    four-at-requires
+    four-in-requires
     returns-3
     returns-4
     loop-less-2

@@ -21,8 +21,8 @@ cast-k c =
     let c3 = c .before .before .before in
     omega (arith, row-small _ _ _ _ _ _ (c3 .pre .0) (c3 .pre .1) (c3 .pre .2))
 
-offset-at-requires : tie.Need-offset-at-requires
-offset-at-requires c κs =
+four-in-requires : tie.Need-four-in-requires
+four-in-requires c κs =
     let c4 = c .before .before .before .before in
     first-room _ _ _ _ _ _ _ _ (c4 .pre .0) (c4 .pre .1) (c4 .pre .2) (c4 .pre .3)
     (row-variable _ _ _ _ _ _ (c4 .pre .0) (c4 .pre .1) (c4 .pre .2) _ refl (c .if1 .taken))
@@ -58,7 +58,7 @@ returns c =
     let c6 = c2 .before .before .before .before in
     rw (
       ← row-variable _ _ _ _ _ _ (c6 .pre .0) (c6 .pre .1) (c6 .pre .2) _ refl (c2 .if1 .taken),
-      ← c .before .offset-at .ensures,
+      ← c .before .four-in .ensures .0,
       ← c .next-start .ensures,
     )
 
@@ -83,7 +83,7 @@ locate-spec =
     mul-k
     element-copy-out-k
     cast-k
-    offset-at-requires
+    four-in-requires
     add-next
     add-after
     sub-rest

@@ -2,7 +2,7 @@
 use mathlib.Core.Path.{_≡_, refl, sym, ap, _∙_}
 use native.Mathlib.Omega.{arith}
 use borrow.Author.Needs.{needs}
-use Rattle.message.proofs.Rows.{Seeking, row-small, row-few, seeking-room, seeking-found, seeking-fits, seeking-next, seeking-end}
+use Rattle.message.proofs.Rows.{Seeking, row-there, row-small, row-few, seeking-room, seeking-found, seeking-fits, seeking-next, seeking-end}
 use Rattle.message.proofs.fields.next_start.Statement.{statement}
 use Rattle.message.proofs.fields.next_start.Tie as tie
 
@@ -15,35 +15,35 @@ abbrev μ-loop : tie.MeasureT-loop
 loop-holds : tie.Need-loop-holds Inv-loop μ-loop
 loop-holds c = record { row = c .before .before .pre .0; ranges = c .before .before .pre .1; same = refl }
 
-word-at-requires : tie.Need-word-at-requires Inv-loop μ-loop
-word-at-requires c κs = search needs
+word-in-requires : tie.Need-word-in-requires Inv-loop μ-loop
+word-in-requires c κs = row-there _ _ _ _ _ (c .before .loop .inv .row) (c .loop-test .taken)
 
 mul-k : tie.Need-mul-k Inv-loop μ-loop
-mul-k c = omega (arith, c .word-at .ensures .1)
+mul-k c = omega (arith, c .word-in .ensures .1)
 
 element-copy-out-k : tie.Need-element-copy-out-k Inv-loop μ-loop
-element-copy-out-k c = row-few _ _ _ _ _ _ (c .before .before .loop .inv .row) (c .before .loop-test .taken) (c .word-at .ensures .0)
+element-copy-out-k c = row-few _ _ _ _ _ _ (c .before .before .loop .inv .row) (c .before .loop-test .taken) (c .word-in .ensures .0)
 
 cast-k : tie.Need-cast-k Inv-loop μ-loop
 cast-k c =
     let c1 = c .before in
     let c2 = c1 .before in
     let c3 = c2 .before in
-    omega (arith, row-small _ _ _ _ _ _ (c3 .loop .inv .row) (c2 .loop-test .taken) (c1 .word-at .ensures .0))
+    omega (arith, row-small _ _ _ _ _ _ (c3 .loop .inv .row) (c2 .loop-test .taken) (c1 .word-in .ensures .0))
 
-offset-at-requires : tie.Need-offset-at-requires Inv-loop μ-loop
-offset-at-requires c κs = seeking-room _ _ _ _ _ _ _ _ _ _ _ _ (c .before .before .before .before .loop .inv)
-    (c .before .before .before .loop-test .taken) (c .before .before .word-at .ensures .0) refl (c .if1 .taken)
+four-in-requires : tie.Need-four-in-requires Inv-loop μ-loop
+four-in-requires c κs = seeking-room _ _ _ _ _ _ _ _ _ _ _ _ (c .before .before .before .before .loop .inv)
+    (c .before .before .before .loop-test .taken) (c .before .before .word-in .ensures .0) refl (c .if1 .taken)
 
 returns : tie.Need-returns Inv-loop μ-loop
-returns c = c .offset-at .ensures ∙ seeking-found _ _ _ _ _ _ _ _ _ _ _ _ (c .before .before .before .before .before .loop .inv)
-    (c .before .before .before .before .loop-test .taken) (c .before .before .before .word-at .ensures .0) refl (c .before .if1 .taken)
+returns c = c .four-in .ensures .0 ∙ seeking-found _ _ _ _ _ _ _ _ _ _ _ _ (c .before .before .before .before .before .loop .inv)
+    (c .before .before .before .before .loop-test .taken) (c .before .before .before .word-in .ensures .0) refl (c .before .if1 .taken)
 
 add-p : tie.Need-add-p Inv-loop μ-loop
 add-p c = omega (
   arith,
   seeking-fits _ _ _ _ _ _ _ _ _ _ _ _ (c .before .before .before .before .loop .inv)
-      (c .before .before .before .loop-test .taken) (c .before .before .word-at .ensures .0) refl (c .if1 .left),
+      (c .before .before .before .loop-test .taken) (c .before .before .word-in .ensures .0) refl (c .if1 .left),
 )
 
 add-a : tie.Need-add-a Inv-loop μ-loop
@@ -57,7 +57,7 @@ loop-less c = omega arith
 
 loop-again : tie.Need-loop-again Inv-loop μ-loop
 loop-again c = seeking-next _ _ _ _ _ _ _ _ _ _ _ _ (c .before .before .before .before .loop .inv) (c .before .before .before .loop-test .taken)
-    (c .before .before .word-at .ensures .0) refl (c .if1 .left)
+    (c .before .before .word-in .ensures .0) refl (c .if1 .left)
 
 returns-2 : tie.Need-returns-2 Inv-loop μ-loop
 returns-2 c = seeking-end _ _ _ _ _ _ _ _ _ _ (c .before .loop .inv) (c .loop-test .left)
@@ -69,11 +69,11 @@ next-start-spec =
     Inv-loop
     μ-loop
     loop-holds
-    word-at-requires
+    word-in-requires
     mul-k
     element-copy-out-k
     cast-k
-    offset-at-requires
+    four-in-requires
     returns
     add-p
     add-a

@@ -7,13 +7,14 @@ use lib.ListN.{length-take, length-drop}
 use Rattle.decode.proofs.Register.{layout-ranges}
 use Rattle.layout.proofs.Facts.{as-leaf, as-container}
 use Rattle.message.specs.Read.{one, andThen}
-use Rattle.message.proofs.Rows.{row-below, row-few, row-small, row-under, under-below}
-use Rattle.message.proofs.Bodies.{Reading, reading-small, reading-span, reading-item, plain-fits, plain-next, reading-next, reading-stop, reading-end}
+use Rattle.message.proofs.Rows.{row-there, row-below, row-few, row-small, row-under, row-legal, under-below}
+use Rattle.message.proofs.Bodies.{Reading, reading-small, reading-span, reading-item, plain-fits, plain-next, reading-next, reading-stop, free-next, free-stop, reading-end}
 use Rattle.message.proofs.Bodies.{item-small, small-more, node-ok, container-row, container-on, container-stop}
-use Rattle.message.proofs.Bodies.{as-free, bare-read, wrong-read, body-below, body-read}
+use Rattle.message.proofs.Bodies.{bare-read, wrong-read, body-below, body-read}
 use Prim.Native.Nat.{ℕ, _<_}
 use borrow.Fn.Kinds.{In}
 use borrow.Fn.PlainCycle.{Measures, is, falls, and}
+use Rattle.message.proofs.Entries.{below-six}
 use Rattle.message.proofs.items.field_check.Reads as field-check
 use Rattle.message.proofs.items.field_check.Kinds as field-check-kinds
 use Rattle.message.proofs.items.+field_check+field_item+item_check.Lts-field_check as field-check-lts
@@ -23,18 +24,18 @@ use Rattle.message.proofs.items.+field_check+field_item+item_check.Lts-
 use Rattle.message.proofs.items.item_check.Reads as item-check
 use Rattle.message.proofs.items.item_check.Kinds as item-check-kinds
 use Rattle.message.proofs.items.+field_check+field_item+item_check.Lts-item_check as item-check-lts
-use Rattle.layout.proofs.look.Reads as look-reads
+use Rattle.message.proofs.words.look_in.Reads as look-in-reads
 use Rattle.message.proofs.fields.container_told.Reads as container-told-reads
 use Rattle.message.proofs.fields.locate.Reads as locate-reads
 use Rattle.message.proofs.items.add.Reads as add-reads
-use Rattle.message.proofs.items.free_check.Reads as free-check-reads
 use Rattle.message.proofs.items.is_plain.Reads as is-plain-reads
 use Rattle.message.proofs.items.leaf.Reads as leaf-reads
 use Rattle.message.proofs.items.leaf_check.Reads as leaf-check-reads
 use Rattle.message.proofs.items.one_more.Reads as one-more-reads
+use Rattle.message.proofs.items.own_record.Reads as own-record-reads
 use Rattle.message.proofs.items.select.Reads as select-reads
 use Rattle.message.proofs.items.with_selector.Reads as with-selector-reads
-use Rattle.standard.proofs.words.word_at.Reads as word-at-reads
+use Rattle.message.proofs.words.word_in.Reads as word-in-reads
 use Rattle.message.proofs.items.+field_check+field_item+item_check.{statement}
 use Rattle.message.proofs.items.+field_check+field_item+item_check.Tie.{close}
 
@@ -80,10 +81,12 @@ field-check-μ-loop lens layout t a0 n b start sum₀ a₀ left₀ p₀ sum a le
 -- what `field_check` calls, at the measure t
 abbrev field-check-calls : ℕ → field-check-lts.Claims
 field-check-calls t = (
-  word-at-reads.Asked,
-  word-at-reads.Learnt,
-  look-reads.Asked,
-  look-reads.Learnt,
+  own-record-reads.Asked,
+  own-record-reads.Learnt,
+  word-in-reads.Asked,
+  word-in-reads.Learnt,
+  look-in-reads.Asked,
+  look-in-reads.Learnt,
   is-plain-reads.Asked,
   is-plain-reads.Learnt,
   one-more-reads.Asked,
@@ -98,13 +101,13 @@ field-check-calls t = (
 
 -- what `field_item` calls, at the measure t
 abbrev field-item-calls : ℕ → field-item-lts.Claims
-field-item-calls t = (free-check-reads.Asked, free-check-reads.Learnt, leaf-check-reads.Asked, leaf-check-reads.Learnt, item-check-below t, item-check.Post)
+field-item-calls t = (leaf-check-reads.Asked, leaf-check-reads.Learnt, item-check-below t, item-check.Post)
 
 -- what `item_check` calls, at the measure t
 abbrev item-check-calls : ℕ → item-check-lts.Claims
 item-check-calls t = (
-  look-reads.Asked,
-  look-reads.Learnt,
+  look-in-reads.Asked,
+  look-in-reads.Learnt,
   container-told-reads.Asked,
   container-told-reads.Learnt,
   field-check-below t,
@@ -121,34 +124,46 @@ item-check-calls t = (
   leaf-check-reads.Learnt,
 )
 
+field-check-own-record-requires : (t : ℕ) → field-check-lts.Need-own-record-requires (field-check-calls t) (field-check-at t) field-check.Post
+    field-check-Inv-loop field-check-μ-loop
+field-check-own-record-requires t c κs = search needs
+
 field-check-loop-holds : (t : ℕ) → field-check-lts.Need-loop-holds (field-check-calls t) (field-check-at t) field-check.Post
     field-check-Inv-loop field-check-μ-loop
 field-check-loop-holds t c =
-    let c2 = c .before .before in
-    record {
-      row = c2 .pre .1 .0;
+    let c3 = c .before .before .before in
+    rw (c .own-record .ensures)
+    (record {
+      row = c3 .pre .1 .0;
       some = omega arith;
-      ranges = c2 .pre .1 .3;
+      ranges = c3 .pre .1 .3;
       records = omega arith;
       words = omega arith;
       bytes = omega arith;
       same = refl;
-    }
+    })
 
-field-check-word-at-requires : (t : ℕ) → field-check-lts.Need-word-at-requires (field-check-calls t) (field-check-at t) field-check.Post
+field-check-word-in-requires : (t : ℕ) → field-check-lts.Need-word-in-requires (field-check-calls t) (field-check-at t) field-check.Post
     field-check-Inv-loop field-check-μ-loop
-field-check-word-at-requires t c κs = search needs
+field-check-word-in-requires t c κs =
+    let c1 = c .before in
+    row-there _ _ _ _ _ (c1 .loop .inv .row) (c .loop-test .taken)
 
-field-check-look-requires : (t : ℕ) → field-check-lts.Need-look-requires (field-check-calls t) (field-check-at t) field-check.Post
+field-check-look-in-requires : (t : ℕ) → field-check-lts.Need-look-in-requires (field-check-calls t) (field-check-at t) field-check.Post
     field-check-Inv-loop field-check-μ-loop
-field-check-look-requires t c κs = search needs
+field-check-look-in-requires t c κs =
+    let c1 = c .before in
+    let c2 = c1 .before in
+    row-legal _ _ _ _ _ _ (c2 .loop .inv .row) (c1 .loop-test .taken) (c .word-in .ensures .0)
 
 field-check-is-plain-requires : (t : ℕ) → field-check-lts.Need-is-plain-requires (field-check-calls t) (field-check-at t) field-check.Post
     field-check-Inv-loop field-check-μ-loop
 field-check-is-plain-requires t c κs = search needs
 
 field-check-mul-k : (t : ℕ) → field-check-lts.Need-mul-k (field-check-calls t) (field-check-at t) field-check.Post field-check-Inv-loop field-check-μ-loop
-field-check-mul-k t c = omega (arith, c .before .before .before .word-at .ensures .1)
+field-check-mul-k t c =
+    let c3 = c .before .before .before in
+    omega (arith, c3 .word-in .ensures .1)
 
 field-check-element-copy-out-k : (t : ℕ) → field-check-lts.Need-element-copy-out-k (field-check-calls t) (field-check-at t) field-check.Post
     field-check-Inv-loop field-check-μ-loop
@@ -156,14 +171,14 @@ field-check-element-copy-out-k t c =
     let c3 = c .before .before .before in
     let c4 = c3 .before in
     let c5 = c4 .before in
-    row-few _ _ _ _ _ _ (c5 .loop .inv .row) (c4 .loop-test .taken) (c3 .word-at .ensures .0)
+    row-few _ _ _ _ _ _ (c5 .loop .inv .row) (c4 .loop-test .taken) (c3 .word-in .ensures .0)
 
 field-check-cast-k : (t : ℕ) → field-check-lts.Need-cast-k (field-check-calls t) (field-check-at t) field-check.Post field-check-Inv-loop field-check-μ-loop
 field-check-cast-k t c =
     let c4 = c .before .before .before .before in
     let c5 = c4 .before in
     let c6 = c5 .before in
-    omega (arith, row-small _ _ _ _ _ _ (c6 .loop .inv .row) (c5 .loop-test .taken) (c4 .word-at .ensures .0))
+    omega (arith, row-small _ _ _ _ _ _ (c6 .loop .inv .row) (c5 .loop-test .taken) (c4 .word-in .ensures .0))
 
 field-check-one-more-requires : (t : ℕ) → field-check-lts.Need-one-more-requires (field-check-calls t) (field-check-at t) field-check.Post
     field-check-Inv-loop field-check-μ-loop
@@ -171,9 +186,8 @@ field-check-one-more-requires t c κs =
     let c4 = c .before .before .before .before in
     let c5 = c4 .before in
     let c6 = c5 .before in
-    let c9 = c6 .before .before .before in
-    let short = row-small _ _ _ _ _ _ (c6 .loop .inv .row) (c5 .loop-test .taken) (c4 .word-at .ensures .0) in
-    (reading-small _ _ _ _ _ _ _ _ _ _ _ (c9 .pre .1 .1) (c6 .loop .inv), short)
+    let c10 = c6 .before .before .before .before in
+    (reading-small _ _ _ _ _ _ _ _ _ _ _ (c10 .pre .1 .1) (c6 .loop .inv), omega arith, row-small _ _ _ _ _ _ (c6 .loop .inv .row) (c5 .loop-test .taken) (c4 .word-in .ensures .0))
 
 field-check-add-p : (t : ℕ) → field-check-lts.Need-add-p (field-check-calls t) (field-check-at t) field-check.Post field-check-Inv-loop field-check-μ-loop
 field-check-add-p t c =
@@ -183,20 +197,17 @@ field-check-add-p t c =
     let c5 = c4 .before in
     let c6 = c5 .before in
     let c7 = c6 .before in
-    let c10 = c7 .before .before .before in
-    omega (
-      arith,
-      plain-fits _ _ _ _ _ _ _ _ _ _ _ _ (c7 .loop .inv) (c6 .loop-test .taken) (c5 .word-at .ensures .0) _ (c4 .look .ensures)
-          (sym (c3 .is-plain .ensures) ∙ c2 .if1 .taken) _ refl,
-      c10 .pre .1 .2,
-    )
+    let c11 = c7 .before .before .before .before in
+    omega (arith, plain-fits _ _ _ _ _ _ _ _ _ _ _ _ (c7 .loop .inv) (c6 .loop-test .taken) (c5 .word-in .ensures .0) _ (c4 .look-in .ensures)
+    (sym (c3 .is-plain .ensures) ∙ c2 .if1 .taken) _ refl, c11 .pre .1 .2)
 
 field-check-add-a : (t : ℕ) → field-check-lts.Need-add-a (field-check-calls t) (field-check-at t) field-check.Post field-check-Inv-loop field-check-μ-loop
 field-check-add-a t c =
     let c7 = c .before .before .before .before .before .before .before in
     omega (arith, c7 .loop .inv .row .near)
 
-field-check-sub-left : (t : ℕ) → field-check-lts.Need-sub-left (field-check-calls t) (field-check-at t) field-check.Post field-check-Inv-loop field-check-μ-loop
+field-check-sub-left : (t : ℕ) → field-check-lts.Need-sub-left (field-check-calls t) (field-check-at t) field-check.Post
+    field-check-Inv-loop field-check-μ-loop
 field-check-sub-left t c = omega arith
 
 field-check-loop-less : (t : ℕ) → field-check-lts.Need-loop-less (field-check-calls t) (field-check-at t) field-check.Post
@@ -212,10 +223,10 @@ field-check-loop-again t c =
     let c5 = c4 .before in
     let c6 = c5 .before in
     let c7 = c6 .before in
-    let c10 = c7 .before .before .before in
+    let c11 = c7 .before .before .before .before in
     rw (c .one-more .ensures)
-    (plain-next _ _ _ _ _ _ _ _ _ _ _ _ (c7 .loop .inv) (c6 .loop-test .taken) (c5 .word-at .ensures .0) _ (c4 .look .ensures)
-    (sym (c3 .is-plain .ensures) ∙ c2 .if1 .taken) _ refl (c10 .pre .1 .2))
+    (plain-next _ _ _ _ _ _ _ _ _ _ _ _ (c7 .loop .inv) (c6 .loop-test .taken) (c5 .word-in .ensures .0) _ (c4 .look-in .ensures)
+    (sym (c3 .is-plain .ensures) ∙ c2 .if1 .taken) _ refl (c11 .pre .1 .2))
 
 field-check-locate-requires : (t : ℕ) → field-check-lts.Need-locate-requires (field-check-calls t) (field-check-at t) field-check.Post
     field-check-Inv-loop field-check-μ-loop
@@ -223,7 +234,7 @@ field-check-locate-requires t c κs =
     let c3 = c .before .before .before in
     let c4 = c3 .before in
     let c5 = c4 .before in
-    (c5 .loop .inv .row, c4 .loop-test .taken, c3 .word-at .ensures .0, c5 .loop .inv .ranges)
+    (c5 .loop .inv .row, c4 .loop-test .taken, c3 .word-in .ensures .0, c5 .loop .inv .ranges)
 
 field-check-add-a-2 : (t : ℕ) → field-check-lts.Need-add-a-2 (field-check-calls t) (field-check-at t) field-check.Post field-check-Inv-loop field-check-μ-loop
 field-check-add-a-2 t c =
@@ -239,50 +250,95 @@ field-check-add-at t c =
     let c4 = c .before .before .before .before in
     let c5 = c4 .before in
     let c6 = c5 .before in
-    let c9 = c6 .before .before .before in
-    omega (arith, reading-span _ _ _ _ _ _ _ _ _ _ _ _ (c6 .loop .inv) (c5 .loop-test .taken) (c4 .word-at .ensures .0) _ (c .locate .ensures), c9 .pre .1 .2)
+    let c10 = c6 .before .before .before .before in
+    omega (arith, reading-span _ _ _ _ _ _ _ _ _ _ _ _ (c6 .loop .inv) (c5 .loop-test .taken) (c4 .word-in .ensures .0) _ (c .locate .ensures), c10 .pre .1 .2)
+
+field-check-sub-len : (t : ℕ) → field-check-lts.Need-sub-len (field-check-calls t) (field-check-at t) field-check.Post field-check-Inv-loop field-check-μ-loop
+field-check-sub-len t c =
+    let c2 = c .before .before in
+    let c6 = c2 .before .before .before .before in
+    let c7 = c6 .before in
+    let c8 = c7 .before in
+    reading-span _ _ _ _ _ _ _ _ _ _ _ _ (c8 .loop .inv) (c7 .loop-test .taken) (c6 .word-in .ensures .0) _ (c2 .locate .ensures) .0
+
+field-check-returns : (t : ℕ) → field-check-lts.Need-returns (field-check-calls t) (field-check-at t) field-check.Post field-check-Inv-loop field-check-μ-loop
+field-check-returns t c =
+    let c2 = c .before .before in
+    let c4 = c2 .before .before in
+    let c7 = c4 .before .before .before in
+    let c8 = c7 .before in
+    let c9 = c8 .before in
+    let c10 = c9 .before in
+    free-stop _ _ _ _ _ _ _ _ _ _ _ _ (c10 .loop .inv) (c9 .loop-test .taken) (c8 .word-in .ensures .0) _ (c4 .locate .ensures) _ (c7 .look-in .ensures) (c2 .if2 .taken) (c .if3 .taken)
+
+field-check-one-more-requires-2 : (t : ℕ) → field-check-lts.Need-one-more-requires-2 (field-check-calls t) (field-check-at t) field-check.Post
+    field-check-Inv-loop field-check-μ-loop
+field-check-one-more-requires-2 t c κs =
+    let c4 = c .before .before .before .before in
+    let c8 = c4 .before .before .before .before in
+    let c9 = c8 .before in
+    let c10 = c9 .before in
+    let c14 = c10 .before .before .before .before in
+    let lies = reading-span _ _ _ _ _ _ _ _ _ _ _ _ (c10 .loop .inv) (c9 .loop-test .taken) (c8 .word-in .ensures .0) _ (c4 .locate .ensures) in
+    (reading-small _ _ _ _ _ _ _ _ _ _ _ (c14 .pre .1 .1) (c10 .loop .inv), omega arith, omega (arith, lies, c14 .pre .1 .2))
+
+field-check-loop-less-2 : (t : ℕ) → field-check-lts.Need-loop-less-2 (field-check-calls t) (field-check-at t) field-check.Post
+    field-check-Inv-loop field-check-μ-loop
+field-check-loop-less-2 t c = omega arith
+
+field-check-loop-again-2 : (t : ℕ) → field-check-lts.Need-loop-again-2 (field-check-calls t) (field-check-at t) field-check.Post
+    field-check-Inv-loop field-check-μ-loop
+field-check-loop-again-2 t c =
+    let c1 = c .before in
+    let c3 = c1 .before .before in
+    let c5 = c3 .before .before in
+    let c8 = c5 .before .before .before in
+    let c9 = c8 .before in
+    let c10 = c9 .before in
+    let c11 = c10 .before in
+    let c15 = c11 .before .before .before .before in
+    rw (c .one-more2 .ensures) (free-next _ _ _ _ _ _ _ _ _ _ _ _ (c11 .loop .inv) (c10 .loop-test .taken) (c9 .word-in .ensures .0) _ (c5 .locate .ensures) _ (c8 .look-in .ensures) (c3 .if2 .taken) (c1 .if3 .left) (c15 .pre .1 .2))
 
 field-check-sub-field-item : (t : ℕ) → field-check-lts.Need-sub-field-item (field-check-calls t) (field-check-at t) field-check.Post
     field-check-Inv-loop field-check-μ-loop
 field-check-sub-field-item t c =
-    let c4 = c .before .before .before .before in
-    let c5 = c4 .before in
-    let c6 = c5 .before in
-    reading-span _ _ _ _ _ _ _ _ _ _ _ _ (c6 .loop .inv) (c5 .loop-test .taken) (c4 .word-at .ensures .0) _ (c .locate .ensures) .0
+    let c2 = c .before .before in
+    let c6 = c2 .before .before .before .before in
+    let c7 = c6 .before in
+    let c8 = c7 .before in
+    reading-span _ _ _ _ _ _ _ _ _ _ _ _ (c8 .loop .inv) (c7 .loop-test .taken) (c6 .word-in .ensures .0) _ (c2 .locate .ensures) .0
 
 field-check-part-field-item-start : (t : ℕ) → field-check-lts.Need-part-field-item-start (field-check-calls t) (field-check-at t) field-check.Post
     field-check-Inv-loop field-check-μ-loop
 field-check-part-field-item-start t c =
-    let c4 = c .before .before .before .before in
-    let c5 = c4 .before in
-    let c6 = c5 .before in
-    reading-span _ _ _ _ _ _ _ _ _ _ _ _ (c6 .loop .inv) (c5 .loop-test .taken) (c4 .word-at .ensures .0) _ (c .locate .ensures) .0
+    let c2 = c .before .before in
+    let c6 = c2 .before .before .before .before in
+    let c7 = c6 .before in
+    let c8 = c7 .before in
+    reading-span _ _ _ _ _ _ _ _ _ _ _ _ (c8 .loop .inv) (c7 .loop-test .taken) (c6 .word-in .ensures .0) _ (c2 .locate .ensures) .0
 
 field-check-part-field-item-end : (t : ℕ) → field-check-lts.Need-part-field-item-end (field-check-calls t) (field-check-at t) field-check.Post
     field-check-Inv-loop field-check-μ-loop
 field-check-part-field-item-end t c =
-    let c4 = c .before .before .before .before in
-    let c5 = c4 .before in
-    let c6 = c5 .before in
-    reading-span _ _ _ _ _ _ _ _ _ _ _ _ (c6 .loop .inv) (c5 .loop-test .taken) (c4 .word-at .ensures .0) _ (c .locate .ensures) .1
+    let c2 = c .before .before in
+    let c6 = c2 .before .before .before .before in
+    let c7 = c6 .before in
+    let c8 = c7 .before in
+    reading-span _ _ _ _ _ _ _ _ _ _ _ _ (c8 .loop .inv) (c7 .loop-test .taken) (c6 .word-in .ensures .0) _ (c2 .locate .ensures) .1
 
 field-check-field-item-requires : (t : ℕ) → field-check-lts.Need-field-item-requires (field-check-calls t) (field-check-at t) field-check.Post
     field-check-Inv-loop field-check-μ-loop
 field-check-field-item-requires t c κs =
-    let c1 = c .before in
-    let c4 = c1 .before .before .before in
-    let c5 = c4 .before in
-    let c6 = c5 .before in
+    let c3 = c .before .before .before in
+    let c6 = c3 .before .before .before in
     let c7 = c6 .before in
-    let c10 = c7 .before .before .before in
-    let span = reading-span _ _ _ _ _ _ _ _ _ _ _ _ (c7 .loop .inv) (c6 .loop-test .taken) (c5 .word-at .ensures .0) _ (c1 .locate .ensures) in (
-      omega (arith, row-below _ _ _ _ _ _ (c7 .loop .inv .row) (c6 .loop-test .taken) (c5 .word-at .ensures .0), c10 .pre .0),
-      (
-        row-under _ _ _ _ _ _ (c7 .loop .inv .row) (c6 .loop-test .taken) (c5 .word-at .ensures .0),
-        omega (arith, span, c10 .pre .1 .2),
-        c4 .look .ensures,
-      ),
-    )
+    let c8 = c7 .before in
+    let c9 = c8 .before in
+    let c13 = c9 .before .before .before .before in
+    let lies = reading-span _ _ _ _ _ _ _ _ _ _ _ _ (c9 .loop .inv) (c8 .loop-test .taken) (c7 .word-in .ensures .0) _ (c3 .locate .ensures) in
+    let lower = row-below _ _ _ _ _ _ (c9 .loop .inv .row) (c8 .loop-test .taken) (c7 .word-in .ensures .0) in
+    let under = row-under _ _ _ _ _ _ (c9 .loop .inv .row) (c8 .loop-test .taken) (c7 .word-in .ensures .0) in
+    (omega (arith, lower, c13 .pre .0), (under, omega (arith, lies, c13 .pre .1 .2), c6 .look-in .ensures))
 
 field-check-enum-known-r : (t : ℕ) → field-check-lts.Need-enum-known-r (field-check-calls t) (field-check-at t) field-check.Post
     field-check-Inv-loop field-check-μ-loop
@@ -293,93 +349,86 @@ field-check-add-requires : (t : ℕ) → field-check-lts.Need-add-requires (fiel
 field-check-add-requires t c κs =
     let c1 = c .before in
     let c3 = c1 .before .before in
-    let c5 = c3 .before .before in
-    let c9 = c5 .before .before .before .before in
-    let c10 = c9 .before in
-    let c11 = c10 .before in
-    let c14 = c11 .before .before .before in
+    let c7 = c3 .before .before .before .before in
+    let c11 = c7 .before .before .before .before in
+    let c12 = c11 .before in
+    let c13 = c12 .before in
+    let c17 = c13 .before .before .before .before in
     let told = sym (c1 .r .given .1) ∙ c3 .field-item .ensures in
-    let counts =
-    reading-item _ _ _ _ _ _ _ _ _ _ _ _ (c11 .loop .inv) (c10 .loop-test .taken) (c9 .word-at .ensures .0) _ (c5 .locate .ensures) _ (c14 .pre .1 .2) told in
-    (reading-small _ _ _ _ _ _ _ _ _ _ _ (c14 .pre .1 .1) (c11 .loop .inv), small-more _ counts)
+    let counts = reading-item _ _ _ _ _ _ _ _ _ _ _ _ (c13 .loop .inv) (c12 .loop-test .taken) (c11 .word-in .ensures .0) _ (c7 .locate .ensures) _ (c17 .pre .1 .2) told in
+    (reading-small _ _ _ _ _ _ _ _ _ _ _ (c17 .pre .1 .1) (c13 .loop .inv), small-more _ counts)
 
-field-check-loop-less-2 : (t : ℕ) → field-check-lts.Need-loop-less-2 (field-check-calls t) (field-check-at t) field-check.Post
+field-check-loop-less-3 : (t : ℕ) → field-check-lts.Need-loop-less-3 (field-check-calls t) (field-check-at t) field-check.Post
     field-check-Inv-loop field-check-μ-loop
-field-check-loop-less-2 t c = omega arith
+field-check-loop-less-3 t c = omega arith
 
-field-check-loop-again-2 : (t : ℕ) → field-check-lts.Need-loop-again-2 (field-check-calls t) (field-check-at t) field-check.Post
+field-check-loop-again-3 : (t : ℕ) → field-check-lts.Need-loop-again-3 (field-check-calls t) (field-check-at t) field-check.Post
     field-check-Inv-loop field-check-μ-loop
-field-check-loop-again-2 t c =
+field-check-loop-again-3 t c =
     let c2 = c .before .before in
     let c4 = c2 .before .before in
-    let c6 = c4 .before .before in
-    let c10 = c6 .before .before .before .before in
-    let c11 = c10 .before in
-    let c12 = c11 .before in
-    let c15 = c12 .before .before .before in
+    let c8 = c4 .before .before .before .before in
+    let c12 = c8 .before .before .before .before in
+    let c13 = c12 .before in
+    let c14 = c13 .before in
+    let c18 = c14 .before .before .before .before in
     let told = sym (c2 .r .given .1) ∙ c4 .field-item .ensures in
-    rw (c .add .ensures)
-    (reading-next _ _ _ _ _ _ _ _ _ _ _ _ (c12 .loop .inv) (c11 .loop-test .taken) (c10 .word-at .ensures .0) _ (c6 .locate .ensures) _ (c15 .pre .1 .2) told)
+    rw (c .add .ensures) (reading-next _ _ _ _ _ _ _ _ _ _ _ _ (c14 .loop .inv) (c13 .loop-test .taken) (c12 .word-in .ensures .0) _ (c8 .locate .ensures) _ (c18 .pre .1 .2) told)
 
 field-check-enum-known-r-2 : (t : ℕ) → field-check-lts.Need-enum-known-r-2 (field-check-calls t) (field-check-at t) field-check.Post
     field-check-Inv-loop field-check-μ-loop
 field-check-enum-known-r-2 t c = search needs
 
-field-check-returns : (t : ℕ) → field-check-lts.Need-returns (field-check-calls t) (field-check-at t) field-check.Post field-check-Inv-loop field-check-μ-loop
-field-check-returns t c =
-    let c1 = c .before in
-    let c3 = c1 .before .before in
-    let c5 = c3 .before .before in
-    let c9 = c5 .before .before .before .before in
-    let c10 = c9 .before in
-    let c11 = c10 .before in
-    reading-stop _ _ _ _ _ _ _ _ _ _ _ _ (c11 .loop .inv) (c10 .loop-test .taken) (c9 .word-at .ensures .0) _ (c5 .locate .ensures) _ _ _
-    (sym (c1 .r2 .given .1) ∙ c3 .field-item .ensures)
-
 field-check-returns-2 : (t : ℕ) → field-check-lts.Need-returns-2 (field-check-calls t) (field-check-at t) field-check.Post
     field-check-Inv-loop field-check-μ-loop
-field-check-returns-2 t c = reading-end _ _ _ _ _ _ _ _ _ _ _ (c .before .loop .inv) (c .loop-test .left)
+field-check-returns-2 t c =
+    let c1 = c .before in
+    let c3 = c1 .before .before in
+    let c7 = c3 .before .before .before .before in
+    let c11 = c7 .before .before .before .before in
+    let c12 = c11 .before in
+    let c13 = c12 .before in
+    reading-stop _ _ _ _ _ _ _ _ _ _ _ _ (c13 .loop .inv) (c12 .loop-test .taken) (c11 .word-in .ensures .0) _ (c7 .locate .ensures) _ _ _
+    (sym (c1 .r2 .given .1) ∙ c3 .field-item .ensures)
 
-field-item-free-check-requires : (t : ℕ) → field-item-lts.Need-free-check-requires (field-item-calls t) (field-item-at t) field-item.Post
-field-item-free-check-requires t c κs = search needs
+field-check-returns-3 : (t : ℕ) → field-check-lts.Need-returns-3 (field-check-calls t) (field-check-at t) field-check.Post
+    field-check-Inv-loop field-check-μ-loop
+field-check-returns-3 t c =
+    let c1 = c .before in
+    reading-end _ _ _ _ _ _ _ _ _ _ _ (c1 .loop .inv) (c .loop-test .left)
+
+field-item-leaf-check-requires : (t : ℕ) → field-item-lts.Need-leaf-check-requires (field-item-calls t) (field-item-at t) field-item.Post
+field-item-leaf-check-requires t c κs = search needs
 
 field-item-returns : (t : ℕ) → field-item-lts.Need-returns (field-item-calls t) (field-item-at t) field-item.Post
 field-item-returns t c =
     let c1 = c .before in
     let c5 = c1 .before .before .before .before in
-    rw (as-free _ _ _ (c5 .pre .1 .2) (c1 .if1 .taken)) (c .free-check .ensures)
-
-field-item-leaf-check-requires : (t : ℕ) → field-item-lts.Need-leaf-check-requires (field-item-calls t) (field-item-at t) field-item.Post
-field-item-leaf-check-requires t c κs = search needs
-
-field-item-returns-2 : (t : ℕ) → field-item-lts.Need-returns-2 (field-item-calls t) (field-item-at t) field-item.Post
-field-item-returns-2 t c =
-    let c1 = c .before in
-    let c7 = c1 .before .before .before .before .before .before in
-    rw (as-leaf _ _ _ (c7 .pre .1 .2) (λ (q : _ ≡ 6). omega (arith, c1 .if2 .taken)) (λ (q : _ ≡ 7). omega (arith, c1 .if2 .taken))) (c .leaf-check .ensures)
+    let six = below-six _ (c1 .if1 .taken) in
+    rw (as-leaf _ _ _ (c5 .pre .1 .2) (six .0) (six .1)) (c .leaf-check .ensures)
 
 field-item-item-check-requires : (t : ℕ) → field-item-lts.Need-item-check-requires (field-item-calls t) (field-item-at t) field-item.Post
 field-item-item-check-requires t c κs =
-    let c6 = c .before .before .before .before .before .before in
-    (omega (arith, c6 .pre .0), (c6 .pre .1 .0, c6 .pre .1 .1))
+    let c4 = c .before .before .before .before in
+    (omega (arith, c4 .pre .0), (c4 .pre .1 .0, c4 .pre .1 .1))
 
-field-item-returns-3 : (t : ℕ) → field-item-lts.Need-returns-3 (field-item-calls t) (field-item-at t) field-item.Post
-field-item-returns-3 t c = c .item-check .ensures
+field-item-returns-2 : (t : ℕ) → field-item-lts.Need-returns-2 (field-item-calls t) (field-item-at t) field-item.Post
+field-item-returns-2 t c = c .item-check .ensures
 
-item-check-look-requires : (t : ℕ) → item-check-lts.Need-look-requires (item-check-calls t) (item-check-at t) item-check.Post
-item-check-look-requires t c κs = search needs
+item-check-look-in-requires : (t : ℕ) → item-check-lts.Need-look-in-requires (item-check-calls t) (item-check-at t) item-check.Post
+item-check-look-in-requires t c κs = c .before .before .pre .1 .0 .legal
 
 item-check-add-first : (t : ℕ) → item-check-lts.Need-add-first (item-check-calls t) (item-check-at t) item-check.Post
-item-check-add-first t c = omega (arith, node-ok _ _ _ _ (c .before .look .ensures) (c .before .before .before .before .pre .1 .0) .near)
+item-check-add-first t c = omega (arith, node-ok _ _ _ _ (c .before .look-in .ensures) (c .before .before .before .before .pre .1 .0) .near)
 
 item-check-container-told-requires : (t : ℕ) → item-check-lts.Need-container-told-requires (item-check-calls t) (item-check-at t) item-check.Post
 item-check-container-told-requires t c κs =
     let c3 = c .before .before .before in
     let c6 = c3 .before .before .before in (
       c6 .pre .1 .0,
-      container-row _ _ _ _ (c3 .look .ensures) (c6 .pre .1 .0) (c .if1 .taken),
+      container-row _ _ _ _ (c3 .look-in .ensures) (c6 .pre .1 .0) (c .if1 .taken),
       omega (arith, c6 .pre .1 .1),
-      as-container _ _ _ (c3 .look .ensures) (c .if1 .taken),
+      as-container _ _ _ (c3 .look-in .ensures) (c .if1 .taken),
     )
 
 item-check-enum-told : (t : ℕ) → item-check-lts.Need-enum-told (item-check-calls t) (item-check-at t) item-check.Post
@@ -393,8 +442,8 @@ item-check-field-check-requires t c κs =
     let c9 = c6 .before .before .before in (
       omega (arith, c9 .pre .0),
       (
-        container-row _ _ _ _ (c6 .look .ensures) (c9 .pre .1 .0) (c3 .if1 .taken),
-        node-ok _ _ _ _ (c6 .look .ensures)
+        container-row _ _ _ _ (c6 .look-in .ensures) (c9 .pre .1 .0) (c3 .if1 .taken),
+        node-ok _ _ _ _ (c6 .look-in .ensures)
             (c9 .pre .1 .0) .few (c3 .if1 .taken),
         c9 .pre .1 .1,
         layout-ranges _ _ (sym (c2 .container-told .ensures) ∙ c .enum-told .given .1),
@@ -408,7 +457,7 @@ item-check-select-requires : (t : ℕ) → item-check-lts.Need-select-requires (
 item-check-select-requires t c κs =
     let c5 = c .before .before .before .before .before in
     let c8 = c5 .before .before .before in
-    omega (arith, node-ok _ _ _ _ (c5 .look .ensures) (c8 .pre .1 .0) .near)
+    omega (arith, node-ok _ _ _ _ (c5 .look-in .ensures) (c8 .pre .1 .0) .near)
 
 item-check-enum-told-2 : (t : ℕ) → item-check-lts.Need-enum-told-2 (item-check-calls t) (item-check-at t) item-check.Post
 item-check-enum-told-2 t c = search needs
@@ -427,7 +476,7 @@ item-check-add-inside t c =
     let c12 = c9 .before .before .before in
     omega (
       arith,
-      body-below _ _ _ _ (c9 .look .ensures) (c12 .pre .1 .0) (c4 .if2 .taken) _ _ (sym (c .before .c .given .1) ∙ c3 .select .ensures),
+      body-below _ _ _ _ (c9 .look-in .ensures) (c12 .pre .1 .0) (c4 .if2 .taken) _ _ (sym (c .before .c .given .1) ∙ c3 .select .ensures),
       c12 .pre .1 .1,
     )
 
@@ -437,7 +486,7 @@ item-check-sub-item-check t c =
     let c4 = c3 .before in
     let c9 = c4 .before .before .before .before .before in
     let c12 = c9 .before .before .before in
-    omega (arith, body-below _ _ _ _ (c9 .look .ensures) (c12 .pre .1 .0) (c4 .if2 .taken) _ _ (sym (c .before .c .given .1) ∙ c3 .select .ensures))
+    omega (arith, body-below _ _ _ _ (c9 .look-in .ensures) (c12 .pre .1 .0) (c4 .if2 .taken) _ _ (sym (c .before .c .given .1) ∙ c3 .select .ensures))
 
 item-check-part-item-check-start : (t : ℕ) → item-check-lts.Need-part-item-check-start (item-check-calls t) (item-check-at t) item-check.Post
 item-check-part-item-check-start t c =
@@ -445,7 +494,7 @@ item-check-part-item-check-start t c =
     let c4 = c3 .before in
     let c9 = c4 .before .before .before .before .before in
     let c12 = c9 .before .before .before in
-    omega (arith, body-below _ _ _ _ (c9 .look .ensures) (c12 .pre .1 .0) (c4 .if2 .taken) _ _ (sym (c .before .c .given .1) ∙ c3 .select .ensures))
+    omega (arith, body-below _ _ _ _ (c9 .look-in .ensures) (c12 .pre .1 .0) (c4 .if2 .taken) _ _ (sym (c .before .c .given .1) ∙ c3 .select .ensures))
 
 item-check-part-item-check-end : (t : ℕ) → item-check-lts.Need-part-item-check-end (item-check-calls t) (item-check-at t) item-check.Post
 item-check-part-item-check-end t c = omega arith
@@ -457,7 +506,7 @@ item-check-item-check-requires t c κs =
     let c5 = c4 .before in
     let c10 = c5 .before .before .before .before .before in
     let c13 = c10 .before .before .before in
-    let z = body-below _ _ _ _ (c10 .look .ensures) (c13 .pre .1 .0) (c5 .if2 .taken) _ _ (sym (c2 .c .given .1) ∙ c4 .select .ensures) in (
+    let z = body-below _ _ _ _ (c10 .look-in .ensures) (c13 .pre .1 .0) (c5 .if2 .taken) _ _ (sym (c2 .c .given .1) ∙ c4 .select .ensures) in (
       omega (arith, c13 .pre .0, z),
       (
         under-below _ _ _ _ (omega (arith, z)) (c13 .pre .1 .0),
@@ -477,7 +526,7 @@ item-check-with-selector-requires t c κs =
     let c6 = c5 .before in
     let c11 = c6 .before .before .before .before .before in
     let c14 = c11 .before .before .before in
-    let z = body-below _ _ _ _ (c11 .look .ensures) (c14 .pre .1 .0) (c6 .if2 .taken) _ _ (sym (c3 .c .given .1) ∙ c5 .select .ensures) in
+    let z = body-below _ _ _ _ (c11 .look-in .ensures) (c14 .pre .1 .0) (c6 .if2 .taken) _ _ (sym (c3 .c .given .1) ∙ c5 .select .ensures) in
     λ d e. small-more d (item-small _ _ _ _ _ d (under-below _ _ _ _ (omega (arith, z)) (c14 .pre .1 .0)) (simp (length-take, length-drop) (omega
     (arith, c14 .pre .1 .1, z))) (sym e ∙ c .item-check .ensures))
 
@@ -493,7 +542,7 @@ item-check-returns t c =
     let c4 = c3 .before in
     let c7 = c4 .before .before .before in
     let c10 = c7 .before .before .before in
-    c .field-check .ensures ∙ container-on _ _ _ _ (c7 .look .ensures) (c10 .pre .1 .0) (c4 .if1 .taken) _ _ (sym (c .before .enum-told .given .1) ∙
+    c .field-check .ensures ∙ container-on _ _ _ _ (c7 .look-in .ensures) (c10 .pre .1 .0) (c4 .if1 .taken) _ _ (sym (c .before .enum-told .given .1) ∙
     c3 .container-told .ensures)
 
 item-check-returns-2 : (t : ℕ) → item-check-lts.Need-returns-2 (item-check-calls t) (item-check-at t) item-check.Post
@@ -502,7 +551,7 @@ item-check-returns-2 t c =
     let c4 = c3 .before in
     let c7 = c4 .before .before .before in
     let c10 = c7 .before .before .before in
-    container-stop _ _ _ _ (c7 .look .ensures) (c10 .pre .1 .0) (c4 .if1 .taken) _ _ _ (sym (c .before .told .given .1) ∙ c3 .container-told .ensures)
+    container-stop _ _ _ _ (c7 .look-in .ensures) (c10 .pre .1 .0) (c4 .if1 .taken) _ _ _ (sym (c .before .told .given .1) ∙ c3 .container-told .ensures)
 
 item-check-returns-3 : (t : ℕ) → item-check-lts.Need-returns-3 (item-check-calls t) (item-check-at t) item-check.Post
 item-check-returns-3 t c =
@@ -510,7 +559,7 @@ item-check-returns-3 t c =
     let c4 = c3 .before in
     let c9 = c4 .before .before .before .before .before in
     let c12 = c9 .before .before .before in
-    c .leaf .ensures ∙ bare-read _ _ _ _ (c9 .look .ensures) (c12 .pre .1 .0) (c4 .if2 .taken) _ _ (sym (c .before .enum-told2 .given .1) ∙ c3
+    c .leaf .ensures ∙ bare-read _ _ _ _ (c9 .look-in .ensures) (c12 .pre .1 .0) (c4 .if2 .taken) _ _ (sym (c .before .enum-told2 .given .1) ∙ c3
     .select .ensures)
 
 item-check-returns-4 : (t : ℕ) → item-check-lts.Need-returns-4 (item-check-calls t) (item-check-at t) item-check.Post
@@ -520,7 +569,7 @@ item-check-returns-4 t c =
     let c7 = c6 .before in
     let c12 = c7 .before .before .before .before .before in
     let c15 = c12 .before .before .before in
-    c .with-selector .ensures ∙ ap (andThen (one 1 0)) (c .before .item-check .ensures) ∙ body-read _ _ _ _ (c12 .look .ensures) (c15 .pre .1 .0) (c7
+    c .with-selector .ensures ∙ ap (andThen (one 1 0)) (c .before .item-check .ensures) ∙ body-read _ _ _ _ (c12 .look-in .ensures) (c15 .pre .1 .0) (c7
     .if2 .taken) _ _ (sym (c4 .c .given .1) ∙ c6 .select .ensures) _
 
 item-check-returns-5 : (t : ℕ) → item-check-lts.Need-returns-5 (item-check-calls t) (item-check-at t) item-check.Post
@@ -529,13 +578,13 @@ item-check-returns-5 t c =
     let c4 = c3 .before in
     let c9 = c4 .before .before .before .before .before in
     let c12 = c9 .before .before .before in
-    wrong-read _ _ _ _ (c9 .look .ensures) (c12 .pre .1 .0) (c4 .if2 .taken) _ _ _ (sym (c .before .c2 .given .1) ∙ c3 .select .ensures)
+    wrong-read _ _ _ _ (c9 .look-in .ensures) (c12 .pre .1 .0) (c4 .if2 .taken) _ _ _ (sym (c .before .c2 .given .1) ∙ c3 .select .ensures)
 
 item-check-returns-6 : (t : ℕ) → item-check-lts.Need-returns-6 (item-check-calls t) (item-check-at t) item-check.Post
 item-check-returns-6 t c =
     let c3 = c .before .before .before in
     let c6 = c3 .before .before .before in
-    rw (as-leaf _ _ _ (c6 .look .ensures) (c3 .if1 .left) (c .before .if2 .left)) (c .leaf-check .ensures)
+    rw (as-leaf _ _ _ (c6 .look-in .ensures) (c3 .if1 .left) (c .before .if2 .left)) (c .leaf-check .ensures)
 
 pub +field-check+field-item+item-check-spec : {M : Type 1} → statement M
 +field-check+field-item+item-check-spec =
@@ -544,9 +593,10 @@ pub +field-check+field-item+item-check-spec : {M : Type 1} → statement M
     field-check.Post
     field-check-Inv-loop
     field-check-μ-loop
+    (field-check-own-record-requires t)
     (field-check-loop-holds t)
-    (field-check-word-at-requires t)
-    (field-check-look-requires t)
+    (field-check-word-in-requires t)
+    (field-check-look-in-requires t)
     (field-check-is-plain-requires t)
     (field-check-mul-k t)
     (field-check-element-copy-out-k t)
@@ -561,30 +611,33 @@ pub +field-check+field-item+item-check-spec : {M : Type 1} → statement M
     (field-check-add-a-2 t)
     (field-check-sub-left-2 t)
     (field-check-add-at t)
+    (field-check-sub-len t)
+    (field-check-returns t)
+    (field-check-one-more-requires-2 t)
+    (field-check-loop-less-2 t)
+    (field-check-loop-again-2 t)
     (field-check-sub-field-item t)
     (field-check-part-field-item-start t)
     (field-check-part-field-item-end t)
     (field-check-field-item-requires t)
     (field-check-enum-known-r t)
     (field-check-add-requires t)
-    (field-check-loop-less-2 t)
-    (field-check-loop-again-2 t)
+    (field-check-loop-less-3 t)
+    (field-check-loop-again-3 t)
     (field-check-enum-known-r-2 t)
-    (field-check-returns t)
-    (field-check-returns-2 t))
+    (field-check-returns-2 t)
+    (field-check-returns-3 t))
     (λ t. field-item-lts.spec (field-item-calls t)
     (field-item-at t)
     field-item.Post
-    (field-item-free-check-requires t)
-    (field-item-returns t)
     (field-item-leaf-check-requires t)
-    (field-item-returns-2 t)
+    (field-item-returns t)
     (field-item-item-check-requires t)
-    (field-item-returns-3 t))
+    (field-item-returns-2 t))
     λ t. item-check-lts.spec (item-check-calls t)
     (item-check-at t)
     item-check.Post
-    (item-check-look-requires t)
+    (item-check-look-in-requires t)
     (item-check-add-first t)
     (item-check-container-told-requires t)
     (item-check-enum-told t)

@@ -6,7 +6,7 @@ use Prim.Native.Nat.{_+_, _*_}
 use mathlib.Core.List.{[]}
 use lib.ListN.{length-take, length-drop}
 use Rattle.standard.proofs.Store.{stored-then, stored-none, room-then}
-use Rattle.message.proofs.Rows.{row-below, row-under, under-below, span-ok, span-length}
+use Rattle.message.proofs.Rows.{Lies, span-lies, row-there, row-legal, row-below, row-under, under-below}
 use Rattle.message.proofs.Bodies.{node-ok, container-row, body-below}
 use Rattle.message.proofs.Entries.{Storing, storing-accepted, storing-room, storing-next, storing-end, stored-length, room-long, list-container, list-leaf, container-accepted, union-bare, union-body, union-never, body-accepted}
 use Rattle.message.proofs.Entries.{leaf-stored}
@@ -19,12 +19,11 @@ use Rattle.message.proofs.listing.+list_fields+list_item.Lts-list_field
 use Rattle.message.proofs.listing.list_item.Reads as list-item
 use Rattle.message.proofs.listing.list_item.Kinds as list-item-kinds
 use Rattle.message.proofs.listing.+list_fields+list_item.Lts-list_item as list-item-lts
-use Rattle.layout.proofs.kind_of.Reads as kind-of-reads
-use Rattle.layout.proofs.look.Reads as look-reads
+use Rattle.message.proofs.words.look_in.Reads as look-in-reads
 use Rattle.message.proofs.fields.locate.Reads as locate-reads
 use Rattle.message.proofs.items.select.Reads as select-reads
 use Rattle.message.proofs.listing.put_entry.Reads as put-entry-reads
-use Rattle.standard.proofs.words.word_at.Reads as word-at-reads
+use Rattle.message.proofs.words.word_in.Reads as word-in-reads
 use Rattle.message.proofs.listing.+list_fields+list_item.{statement}
 use Rattle.message.proofs.listing.+list_fields+list_item.Tie.{close}
 
@@ -58,12 +57,12 @@ list-fields-μ-loop out₀ at0 lens layout t a0 n b start at₀ a₀ left₀ p�
 -- what `list_fields` calls, at the measure t
 abbrev list-fields-calls : ℕ → list-fields-lts.Claims
 list-fields-calls t = (
-  word-at-reads.Asked,
-  word-at-reads.Learnt,
+  word-in-reads.Asked,
+  word-in-reads.Learnt,
   locate-reads.Asked,
   locate-reads.Learnt,
-  kind-of-reads.Asked,
-  kind-of-reads.Learnt,
+  look-in-reads.Asked,
+  look-in-reads.Learnt,
   put-entry-reads.Asked,
   put-entry-reads.Learnt,
   list-item-below t,
@@ -75,8 +74,8 @@ abbrev list-item-calls : ℕ → list-item-lts.Claims
 list-item-calls t = (
   put-entry-reads.Asked,
   put-entry-reads.Learnt,
-  look-reads.Asked,
-  look-reads.Learnt,
+  look-in-reads.Asked,
+  look-in-reads.Learnt,
   list-fields-below t,
   list-fields.Post,
   select-reads.Asked,
@@ -85,8 +84,17 @@ list-item-calls t = (
   list-item.Post,
 )
 
-list-fields-loop-holds : (t : ℕ) → list-fields-lts.Need-loop-holds (list-fields-calls t) (list-fields-at t) list-fields.Post list-fields-Inv-loop
-    list-fields-μ-loop
+-- where the field lies that was located
+list-fields-lies : (t : ℕ) (c : list-fields-lts.After-locate (list-fields-calls t) (list-fields-at t) list-fields.Post list-fields-Inv-loop list-fields-μ-loop) →
+    Lies (c .before .before .before .before .before .before .before .args .b .now) (c .locate .result)
+list-fields-lies t c =
+    let c1 = c .before in
+    let c2 = c1 .before in
+    let c3 = c2 .before in
+    span-lies _ _ _ _ _ _ _ _ (c3 .loop .inv .row) (c2 .loop-test .taken) (c1 .word-in .ensures .0) (c3 .loop .inv .ranges) _ (c .locate .ensures)
+
+list-fields-loop-holds : (t : ℕ) → list-fields-lts.Need-loop-holds (list-fields-calls t) (list-fields-at t) list-fields.Post
+    list-fields-Inv-loop list-fields-μ-loop
 list-fields-loop-holds t c =
     let c3 = c .before .before .before in
     record {
@@ -95,36 +103,30 @@ list-fields-loop-holds t c =
       accepted = c3 .pre .1 .3;
       room = c3 .pre .1 .4;
       done = [];
-      stored = stored-none _ _ []
-          refl;
+      stored = stored-none _ _ [] refl;
       whole = refl;
     }
 
-list-fields-word-at-requires : (t : ℕ) → list-fields-lts.Need-word-at-requires (list-fields-calls t) (list-fields-at t) list-fields.Post
+list-fields-word-in-requires : (t : ℕ) → list-fields-lts.Need-word-in-requires (list-fields-calls t) (list-fields-at t) list-fields.Post
     list-fields-Inv-loop list-fields-μ-loop
-list-fields-word-at-requires t c κs = search needs
+list-fields-word-in-requires t c κs =
+    let c1 = c .before in
+    row-there _ _ _ _ _ (c1 .loop .inv .row) (c .loop-test .taken)
 
 list-fields-locate-requires : (t : ℕ) → list-fields-lts.Need-locate-requires (list-fields-calls t) (list-fields-at t) list-fields.Post
     list-fields-Inv-loop list-fields-μ-loop
 list-fields-locate-requires t c κs =
-    let c2 = c .before .before in
-    (c2 .loop .inv .row, c .before .loop-test .taken, c .word-at .ensures .0, c2 .loop .inv .ranges)
+    let c1 = c .before in
+    let c2 = c1 .before in
+    (c2 .loop .inv .row, c1 .loop-test .taken, c .word-in .ensures .0, c2 .loop .inv .ranges)
 
-list-fields-add-place : (t : ℕ) → list-fields-lts.Need-add-place (list-fields-calls t) (list-fields-at t) list-fields.Post list-fields-Inv-loop
-    list-fields-μ-loop
-list-fields-add-place t c =
-    let c2 = c .before .before in
-    let c3 = c2 .before in
-    let c7 = c3 .before .before .before .before in
-    omega (
-      arith,
-      span-ok _ _ _ _ _ _ _ _ (c3 .loop .inv .row) (c2 .loop-test .taken) (c .before .word-at .ensures .0) (c3 .loop .inv .ranges) _ (c
-          .locate .ensures),
-      c7 .pre .1 .1,
-    )
-
-list-fields-add-a : (t : ℕ) → list-fields-lts.Need-add-a (list-fields-calls t) (list-fields-at t) list-fields.Post
+list-fields-add-place : (t : ℕ) → list-fields-lts.Need-add-place (list-fields-calls t) (list-fields-at t) list-fields.Post
     list-fields-Inv-loop list-fields-μ-loop
+list-fields-add-place t c =
+    let c7 = c .before .before .before .before .before .before .before in
+    omega (arith, list-fields-lies t c, c7 .pre .1 .1)
+
+list-fields-add-a : (t : ℕ) → list-fields-lts.Need-add-a (list-fields-calls t) (list-fields-at t) list-fields.Post list-fields-Inv-loop list-fields-μ-loop
 list-fields-add-a t c =
     let c3 = c .before .before .before in
     omega (arith, c3 .loop .inv .row .near)
@@ -133,65 +135,51 @@ list-fields-sub-left : (t : ℕ) → list-fields-lts.Need-sub-left (list-fields-
     list-fields-Inv-loop list-fields-μ-loop
 list-fields-sub-left t c = omega arith
 
-list-fields-kind-of-requires : (t : ℕ) → list-fields-lts.Need-kind-of-requires (list-fields-calls t) (list-fields-at t) list-fields.Post
+list-fields-look-in-requires : (t : ℕ) → list-fields-lts.Need-look-in-requires (list-fields-calls t) (list-fields-at t) list-fields.Post
     list-fields-Inv-loop list-fields-μ-loop
-list-fields-kind-of-requires t c κs = search needs
+list-fields-look-in-requires t c κs =
+    let c1 = c .before in
+    let c2 = c1 .before in
+    let c3 = c2 .before in
+    row-legal _ _ _ _ _ _ (c3 .loop .inv .row) (c2 .loop-test .taken) (c1 .word-in .ensures .0)
 
 list-fields-sub-put-entry : (t : ℕ) → list-fields-lts.Need-sub-put-entry (list-fields-calls t) (list-fields-at t) list-fields.Post
     list-fields-Inv-loop list-fields-μ-loop
 list-fields-sub-put-entry t c =
-    let c3 = c .before .before .before in
-    let c4 = c3 .before in
-    let c5 = c4 .before in
-    let c6 = c5 .before in
-    omega (arith, span-ok _ _ _ _ _ _ _ _ (c6 .loop .inv .row) (c5 .loop-test .taken) (c4 .word-at .ensures .0) (c6 .loop .inv .ranges) _ (c3 .locate .ensures))
+    let c4 = c .before .before .before .before in
+    list-fields-lies t c4 .0
 
 list-fields-part-put-entry-start : (t : ℕ) → list-fields-lts.Need-part-put-entry-start (list-fields-calls t) (list-fields-at t) list-fields.Post
     list-fields-Inv-loop list-fields-μ-loop
 list-fields-part-put-entry-start t c =
-    let c3 = c .before .before .before in
-    let c4 = c3 .before in
-    let c5 = c4 .before in
-    let c6 = c5 .before in
-    span-ok _ _ _ _ _ _ _ _ (c6 .loop .inv .row) (c5 .loop-test .taken) (c4 .word-at .ensures .0) (c6 .loop .inv .ranges) _ (c3 .locate .ensures) .0
+    let c4 = c .before .before .before .before in
+    list-fields-lies t c4 .0
 
 list-fields-part-put-entry-end : (t : ℕ) → list-fields-lts.Need-part-put-entry-end (list-fields-calls t) (list-fields-at t) list-fields.Post
     list-fields-Inv-loop list-fields-μ-loop
 list-fields-part-put-entry-end t c =
-    let c3 = c .before .before .before in
-    let c4 = c3 .before in
-    let c5 = c4 .before in
-    let c6 = c5 .before in
-    span-ok _ _ _ _ _ _ _ _ (c6 .loop .inv .row) (c5 .loop-test .taken) (c4 .word-at .ensures .0) (c6 .loop .inv .ranges) _ (c3 .locate .ensures) .1
+    let c4 = c .before .before .before .before in
+    list-fields-lies t c4 .1
 
 list-fields-put-entry-requires : (t : ℕ) → list-fields-lts.Need-put-entry-requires (list-fields-calls t) (list-fields-at t) list-fields.Post
     list-fields-Inv-loop list-fields-μ-loop
 list-fields-put-entry-requires t c κs =
-    let c4 = c .before .before .before .before in
-    let c5 = c4 .before in
+    let c5 = c .before .before .before .before .before in
     let c6 = c5 .before in
     let c7 = c6 .before in
-    let c11 = c7 .before .before .before .before in (
-      room-long _ _ _ _ _ (storing-room _ _ _ _ _ _ _ _ _ _ _ _ _ _ _ (c7 .loop .inv) (c6 .loop-test .taken) (c5 .word-at .ensures .0) _ (c4 .locate .ensures)),
-      omega (
-        arith,
-        span-ok _ _ _ _ _ _ _ _ (c7 .loop .inv .row) (c6 .loop-test .taken) (c5 .word-at .ensures .0) (c7 .loop .inv .ranges) _ (c4 .locate .ensures),
-        span-length _ _ _ _ _ _ _ _ (c7 .loop .inv .row) (c6 .loop-test .taken) (c5 .word-at .ensures .0) (c7 .loop .inv .ranges) _ (c4 .locate .ensures),
-        c11 .pre .1 .1,
-      ),
-    )
-
-list-fields-add-at : (t : ℕ) → list-fields-lts.Need-add-at (list-fields-calls t) (list-fields-at t) list-fields.Post
-    list-fields-Inv-loop list-fields-μ-loop
-list-fields-add-at t c =
-    let c7 = c .before .before .before .before .before .before .before in
     let c8 = c7 .before in
+    let c12 = c8 .before .before .before .before in
+    (room-long _ _ _ _ _ (storing-room _ _ _ _ _ _ _ _ _ _ _ _ _ _ _ (c8 .loop .inv) (c7 .loop-test .taken) (c6 .word-in .ensures .0) _ (c5 .locate .ensures)), omega (arith, list-fields-lies t c5, c12 .pre .1 .1))
+
+list-fields-add-at : (t : ℕ) → list-fields-lts.Need-add-at (list-fields-calls t) (list-fields-at t) list-fields.Post list-fields-Inv-loop list-fields-μ-loop
+list-fields-add-at t c =
+    let c8 = c .before .before .before .before .before .before .before .before in
     let c9 = c8 .before in
     let c10 = c9 .before in
-    let c14 = c10 .before .before .before .before in
-    let room = room-long _ _ _ _ _ (storing-room _ _ _ _ _ _ _ _ _ _ _ _ _ _ _ (c10 .loop .inv) (c9 .loop-test .taken) (c8 .word-at .ensures .0) _
-    (c7 .locate .ensures)) in
-    omega (arith, room, stored-length _ _ _ _ _ (c10 .loop .inv .stored), c14 .good)
+    let c11 = c10 .before in
+    let c15 = c11 .before .before .before .before in
+    let room = room-long _ _ _ _ _ (storing-room _ _ _ _ _ _ _ _ _ _ _ _ _ _ _ (c11 .loop .inv) (c10 .loop-test .taken) (c9 .word-in .ensures .0) _ (c8 .locate .ensures)) in
+    omega (arith, room, stored-length _ _ _ _ _ (c11 .loop .inv .stored), c15 .good)
 
 list-fields-loop-less : (t : ℕ) → list-fields-lts.Need-loop-less (list-fields-calls t) (list-fields-at t) list-fields.Post
     list-fields-Inv-loop list-fields-μ-loop
@@ -202,61 +190,45 @@ list-fields-loop-again : (t : ℕ) → list-fields-lts.Need-loop-again (list-fie
 list-fields-loop-again t c =
     let c2 = c .before .before in
     let c5 = c2 .before .before .before in
-    let c6 = c5 .before in
-    let c7 = c6 .before in
+    let c7 = c5 .before .before in
     let c8 = c7 .before in
     let c9 = c8 .before in
     let c10 = c9 .before in
-    storing-next _ _ _ _ _ _ _ _ _ _ _ _ _ _ _ (c10 .loop .inv) (c9 .loop-test .taken) (c8 .word-at .ensures .0) _ (c7 .locate .ensures) _ _
-    (leaf-stored _ _ _ (c6 .kind-of .ensures) (c5 .if1 .taken) _ _ _ _ _ _ (c2 .put-entry .ensures))
+    let c11 = c10 .before in
+    storing-next _ _ _ _ _ _ _ _ _ _ _ _ _ _ _ (c11 .loop .inv) (c10 .loop-test .taken) (c9 .word-in .ensures .0) _ (c8 .locate .ensures) _ _
+    (leaf-stored _ _ _ (c7 .look-in .ensures) (c5 .if1 .taken) _ _ _ _ _ _ (c2 .put-entry .ensures))
 
 list-fields-sub-list-item : (t : ℕ) → list-fields-lts.Need-sub-list-item (list-fields-calls t) (list-fields-at t) list-fields.Post
     list-fields-Inv-loop list-fields-μ-loop
 list-fields-sub-list-item t c =
-    let c3 = c .before .before .before in
-    let c4 = c3 .before in
-    let c5 = c4 .before in
-    let c6 = c5 .before in
-    omega (arith, span-ok _ _ _ _ _ _ _ _ (c6 .loop .inv .row) (c5 .loop-test .taken) (c4 .word-at .ensures .0) (c6 .loop .inv .ranges) _ (c3 .locate .ensures))
+    let c4 = c .before .before .before .before in
+    list-fields-lies t c4 .0
 
 list-fields-part-list-item-start : (t : ℕ) → list-fields-lts.Need-part-list-item-start (list-fields-calls t) (list-fields-at t) list-fields.Post
     list-fields-Inv-loop list-fields-μ-loop
 list-fields-part-list-item-start t c =
-    let c3 = c .before .before .before in
-    let c4 = c3 .before in
-    let c5 = c4 .before in
-    let c6 = c5 .before in
-    span-ok _ _ _ _ _ _ _ _ (c6 .loop .inv .row) (c5 .loop-test .taken) (c4 .word-at .ensures .0) (c6 .loop .inv .ranges) _ (c3 .locate .ensures) .0
+    let c4 = c .before .before .before .before in
+    list-fields-lies t c4 .0
 
 list-fields-part-list-item-end : (t : ℕ) → list-fields-lts.Need-part-list-item-end (list-fields-calls t) (list-fields-at t) list-fields.Post
     list-fields-Inv-loop list-fields-μ-loop
 list-fields-part-list-item-end t c =
-    let c3 = c .before .before .before in
-    let c4 = c3 .before in
-    let c5 = c4 .before in
-    let c6 = c5 .before in
-    span-ok _ _ _ _ _ _ _ _ (c6 .loop .inv .row) (c5 .loop-test .taken) (c4 .word-at .ensures .0) (c6 .loop .inv .ranges) _ (c3 .locate .ensures) .1
+    let c4 = c .before .before .before .before in
+    list-fields-lies t c4 .1
 
 list-fields-list-item-requires : (t : ℕ) → list-fields-lts.Need-list-item-requires (list-fields-calls t) (list-fields-at t) list-fields.Post
     list-fields-Inv-loop list-fields-μ-loop
 list-fields-list-item-requires t c κs =
-    let c4 = c .before .before .before .before in
-    let c5 = c4 .before in
+    let c5 = c .before .before .before .before .before in
     let c6 = c5 .before in
     let c7 = c6 .before in
-    let c11 = c7 .before .before .before .before in (
-      omega (arith, row-below _ _ _ _ _ _ (c7 .loop .inv .row) (c6 .loop-test .taken) (c5 .word-at .ensures .0), c11 .pre .0),
-      (
-        row-under _ _ _ _ _ _ (c7 .loop .inv .row) (c6 .loop-test .taken) (c5 .word-at .ensures .0),
-        omega (
-          arith,
-          span-ok _ _ _ _ _ _ _ _ (c7 .loop .inv .row) (c6 .loop-test .taken) (c5 .word-at .ensures .0) (c7 .loop .inv .ranges) _ (c4 .locate .ensures),
-          span-length _ _ _ _ _ _ _ _ (c7 .loop .inv .row) (c6 .loop-test .taken) (c5 .word-at .ensures .0) (c7 .loop .inv .ranges) _ (c4 .locate .ensures),
-          c11 .pre .1 .1,
-        ),
-        storing-accepted _ _ _ _ _ _ _ _ _ _ _ _ _ _ _ (c7 .loop .inv) (c6 .loop-test .taken) (c5 .word-at .ensures .0) _ (c4 .locate .ensures),
-        storing-room _ _ _ _ _ _ _ _ _ _ _ _ _ _ _ (c7 .loop .inv) (c6 .loop-test .taken) (c5 .word-at .ensures .0) _ (c4 .locate .ensures),
-      ),
+    let c8 = c7 .before in
+    let c12 = c8 .before .before .before .before in
+    let lower = row-below _ _ _ _ _ _ (c8 .loop .inv .row) (c7 .loop-test .taken) (c6 .word-in .ensures .0) in
+    let under = row-under _ _ _ _ _ _ (c8 .loop .inv .row) (c7 .loop-test .taken) (c6 .word-in .ensures .0) in (
+      omega (arith, lower, c12 .pre .0),
+      (under, omega (arith, list-fields-lies t c5, c12 .pre .1 .1), storing-accepted _ _ _ _ _ _ _ _ _ _ _ _ _ _ _ (c8 .loop .inv) (c7 .loop-test .taken) (c6 .word-in .ensures .0) _ (c5 .locate .ensures),
+        storing-room _ _ _ _ _ _ _ _ _ _ _ _ _ _ _ (c8 .loop .inv) (c7 .loop-test .taken) (c6 .word-in .ensures .0) _ (c5 .locate .ensures)),
     )
 
 list-fields-loop-less-2 : (t : ℕ) → list-fields-lts.Need-loop-less-2 (list-fields-calls t) (list-fields-at t) list-fields.Post
@@ -267,19 +239,23 @@ list-fields-loop-again-2 : (t : ℕ) → list-fields-lts.Need-loop-again-2 (list
     list-fields-Inv-loop list-fields-μ-loop
 list-fields-loop-again-2 t c =
     let c2 = c .before .before in
-    let c7 = c2 .before .before .before .before .before in
-    let c8 = c7 .before in
+    let c8 = c2 .before .before .before .before .before .before in
     let c9 = c8 .before in
     let c10 = c9 .before in
-    storing-next _ _ _ _ _ _ _ _ _ _ _ _ _ _ _ (c10 .loop .inv) (c9 .loop-test .taken) (c8 .word-at .ensures .0) _ (c7 .locate .ensures) _ _
+    let c11 = c10 .before in
+    storing-next _ _ _ _ _ _ _ _ _ _ _ _ _ _ _ (c11 .loop .inv) (c10 .loop-test .taken) (c9 .word-in .ensures .0) _ (c8 .locate .ensures) _ _
     (c2 .list-item .ensures)
 
-list-fields-same-length : (t : ℕ) → list-fields-lts.Need-same-length (list-fields-calls t) (list-fields-at t) list-fields.Post list-fields-Inv-loop
-    list-fields-μ-loop
-list-fields-same-length t c = stored-length _ _ _ _ _ (c .before .loop .inv .stored)
+list-fields-same-length : (t : ℕ) → list-fields-lts.Need-same-length (list-fields-calls t) (list-fields-at t) list-fields.Post
+    list-fields-Inv-loop list-fields-μ-loop
+list-fields-same-length t c =
+    let c1 = c .before in
+    stored-length _ _ _ _ _ (c1 .loop .inv .stored)
 
 list-fields-returns : (t : ℕ) → list-fields-lts.Need-returns (list-fields-calls t) (list-fields-at t) list-fields.Post list-fields-Inv-loop list-fields-μ-loop
-list-fields-returns t c = storing-end _ _ _ _ _ _ _ _ _ _ _ _ _ _ (c .before .loop .inv) (c .loop-test .left)
+list-fields-returns t c =
+    let c1 = c .before in
+    storing-end _ _ _ _ _ _ _ _ _ _ _ _ _ _ (c1 .loop .inv) (c .loop-test .left)
 
 list-item-put-entry-requires : (t : ℕ) → list-item-lts.Need-put-entry-requires (list-item-calls t) (list-item-at t) list-item.Post
 list-item-put-entry-requires t c κs =
@@ -291,27 +267,27 @@ list-item-add-next t c =
     let c7 = c .before .before .before .before .before .before .before in
     omega (arith, room-long _ _ _ _ _ (c7 .pre .1 .3))
 
-list-item-look-requires : (t : ℕ) → list-item-lts.Need-look-requires (list-item-calls t) (list-item-at t) list-item.Post
-list-item-look-requires t c κs = search needs
+list-item-look-in-requires : (t : ℕ) → list-item-lts.Need-look-in-requires (list-item-calls t) (list-item-at t) list-item.Post
+list-item-look-in-requires t c κs = c .before .before .before .before .before .before .before .pre .1 .0 .legal
 
 list-item-add-first : (t : ℕ) → list-item-lts.Need-add-first (list-item-calls t) (list-item-at t) list-item.Post
 list-item-add-first t c =
     let c9 = c .before .before .before .before .before .before .before .before .before in
-    omega (arith, node-ok _ _ _ _ (c .before .look .ensures) (c9 .pre .1 .0) .near)
+    omega (arith, node-ok _ _ _ _ (c .before .look-in .ensures) (c9 .pre .1 .0) .near)
 
 list-item-list-fields-requires : (t : ℕ) → list-item-lts.Need-list-fields-requires (list-item-calls t) (list-item-at t) list-item.Post
 list-item-list-fields-requires t c κs =
     let c4 = c .before .before .before .before in
     let c7 = c4 .before .before .before in
     let c12 = c7 .before .before .before .before .before in
-    let k = container-accepted _ _ _ _ (c4 .look .ensures) (c12 .pre .1 .0) _ _ (c12 .pre .1 .2) (c .before .if1 .taken) in (
+    let k = container-accepted _ _ _ _ (c4 .look-in .ensures) (c12 .pre .1 .0) _ _ (c12 .pre .1 .2) (c .before .if1 .taken) in (
       omega (arith, c12 .pre .0),
       (
-        container-row _ _ _ _ (c4 .look .ensures) (c12 .pre .1 .0) (c .before .if1 .taken),
+        container-row _ _ _ _ (c4 .look-in .ensures) (c12 .pre .1 .0) (c .before .if1 .taken),
         c12 .pre .1 .1,
         k .0,
         k .1,
-        room-then _ _ _ _ _ _ _ (c12 .pre .1 .3) (list-container _ _ _ (c4 .look .ensures) _ _ (c .before .if1 .taken)) (c7 .put-entry .ensures),
+        room-then _ _ _ _ _ _ _ (c12 .pre .1 .3) (list-container _ _ _ (c4 .look-in .ensures) _ _ (c .before .if1 .taken)) (c7 .put-entry .ensures),
       ),
     )
 
@@ -319,7 +295,7 @@ list-item-select-requires : (t : ℕ) → list-item-lts.Need-select-requires (li
 list-item-select-requires t c κs =
     let c5 = c .before .before .before .before .before in
     let c13 = c5 .before .before .before .before .before .before .before .before in
-    omega (arith, node-ok _ _ _ _ (c5 .look .ensures) (c13 .pre .1 .0) .near)
+    omega (arith, node-ok _ _ _ _ (c5 .look-in .ensures) (c13 .pre .1 .0) .near)
 
 list-item-enum-told : (t : ℕ) → list-item-lts.Need-enum-told (list-item-calls t) (list-item-at t) list-item.Post
 list-item-enum-told t c = search needs
@@ -335,7 +311,7 @@ list-item-add-inside t c =
     let c17 = c9 .before .before .before .before .before .before .before .before in
     omega (
       arith,
-      body-below _ _ _ _ (c9 .look .ensures) (c17 .pre .1 .0) (c4 .if2 .taken) _ _ (sym (c .before .c .given .1) ∙ c3 .select .ensures),
+      body-below _ _ _ _ (c9 .look-in .ensures) (c17 .pre .1 .0) (c4 .if2 .taken) _ _ (sym (c .before .c .given .1) ∙ c3 .select .ensures),
       c17 .pre .1 .1,
     )
 
@@ -346,7 +322,7 @@ list-item-sub-list-item t c =
     let c5 = c4 .before in
     let c10 = c5 .before .before .before .before .before in
     let c18 = c10 .before .before .before .before .before .before .before .before in
-    omega (arith, body-below _ _ _ _ (c10 .look .ensures) (c18 .pre .1 .0) (c5 .if2 .taken) _ _ (sym (c2 .c .given .1) ∙ c4 .select .ensures))
+    omega (arith, body-below _ _ _ _ (c10 .look-in .ensures) (c18 .pre .1 .0) (c5 .if2 .taken) _ _ (sym (c2 .c .given .1) ∙ c4 .select .ensures))
 
 list-item-part-list-item-start : (t : ℕ) → list-item-lts.Need-part-list-item-start (list-item-calls t) (list-item-at t) list-item.Post
 list-item-part-list-item-start t c =
@@ -355,7 +331,7 @@ list-item-part-list-item-start t c =
     let c5 = c4 .before in
     let c10 = c5 .before .before .before .before .before in
     let c18 = c10 .before .before .before .before .before .before .before .before in
-    omega (arith, body-below _ _ _ _ (c10 .look .ensures) (c18 .pre .1 .0) (c5 .if2 .taken) _ _ (sym (c2 .c .given .1) ∙ c4 .select .ensures))
+    omega (arith, body-below _ _ _ _ (c10 .look-in .ensures) (c18 .pre .1 .0) (c5 .if2 .taken) _ _ (sym (c2 .c .given .1) ∙ c4 .select .ensures))
 
 list-item-part-list-item-end : (t : ℕ) → list-item-lts.Need-part-list-item-end (list-item-calls t) (list-item-at t) list-item.Post
 list-item-part-list-item-end t c = omega arith
@@ -368,7 +344,7 @@ list-item-list-item-requires t c κs =
     let c11 = c6 .before .before .before .before .before in
     let c14 = c11 .before .before .before in
     let c19 = c14 .before .before .before .before .before in
-    let z = body-below _ _ _ _ (c11 .look .ensures) (c19 .pre .1 .0) (c6 .if2 .taken) _ _ (sym (c3 .c .given .1) ∙ c5 .select .ensures) in (
+    let z = body-below _ _ _ _ (c11 .look-in .ensures) (c19 .pre .1 .0) (c6 .if2 .taken) _ _ (sym (c3 .c .given .1) ∙ c5 .select .ensures) in (
       omega (arith, c19 .pre .0, z),
       (
         under-below _ _ _ _ (omega (arith, z)) (c19 .pre .1 .0),
@@ -378,9 +354,9 @@ list-item-list-item-requires t c κs =
               .1 .1,
           z,
         )),
-        body-accepted _ _ _ _ (c11 .look .ensures) (c19 .pre .1 .0) _ _ (c19 .pre .1 .2) (c6 .if2 .taken) _ (sym (c3 .c .given .1) ∙ c5
+        body-accepted _ _ _ _ (c11 .look-in .ensures) (c19 .pre .1 .0) _ _ (c19 .pre .1 .2) (c6 .if2 .taken) _ (sym (c3 .c .given .1) ∙ c5
             .select .ensures),
-        room-then _ _ _ _ _ _ _ (c19 .pre .1 .3) (union-body _ _ _ _ (c11 .look .ensures) (c19 .pre .1 .0) _ _ (c19 .pre .1 .2) (c6
+        room-then _ _ _ _ _ _ _ (c19 .pre .1 .3) (union-body _ _ _ _ (c11 .look-in .ensures) (c19 .pre .1 .0) _ _ (c19 .pre .1 .2) (c6
             .if2 .taken) _ (sym (c3 .c .given .1) ∙ c5 .select .ensures)) (c14 .put-entry .ensures),
       ),
     )
@@ -400,7 +376,7 @@ list-item-returns t c =
     let c4 = c2 .before .before in
     let c7 = c4 .before .before .before in
     let c10 = c7 .before .before .before in
-    stored-then _ _ _ _ _ _ _ _ _ (c10 .put-entry .ensures) (c2 .list-fields .ensures) (list-container _ _ _ (c7 .look .ensures) _ _ (c4 .if1
+    stored-then _ _ _ _ _ _ _ _ _ (c10 .put-entry .ensures) (c2 .list-fields .ensures) (list-container _ _ _ (c7 .look-in .ensures) _ _ (c4 .if1
     .taken))
 
 list-item-same-length-2 : (t : ℕ) → list-item-lts.Need-same-length-2 (list-item-calls t) (list-item-at t) list-item.Post
@@ -415,7 +391,7 @@ list-item-returns-2 t c =
     let c8 = c3 .before .before .before .before .before in
     let c11 = c8 .before .before .before in
     let c16 = c11 .before .before .before .before .before in
-    rw (union-bare _ _ _ _ (c8 .look .ensures) (c16 .pre .1 .0) _ _ (c16 .pre .1 .2) (c3 .if2 .taken) (sym (c .enum-told .given .1) ∙ c2 .select
+    rw (union-bare _ _ _ _ (c8 .look-in .ensures) (c16 .pre .1 .0) _ _ (c16 .pre .1 .2) (c3 .if2 .taken) (sym (c .enum-told .given .1) ∙ c2 .select
     .ensures)) (c11 .put-entry .ensures)
 
 list-item-same-length-3 : (t : ℕ) → list-item-lts.Need-same-length-3 (list-item-calls t) (list-item-at t) list-item.Post
@@ -433,7 +409,7 @@ list-item-returns-3 t c =
     let c14 = c9 .before .before .before .before .before in
     let c17 = c14 .before .before .before in
     let c22 = c17 .before .before .before .before .before in
-    stored-then _ _ _ _ _ _ _ _ _ (c17 .put-entry .ensures) (c2 .list-item .ensures) (union-body _ _ _ _ (c14 .look .ensures) (c22 .pre .1 .0) _ _
+    stored-then _ _ _ _ _ _ _ _ _ (c17 .put-entry .ensures) (c2 .list-item .ensures) (union-body _ _ _ _ (c14 .look-in .ensures) (c22 .pre .1 .0) _ _
     (c22 .pre .1 .2) (c9 .if2 .taken) _ (sym (c6 .c .given .1) ∙ c8 .select .ensures))
 
 list-item-same-length-4 : (t : ℕ) → list-item-lts.Need-same-length-4 (list-item-calls t) (list-item-at t) list-item.Post
@@ -447,7 +423,7 @@ list-item-returns-4 t c =
     let c3 = c2 .before in
     let c8 = c3 .before .before .before .before .before in
     let c16 = c8 .before .before .before .before .before .before .before .before in
-    union-never _ _ _ _ (c8 .look .ensures) (c16 .pre .1 .0) _ _ (c16 .pre .1 .2) (c3 .if2 .taken) _ (sym (c .enum-told2 .given .1) ∙ c2 .select
+    union-never _ _ _ _ (c8 .look-in .ensures) (c16 .pre .1 .0) _ _ (c16 .pre .1 .2) (c3 .if2 .taken) _ (sym (c .enum-told2 .given .1) ∙ c2 .select
     .ensures)
 
 list-item-same-length-5 : (t : ℕ) → list-item-lts.Need-same-length-5 (list-item-calls t) (list-item-at t) list-item.Post
@@ -460,7 +436,7 @@ list-item-returns-5 t c =
     let c2 = c .before .before in
     let c5 = c2 .before .before .before in
     let c8 = c5 .before .before .before in
-    rw (list-leaf _ _ _ (c5 .look .ensures) _ _ (c2 .if1 .left) (c .if2 .left)) (c8 .put-entry .ensures)
+    rw (list-leaf _ _ _ (c5 .look-in .ensures) _ _ (c2 .if1 .left) (c .if2 .left)) (c8 .put-entry .ensures)
 
 pub +list-fields+list-item-spec : {M : Type 1} → statement M
 +list-fields+list-item-spec = close μ-list-fields μ-list-item (λ t. list-fields-lts.spec (list-fields-calls t)
@@ -469,12 +445,12 @@ pub +list-fields+list-item-spec : {M : Type 1} → statement M
     list-fields-Inv-loop
     list-fields-μ-loop
     (list-fields-loop-holds t)
-    (list-fields-word-at-requires t)
+    (list-fields-word-in-requires t)
     (list-fields-locate-requires t)
     (list-fields-add-place t)
     (list-fields-add-a t)
     (list-fields-sub-left t)
-    (list-fields-kind-of-requires t)
+    (list-fields-look-in-requires t)
     (list-fields-sub-put-entry t)
     (list-fields-part-put-entry-start t)
     (list-fields-part-put-entry-end t)
@@ -495,7 +471,7 @@ pub +list-fields+list-item-spec : {M : Type 1} → statement M
     list-item.Post
     (list-item-put-entry-requires t)
     (list-item-add-next t)
-    (list-item-look-requires t)
+    (list-item-look-in-requires t)
     (list-item-add-first t)
     (list-item-list-fields-requires t)
     (list-item-select-requires t)

@@ -5,7 +5,7 @@ use borrow.Author.Needs.{needs}
 use Prim.Native.Nat.{_+_, _*_}
 use mathlib.Core.List.{[]}
 use lib.ListN.{length-take, length-drop}
-use Rattle.message.proofs.Rows.{row-below, row-under, under-below, span-ok, span-length}
+use Rattle.message.proofs.Rows.{Lies, span-lies, row-there, row-legal, row-below, row-under, under-below}
 use Rattle.message.proofs.Bodies.{node-ok, container-row, body-below}
 use Rattle.message.proofs.UnfoldLeaves.{stored-length}
 use Rattle.message.proofs.Unfolds.{Filling, filled-none, filled-then, rooms-then, selector-filled, filling-accepts, filling-rooms, filling-next, filling-end, fields-accepts, container-rooms, container-filled, leaf-accepts, leaf-rooms, leaf-filled, union-room, union-long, bare-filled, never, body-words, body-bytes, body-accepts}
@@ -20,10 +20,9 @@ use Rattle.message.proofs.unfolding.+unfold_fields+unfold_item.Lts-unfo
 use Rattle.message.proofs.unfolding.unfold_item.Reads as unfold-item
 use Rattle.message.proofs.unfolding.unfold_item.Kinds as unfold-item-kinds
 use Rattle.message.proofs.unfolding.+unfold_fields+unfold_item.Lts-unfold_item as unfold-item-lts
-use Rattle.standard.proofs.words.word_at.Reads as word-at-reads
+use Rattle.message.proofs.words.word_in.Reads as word-in-reads
 use Rattle.message.proofs.fields.locate.Reads as locate-reads
-use Rattle.layout.proofs.kind_of.Reads as kind-of-reads
-use Rattle.layout.proofs.look.Reads as look-reads
+use Rattle.message.proofs.words.look_in.Reads as look-in-reads
 use Rattle.message.proofs.items.select.Reads as select-reads
 use Rattle.message.proofs.unfolding.copy_into.Reads as copy-into-reads
 use Rattle.message.proofs.unfolding.put_selector.Reads as put-selector-reads
@@ -59,16 +58,14 @@ unfold-fields-μ-loop contents₀ bodies₀ lens layout t a0 n b at₀ a₀ left
 -- what `unfold_fields` calls, at the measure t
 abbrev unfold-fields-calls : ℕ → unfold-fields-lts.Claims
 unfold-fields-calls t = (
-  word-at-reads.Asked,
-  word-at-reads.Learnt,
+  word-in-reads.Asked,
+  word-in-reads.Learnt,
   locate-reads.Asked,
   locate-reads.Learnt,
-  kind-of-reads.Asked,
-  kind-of-reads.Learnt,
+  look-in-reads.Asked,
+  look-in-reads.Learnt,
   copy-into-reads.Asked,
   copy-into-reads.Learnt,
-  look-reads.Asked,
-  look-reads.Learnt,
   unfold-leaf-reads.Asked,
   unfold-leaf-reads.Learnt,
   unfold-item-below t,
@@ -78,8 +75,8 @@ unfold-fields-calls t = (
 -- what `unfold_item` calls, at the measure t
 abbrev unfold-item-calls : ℕ → unfold-item-lts.Claims
 unfold-item-calls t = (
-  look-reads.Asked,
-  look-reads.Learnt,
+  look-in-reads.Asked,
+  look-in-reads.Learnt,
   unfold-fields-below t,
   unfold-fields.Post,
   select-reads.Asked,
@@ -92,6 +89,16 @@ unfold-item-calls t = (
   unfold-leaf-reads.Learnt,
 )
 
+-- where the field lies that was located
+unfold-fields-lies : (t : ℕ)
+    (c : unfold-fields-lts.After-locate (unfold-fields-calls t) (unfold-fields-at t) unfold-fields.Post unfold-fields-Inv-loop unfold-fields-μ-loop) →
+    Lies (c .before .before .before .before .before .before .before .before .args .b .now) (c .locate .result)
+unfold-fields-lies t c =
+    let c1 = c .before in
+    let c2 = c1 .before in
+    let c3 = c2 .before in
+    span-lies _ _ _ _ _ _ _ _ (c3 .loop .inv .row) (c2 .loop-test .taken) (c1 .word-in .ensures .0) (c3 .loop .inv .ranges) _ (c .locate .ensures)
+
 unfold-fields-loop-holds : (t : ℕ) → unfold-fields-lts.Need-loop-holds (unfold-fields-calls t) (unfold-fields-at t) unfold-fields.Post
     unfold-fields-Inv-loop unfold-fields-μ-loop
 unfold-fields-loop-holds t c =
@@ -103,21 +110,23 @@ unfold-fields-loop-holds t c =
       rooms = c4 .pre .1 .4;
       words = [];
       bytes = [];
-      filled =
-          filled-none _ _ _;
+      filled = filled-none _ _ _;
       all-words = refl;
       all-bytes = refl;
     }
 
-unfold-fields-word-at-requires : (t : ℕ) → unfold-fields-lts.Need-word-at-requires (unfold-fields-calls t) (unfold-fields-at t) unfold-fields.Post
+unfold-fields-word-in-requires : (t : ℕ) → unfold-fields-lts.Need-word-in-requires (unfold-fields-calls t) (unfold-fields-at t) unfold-fields.Post
     unfold-fields-Inv-loop unfold-fields-μ-loop
-unfold-fields-word-at-requires t c κs = search needs
+unfold-fields-word-in-requires t c κs =
+    let c1 = c .before in
+    row-there _ _ _ _ _ (c1 .loop .inv .row) (c .loop-test .taken)
 
 unfold-fields-locate-requires : (t : ℕ) → unfold-fields-lts.Need-locate-requires (unfold-fields-calls t) (unfold-fields-at t) unfold-fields.Post
     unfold-fields-Inv-loop unfold-fields-μ-loop
 unfold-fields-locate-requires t c κs =
-    let c2 = c .before .before in
-    (c2 .loop .inv .row, c .before .loop-test .taken, c .word-at .ensures .0, c2 .loop .inv .ranges)
+    let c1 = c .before in
+    let c2 = c1 .before in
+    (c2 .loop .inv .row, c1 .loop-test .taken, c .word-in .ensures .0, c2 .loop .inv .ranges)
 
 unfold-fields-add-a : (t : ℕ) → unfold-fields-lts.Need-add-a (unfold-fields-calls t) (unfold-fields-at t) unfold-fields.Post
     unfold-fields-Inv-loop unfold-fields-μ-loop
@@ -129,48 +138,43 @@ unfold-fields-sub-left : (t : ℕ) → unfold-fields-lts.Need-sub-left (unfold-f
     unfold-fields-Inv-loop unfold-fields-μ-loop
 unfold-fields-sub-left t c = omega arith
 
-unfold-fields-kind-of-requires : (t : ℕ) → unfold-fields-lts.Need-kind-of-requires (unfold-fields-calls t) (unfold-fields-at t) unfold-fields.Post
+unfold-fields-look-in-requires : (t : ℕ) → unfold-fields-lts.Need-look-in-requires (unfold-fields-calls t) (unfold-fields-at t) unfold-fields.Post
     unfold-fields-Inv-loop unfold-fields-μ-loop
-unfold-fields-kind-of-requires t c κs = search needs
+unfold-fields-look-in-requires t c κs =
+    let c1 = c .before in
+    let c2 = c1 .before in
+    let c3 = c2 .before in
+    row-legal _ _ _ _ _ _ (c3 .loop .inv .row) (c2 .loop-test .taken) (c1 .word-in .ensures .0)
 
 unfold-fields-sub-copy-into : (t : ℕ) → unfold-fields-lts.Need-sub-copy-into (unfold-fields-calls t) (unfold-fields-at t) unfold-fields.Post
     unfold-fields-Inv-loop unfold-fields-μ-loop
 unfold-fields-sub-copy-into t c =
-    let c3 = c .before .before .before in
-    let c4 = c3 .before in
-    let c5 = c4 .before in
-    let c6 = c5 .before in
-    omega (arith, span-ok _ _ _ _ _ _ _ _ (c6 .loop .inv .row) (c5 .loop-test .taken) (c4 .word-at .ensures .0) (c6 .loop .inv .ranges) _ (c3 .locate .ensures))
+    let c4 = c .before .before .before .before in
+    unfold-fields-lies t c4 .0
 
 unfold-fields-part-copy-into-start : (t : ℕ) → unfold-fields-lts.Need-part-copy-into-start (unfold-fields-calls t) (unfold-fields-at t) unfold-fields.Post
     unfold-fields-Inv-loop unfold-fields-μ-loop
 unfold-fields-part-copy-into-start t c =
-    let c3 = c .before .before .before in
-    let c4 = c3 .before in
-    let c5 = c4 .before in
-    let c6 = c5 .before in
-    span-ok _ _ _ _ _ _ _ _ (c6 .loop .inv .row) (c5 .loop-test .taken) (c4 .word-at .ensures .0) (c6 .loop .inv .ranges) _ (c3 .locate .ensures) .0
+    let c4 = c .before .before .before .before in
+    unfold-fields-lies t c4 .0
 
 unfold-fields-part-copy-into-end : (t : ℕ) → unfold-fields-lts.Need-part-copy-into-end (unfold-fields-calls t) (unfold-fields-at t) unfold-fields.Post
     unfold-fields-Inv-loop unfold-fields-μ-loop
 unfold-fields-part-copy-into-end t c =
-    let c3 = c .before .before .before in
-    let c4 = c3 .before in
-    let c5 = c4 .before in
-    let c6 = c5 .before in
-    span-ok _ _ _ _ _ _ _ _ (c6 .loop .inv .row) (c5 .loop-test .taken) (c4 .word-at .ensures .0) (c6 .loop .inv .ranges) _ (c3 .locate .ensures) .1
+    let c4 = c .before .before .before .before in
+    unfold-fields-lies t c4 .1
 
 unfold-fields-copy-into-requires : (t : ℕ) → unfold-fields-lts.Need-copy-into-requires (unfold-fields-calls t) (unfold-fields-at t) unfold-fields.Post
     unfold-fields-Inv-loop unfold-fields-μ-loop
 unfold-fields-copy-into-requires t c κs =
     let c2 = c .before .before in
-    let c3 = c2 .before in
-    let c4 = c3 .before in
+    let c4 = c2 .before .before in
     let c5 = c4 .before in
     let c6 = c5 .before in
     let c7 = c6 .before in
-    copied-room _ _ _ (c3 .kind-of .ensures) (c2 .if1 .taken) _ _ _ _
-    (filling-rooms _ _ _ _ _ _ _ _ _ _ _ _ _ _ _ _ (c7 .loop .inv) (c6 .loop-test .taken) (c5 .word-at .ensures .0) _ (c4 .locate .ensures))
+    let c8 = c7 .before in
+    copied-room _ _ _ (c4 .look-in .ensures) (c2 .if1 .taken) _ _ _ _
+    (filling-rooms _ _ _ _ _ _ _ _ _ _ _ _ _ _ _ _ (c8 .loop .inv) (c7 .loop-test .taken) (c6 .word-in .ensures .0) _ (c5 .locate .ensures))
 
 unfold-fields-loop-less : (t : ℕ) → unfold-fields-lts.Need-loop-less (unfold-fields-calls t) (unfold-fields-at t) unfold-fields.Post
     unfold-fields-Inv-loop unfold-fields-μ-loop
@@ -181,104 +185,69 @@ unfold-fields-loop-again : (t : ℕ) → unfold-fields-lts.Need-loop-again (unfo
 unfold-fields-loop-again t c =
     let c2 = c .before .before in
     let c5 = c2 .before .before .before in
-    let c6 = c5 .before in
-    let c7 = c6 .before in
+    let c7 = c5 .before .before in
     let c8 = c7 .before in
     let c9 = c8 .before in
     let c10 = c9 .before in
-    filling-next _ _ _ _ _ _ _ _ _ _ _ _ _ _ _ _ (c10 .loop .inv) (c9 .loop-test .taken) (c8 .word-at .ensures .0) _ (c7 .locate .ensures) _ _ _
-    (copied-filled _ _ _ (c6 .kind-of .ensures) (c5 .if1 .taken) _ _ _ _ _ _ (c2 .copy-into .ensures))
-
-unfold-fields-look-requires : (t : ℕ) → unfold-fields-lts.Need-look-requires (unfold-fields-calls t) (unfold-fields-at t) unfold-fields.Post
-    unfold-fields-Inv-loop unfold-fields-μ-loop
-unfold-fields-look-requires t c κs = search needs
+    let c11 = c10 .before in
+    filling-next _ _ _ _ _ _ _ _ _ _ _ _ _ _ _ _ (c11 .loop .inv) (c10 .loop-test .taken) (c9 .word-in .ensures .0) _ (c8 .locate .ensures) _ _ _
+    (copied-filled _ _ _ (c7 .look-in .ensures) (c5 .if1 .taken) _ _ _ _ _ _ (c2 .copy-into .ensures))
 
 unfold-fields-sub-unfold-leaf : (t : ℕ) → unfold-fields-lts.Need-sub-unfold-leaf (unfold-fields-calls t) (unfold-fields-at t) unfold-fields.Post
     unfold-fields-Inv-loop unfold-fields-μ-loop
 unfold-fields-sub-unfold-leaf t c =
     let c7 = c .before .before .before .before .before .before .before in
-    let c8 = c7 .before in
-    let c9 = c8 .before in
-    let c10 = c9 .before in
-    omega (
-      arith,
-      span-ok _ _ _ _ _ _ _ _ (c10 .loop .inv .row) (c9 .loop-test .taken) (c8 .word-at .ensures .0) (c10 .loop .inv .ranges) _
-          (c7 .locate .ensures),
-    )
+    unfold-fields-lies t c7 .0
 
 unfold-fields-part-unfold-leaf-start : (t : ℕ) → unfold-fields-lts.Need-part-unfold-leaf-start (unfold-fields-calls t) (unfold-fields-at t) unfold-fields.Post
     unfold-fields-Inv-loop unfold-fields-μ-loop
 unfold-fields-part-unfold-leaf-start t c =
     let c7 = c .before .before .before .before .before .before .before in
-    let c8 = c7 .before in
-    let c9 = c8 .before in
-    let c10 = c9 .before in
-    span-ok _ _ _ _ _ _ _ _ (c10 .loop .inv .row) (c9 .loop-test .taken) (c8 .word-at .ensures .0) (c10 .loop .inv .ranges) _ (c7 .locate .ensures) .0
+    unfold-fields-lies t c7 .0
 
 unfold-fields-part-unfold-leaf-end : (t : ℕ) → unfold-fields-lts.Need-part-unfold-leaf-end (unfold-fields-calls t) (unfold-fields-at t) unfold-fields.Post
     unfold-fields-Inv-loop unfold-fields-μ-loop
 unfold-fields-part-unfold-leaf-end t c =
     let c7 = c .before .before .before .before .before .before .before in
-    let c8 = c7 .before in
-    let c9 = c8 .before in
-    let c10 = c9 .before in
-    span-ok _ _ _ _ _ _ _ _ (c10 .loop .inv .row) (c9 .loop-test .taken) (c8 .word-at .ensures .0) (c10 .loop .inv .ranges) _ (c7 .locate .ensures) .1
+    unfold-fields-lies t c7 .1
 
 unfold-fields-unfold-leaf-requires : (t : ℕ) → unfold-fields-lts.Need-unfold-leaf-requires (unfold-fields-calls t) (unfold-fields-at t) unfold-fields.Post
     unfold-fields-Inv-loop unfold-fields-μ-loop
 unfold-fields-unfold-leaf-requires t c κs =
     let c3 = c .before .before .before in
-    let c5 = c3 .before .before in
-    let c8 = c5 .before .before .before in
+    let c7 = c3 .before .before .before .before in
+    let c8 = c7 .before in
     let c9 = c8 .before in
     let c10 = c9 .before in
     let c11 = c10 .before in
     let c16 = c11 .before .before .before .before .before in
-    let under = row-under _ _ _ _ _ _ (c11 .loop .inv .row) (c10 .loop-test .taken) (c9 .word-at .ensures .0) in
-    let accepts = filling-accepts _ _ _ _ _ _ _ _ _ _ _ _ _ _ _ _ (c11 .loop .inv) (c10 .loop-test .taken) (c9 .word-at .ensures .0) _ (c8 .locate .ensures) in
+    let under = row-under _ _ _ _ _ _ (c11 .loop .inv .row) (c10 .loop-test .taken) (c9 .word-in .ensures .0) in
+    let accepts = filling-accepts _ _ _ _ _ _ _ _ _ _ _ _ _ _ _ _ (c11 .loop .inv) (c10 .loop-test .taken) (c9 .word-in .ensures .0) _ (c8 .locate .ensures) in
     let six = below-six _ (c3 .if2 .taken) in (
-      node-ok _ _ _ _ (c5 .look .ensures) under .small,
-      omega (
-        arith,
-        span-ok _ _ _ _ _ _ _ _ (c11 .loop .inv .row) (c10 .loop-test .taken) (c9 .word-at .ensures .0) (c11 .loop .inv .ranges) _ (c8 .locate .ensures),
-        span-length _ _ _ _ _ _ _ _ (c11 .loop .inv .row) (c10 .loop-test .taken) (c9 .word-at .ensures .0) (c11 .loop .inv .ranges) _ (c8 .locate .ensures),
-        c16 .pre .1 .1,
-      ),
-      leaf-accepts _ _ _ _ (c5 .look .ensures) under _ accepts (six .0) (six .1),
-      leaf-rooms _ _ _ _ (c5 .look .ensures) under _ accepts (six .0) (six .1) _ _ _
-          (filling-rooms _ _ _ _ _ _ _ _ _ _ _ _ _ _ _ _ (c11 .loop .inv) (c10 .loop-test .taken) (c9 .word-at .ensures .0) _ (c8 .locate .ensures)),
+      node-ok _ _ _ _ (c7 .look-in .ensures) under .small,
+      omega (arith, unfold-fields-lies t c8, c16 .pre .1 .1),
+      leaf-accepts _ _ _ _ (c7 .look-in .ensures) under _ accepts (six .0) (six .1),
+      leaf-rooms _ _ _ _ (c7 .look-in .ensures) under _ accepts (six .0) (six .1) _ _ _
+          (filling-rooms _ _ _ _ _ _ _ _ _ _ _ _ _ _ _ _ (c11 .loop .inv) (c10 .loop-test .taken) (c9 .word-in .ensures .0) _ (c8 .locate .ensures)),
     )
 
 unfold-fields-sub-unfold-item : (t : ℕ) → unfold-fields-lts.Need-sub-unfold-item (unfold-fields-calls t) (unfold-fields-at t) unfold-fields.Post
     unfold-fields-Inv-loop unfold-fields-μ-loop
 unfold-fields-sub-unfold-item t c =
     let c7 = c .before .before .before .before .before .before .before in
-    let c8 = c7 .before in
-    let c9 = c8 .before in
-    let c10 = c9 .before in
-    omega (
-      arith,
-      span-ok _ _ _ _ _ _ _ _ (c10 .loop .inv .row) (c9 .loop-test .taken) (c8 .word-at .ensures .0) (c10 .loop .inv .ranges) _
-          (c7 .locate .ensures),
-    )
+    unfold-fields-lies t c7 .0
 
 unfold-fields-part-unfold-item-start : (t : ℕ) → unfold-fields-lts.Need-part-unfold-item-start (unfold-fields-calls t) (unfold-fields-at t) unfold-fields.Post
     unfold-fields-Inv-loop unfold-fields-μ-loop
 unfold-fields-part-unfold-item-start t c =
     let c7 = c .before .before .before .before .before .before .before in
-    let c8 = c7 .before in
-    let c9 = c8 .before in
-    let c10 = c9 .before in
-    span-ok _ _ _ _ _ _ _ _ (c10 .loop .inv .row) (c9 .loop-test .taken) (c8 .word-at .ensures .0) (c10 .loop .inv .ranges) _ (c7 .locate .ensures) .0
+    unfold-fields-lies t c7 .0
 
 unfold-fields-part-unfold-item-end : (t : ℕ) → unfold-fields-lts.Need-part-unfold-item-end (unfold-fields-calls t) (unfold-fields-at t) unfold-fields.Post
     unfold-fields-Inv-loop unfold-fields-μ-loop
 unfold-fields-part-unfold-item-end t c =
     let c7 = c .before .before .before .before .before .before .before in
-    let c8 = c7 .before in
-    let c9 = c8 .before in
-    let c10 = c9 .before in
-    span-ok _ _ _ _ _ _ _ _ (c10 .loop .inv .row) (c9 .loop-test .taken) (c8 .word-at .ensures .0) (c10 .loop .inv .ranges) _ (c7 .locate .ensures) .1
+    unfold-fields-lies t c7 .1
 
 unfold-fields-unfold-item-requires : (t : ℕ) → unfold-fields-lts.Need-unfold-item-requires (unfold-fields-calls t) (unfold-fields-at t) unfold-fields.Post
     unfold-fields-Inv-loop unfold-fields-μ-loop
@@ -287,19 +256,13 @@ unfold-fields-unfold-item-requires t c κs =
     let c9 = c8 .before in
     let c10 = c9 .before in
     let c11 = c10 .before in
-    let c16 = c11 .before .before .before .before .before in (
-      omega (arith, row-below _ _ _ _ _ _ (c11 .loop .inv .row) (c10 .loop-test .taken) (c9 .word-at .ensures .0), c16 .pre .0),
-      (
-        row-under _ _ _ _ _ _ (c11 .loop .inv .row) (c10 .loop-test .taken) (c9 .word-at .ensures .0),
-        omega (
-          arith,
-          span-ok _ _ _ _ _ _ _ _ (c11 .loop .inv .row) (c10 .loop-test .taken) (c9 .word-at .ensures .0) (c11 .loop .inv .ranges) _ (c8 .locate .ensures),
-          span-length _ _ _ _ _ _ _ _ (c11 .loop .inv .row) (c10 .loop-test .taken) (c9 .word-at .ensures .0) (c11 .loop .inv .ranges) _ (c8 .locate .ensures),
-          c16 .pre .1 .1,
-        ),
-        filling-accepts _ _ _ _ _ _ _ _ _ _ _ _ _ _ _ _ (c11 .loop .inv) (c10 .loop-test .taken) (c9 .word-at .ensures .0) _ (c8 .locate .ensures),
-        filling-rooms _ _ _ _ _ _ _ _ _ _ _ _ _ _ _ _ (c11 .loop .inv) (c10 .loop-test .taken) (c9 .word-at .ensures .0) _ (c8 .locate .ensures),
-      ),
+    let c16 = c11 .before .before .before .before .before in
+    let lower = row-below _ _ _ _ _ _ (c11 .loop .inv .row) (c10 .loop-test .taken) (c9 .word-in .ensures .0) in
+    let under = row-under _ _ _ _ _ _ (c11 .loop .inv .row) (c10 .loop-test .taken) (c9 .word-in .ensures .0) in (
+      omega (arith, lower, c16 .pre .0),
+      (under, omega (arith, unfold-fields-lies t c8, c16 .pre .1 .1),
+        filling-accepts _ _ _ _ _ _ _ _ _ _ _ _ _ _ _ _ (c11 .loop .inv) (c10 .loop-test .taken) (c9 .word-in .ensures .0) _ (c8 .locate .ensures),
+        filling-rooms _ _ _ _ _ _ _ _ _ _ _ _ _ _ _ _ (c11 .loop .inv) (c10 .loop-test .taken) (c9 .word-in .ensures .0) _ (c8 .locate .ensures)),
     )
 
 unfold-fields-loop-less-2 : (t : ℕ) → unfold-fields-lts.Need-loop-less-2 (unfold-fields-calls t) (unfold-fields-at t) unfold-fields.Post
@@ -311,17 +274,16 @@ unfold-fields-loop-again-2 : (t : ℕ) → unfold-fields-lts.Need-loop-again-2 (
 unfold-fields-loop-again-2 t c =
     let c4 = c .before .before .before .before in
     let c8 = c4 .before .before .before .before in
-    let c10 = c8 .before .before in
-    let c13 = c10 .before .before .before in
+    let c12 = c8 .before .before .before .before in
+    let c13 = c12 .before in
     let c14 = c13 .before in
     let c15 = c14 .before in
     let c16 = c15 .before in
-    let under = row-under _ _ _ _ _ _ (c16 .loop .inv .row) (c15 .loop-test .taken) (c14 .word-at .ensures .0) in
-    let accepts = filling-accepts _ _ _ _ _ _ _ _ _ _ _ _ _ _ _ _ (c16 .loop .inv) (c15 .loop-test .taken) (c14 .word-at .ensures .0) _
-    (c13 .locate .ensures) in
+    let under = row-under _ _ _ _ _ _ (c16 .loop .inv .row) (c15 .loop-test .taken) (c14 .word-in .ensures .0) in
+    let accepts = filling-accepts _ _ _ _ _ _ _ _ _ _ _ _ _ _ _ _ (c16 .loop .inv) (c15 .loop-test .taken) (c14 .word-in .ensures .0) _ (c13 .locate .ensures) in
     let six = below-six _ (c8 .if2 .taken) in
-    filling-next _ _ _ _ _ _ _ _ _ _ _ _ _ _ _ _ (c16 .loop .inv) (c15 .loop-test .taken) (c14 .word-at .ensures .0) _ (c13 .locate .ensures) _ _ _
-    (leaf-filled _ _ _ _ (c10 .look .ensures) under _ accepts (six .0) (six .1) _ _ _ _ _ _ (c4 .unfold-leaf .ensures))
+    filling-next _ _ _ _ _ _ _ _ _ _ _ _ _ _ _ _ (c16 .loop .inv) (c15 .loop-test .taken) (c14 .word-in .ensures .0) _ (c13 .locate .ensures) _ _ _
+    (leaf-filled _ _ _ _ (c12 .look-in .ensures) under _ accepts (six .0) (six .1) _ _ _ _ _ _ (c4 .unfold-leaf .ensures))
 
 unfold-fields-loop-less-3 : (t : ℕ) → unfold-fields-lts.Need-loop-less-3 (unfold-fields-calls t) (unfold-fields-at t) unfold-fields.Post
     unfold-fields-Inv-loop unfold-fields-μ-loop
@@ -335,42 +297,48 @@ unfold-fields-loop-again-3 t c =
     let c14 = c13 .before in
     let c15 = c14 .before in
     let c16 = c15 .before in
-    filling-next _ _ _ _ _ _ _ _ _ _ _ _ _ _ _ _ (c16 .loop .inv) (c15 .loop-test .taken) (c14 .word-at .ensures .0) _ (c13 .locate .ensures) _ _ _
+    filling-next _ _ _ _ _ _ _ _ _ _ _ _ _ _ _ _ (c16 .loop .inv) (c15 .loop-test .taken) (c14 .word-in .ensures .0) _ (c13 .locate .ensures) _ _ _
     (c4 .unfold-item .ensures)
 
 unfold-fields-same-length : (t : ℕ) → unfold-fields-lts.Need-same-length (unfold-fields-calls t) (unfold-fields-at t) unfold-fields.Post
     unfold-fields-Inv-loop unfold-fields-μ-loop
-unfold-fields-same-length t c = stored-length _ _ _ _ _ (c .before .loop .inv .filled .words)
+unfold-fields-same-length t c =
+    let c1 = c .before in
+    stored-length _ _ _ _ _ (c1 .loop .inv .filled .words)
 
 unfold-fields-same-length-2 : (t : ℕ) → unfold-fields-lts.Need-same-length-2 (unfold-fields-calls t) (unfold-fields-at t) unfold-fields.Post
     unfold-fields-Inv-loop unfold-fields-μ-loop
-unfold-fields-same-length-2 t c = stored-length _ _ _ _ _ (c .before .loop .inv .filled .bytes)
+unfold-fields-same-length-2 t c =
+    let c1 = c .before in
+    stored-length _ _ _ _ _ (c1 .loop .inv .filled .bytes)
 
 unfold-fields-returns : (t : ℕ) → unfold-fields-lts.Need-returns (unfold-fields-calls t) (unfold-fields-at t) unfold-fields.Post
     unfold-fields-Inv-loop unfold-fields-μ-loop
-unfold-fields-returns t c = filling-end _ _ _ _ _ _ _ _ _ _ _ _ _ _ _ (c .before .loop .inv) (c .loop-test .left)
+unfold-fields-returns t c =
+    let c1 = c .before in
+    filling-end _ _ _ _ _ _ _ _ _ _ _ _ _ _ _ (c1 .loop .inv) (c .loop-test .left)
 
-unfold-item-look-requires : (t : ℕ) → unfold-item-lts.Need-look-requires (unfold-item-calls t) (unfold-item-at t) unfold-item.Post
-unfold-item-look-requires t c κs = search needs
+unfold-item-look-in-requires : (t : ℕ) → unfold-item-lts.Need-look-in-requires (unfold-item-calls t) (unfold-item-at t) unfold-item.Post
+unfold-item-look-in-requires t c κs = c .before .before .before .before .pre .1 .0 .legal
 
 unfold-item-add-first : (t : ℕ) → unfold-item-lts.Need-add-first (unfold-item-calls t) (unfold-item-at t) unfold-item.Post
 unfold-item-add-first t c =
     let c6 = c .before .before .before .before .before .before in
-    omega (arith, node-ok _ _ _ _ (c .before .look .ensures) (c6 .pre .1 .0) .near)
+    omega (arith, node-ok _ _ _ _ (c .before .look-in .ensures) (c6 .pre .1 .0) .near)
 
 unfold-item-unfold-fields-requires : (t : ℕ) → unfold-item-lts.Need-unfold-fields-requires (unfold-item-calls t) (unfold-item-at t) unfold-item.Post
 unfold-item-unfold-fields-requires t c κs =
     let c2 = c .before .before in
     let c5 = c2 .before .before .before in
     let c10 = c5 .before .before .before .before .before in
-    let k = fields-accepts _ _ _ _ (c5 .look .ensures) (c10 .pre .1 .0) _ (c10 .pre .1 .2) (c2 .if1 .taken) in (
+    let k = fields-accepts _ _ _ _ (c5 .look-in .ensures) (c10 .pre .1 .0) _ (c10 .pre .1 .2) (c2 .if1 .taken) in (
       omega (arith, c10 .pre .0),
       (
-        container-row _ _ _ _ (c5 .look .ensures) (c10 .pre .1 .0) (c2 .if1 .taken),
+        container-row _ _ _ _ (c5 .look-in .ensures) (c10 .pre .1 .0) (c2 .if1 .taken),
         c10 .pre .1 .1,
         k .0,
         k .1,
-        container-rooms _ _ _ _ (c5 .look .ensures) (c10 .pre .1 .0) _ (c10 .pre .1 .2) (c2 .if1 .taken) _ _ _ (c10 .pre .1 .3),
+        container-rooms _ _ _ _ (c5 .look-in .ensures) (c10 .pre .1 .0) _ (c10 .pre .1 .2) (c2 .if1 .taken) _ _ _ (c10 .pre .1 .3),
       ),
     )
 
@@ -378,7 +346,7 @@ unfold-item-select-requires : (t : ℕ) → unfold-item-lts.Need-select-requires
 unfold-item-select-requires t c κs =
     let c5 = c .before .before .before .before .before in
     let c10 = c5 .before .before .before .before .before in
-    omega (arith, node-ok _ _ _ _ (c5 .look .ensures) (c10 .pre .1 .0) .near)
+    omega (arith, node-ok _ _ _ _ (c5 .look-in .ensures) (c10 .pre .1 .0) .near)
 
 unfold-item-enum-told : (t : ℕ) → unfold-item-lts.Need-enum-told (unfold-item-calls t) (unfold-item-at t) unfold-item.Post
 unfold-item-enum-told t c = search needs
@@ -388,9 +356,9 @@ unfold-item-put-selector-requires t c κs =
     let c4 = c .before .before .before .before in
     let c9 = c4 .before .before .before .before .before in
     let c14 = c9 .before .before .before .before .before in (
-      union-room _ _ _ _ (c9 .look .ensures) (c14 .pre .1 .0) _ (c14 .pre .1 .2) (c4 .if2 .taken) _ _ _ (c14 .pre .1 .3),
+      union-room _ _ _ _ (c9 .look-in .ensures) (c14 .pre .1 .0) _ (c14 .pre .1 .2) (c4 .if2 .taken) _ _ _ (c14 .pre .1 .3),
       union-long _ _ _ _
-          (c9 .look .ensures) (c14 .pre .1 .0) _ (c14 .pre .1 .2) (c4 .if2 .taken),
+          (c9 .look-in .ensures) (c14 .pre .1 .0) _ (c14 .pre .1 .2) (c4 .if2 .taken),
     )
 
 unfold-item-enum-known-c : (t : ℕ) → unfold-item-lts.Need-enum-known-c (unfold-item-calls t) (unfold-item-at t) unfold-item.Post
@@ -401,9 +369,9 @@ unfold-item-put-selector-requires-2 t c κs =
     let c5 = c .before .before .before .before .before in
     let c10 = c5 .before .before .before .before .before in
     let c15 = c10 .before .before .before .before .before in (
-      union-room _ _ _ _ (c10 .look .ensures) (c15 .pre .1 .0) _ (c15 .pre .1 .2) (c5 .if2 .taken) _ _ _ (c15 .pre .1 .3),
+      union-room _ _ _ _ (c10 .look-in .ensures) (c15 .pre .1 .0) _ (c15 .pre .1 .2) (c5 .if2 .taken) _ _ _ (c15 .pre .1 .3),
       union-long _ _ _ _
-          (c10 .look .ensures) (c15 .pre .1 .0) _ (c15 .pre .1 .2) (c5 .if2 .taken),
+          (c10 .look-in .ensures) (c15 .pre .1 .0) _ (c15 .pre .1 .2) (c5 .if2 .taken),
     )
 
 unfold-item-sub-unfold-item : (t : ℕ) → unfold-item-lts.Need-sub-unfold-item (unfold-item-calls t) (unfold-item-at t) unfold-item.Post
@@ -413,7 +381,7 @@ unfold-item-sub-unfold-item t c =
     let c10 = c9 .before in
     let c15 = c10 .before .before .before .before .before in
     let c20 = c15 .before .before .before .before .before in
-    omega (arith, body-below _ _ _ _ (c15 .look .ensures) (c20 .pre .1 .0) (c10 .if2 .taken) _ _ (sym (c7 .c .given .1) ∙ c9 .select .ensures))
+    omega (arith, body-below _ _ _ _ (c15 .look-in .ensures) (c20 .pre .1 .0) (c10 .if2 .taken) _ _ (sym (c7 .c .given .1) ∙ c9 .select .ensures))
 
 unfold-item-part-unfold-item-start : (t : ℕ) → unfold-item-lts.Need-part-unfold-item-start (unfold-item-calls t) (unfold-item-at t) unfold-item.Post
 unfold-item-part-unfold-item-start t c =
@@ -422,7 +390,7 @@ unfold-item-part-unfold-item-start t c =
     let c10 = c9 .before in
     let c15 = c10 .before .before .before .before .before in
     let c20 = c15 .before .before .before .before .before in
-    omega (arith, body-below _ _ _ _ (c15 .look .ensures) (c20 .pre .1 .0) (c10 .if2 .taken) _ _ (sym (c7 .c .given .1) ∙ c9 .select .ensures))
+    omega (arith, body-below _ _ _ _ (c15 .look-in .ensures) (c20 .pre .1 .0) (c10 .if2 .taken) _ _ (sym (c7 .c .given .1) ∙ c9 .select .ensures))
 
 unfold-item-part-unfold-item-end : (t : ℕ) → unfold-item-lts.Need-part-unfold-item-end (unfold-item-calls t) (unfold-item-at t) unfold-item.Post
 unfold-item-part-unfold-item-end t c = omega arith
@@ -435,17 +403,17 @@ unfold-item-unfold-item-requires t c κs =
     let c11 = c10 .before in
     let c16 = c11 .before .before .before .before .before in
     let c21 = c16 .before .before .before .before .before in
-    let z = body-below _ _ _ _ (c16 .look .ensures) (c21 .pre .1 .0) (c11 .if2 .taken) _ _ (sym (c8 .c .given .1) ∙ c10 .select .ensures) in (
+    let z = body-below _ _ _ _ (c16 .look-in .ensures) (c21 .pre .1 .0) (c11 .if2 .taken) _ _ (sym (c8 .c .given .1) ∙ c10 .select .ensures) in (
       omega (arith, c21 .pre .0, z),
       (
         under-below _ _ _ _ (omega (arith, z)) (c21 .pre .1 .0),
         simp (length-take, length-drop)
             (omega (arith, c21 .pre .1 .1, z)),
-        body-accepts _ _ _ _ (c16 .look .ensures) (c21 .pre .1 .0) _ (c21 .pre .1 .2) (c11 .if2 .taken) _
+        body-accepts _ _ _ _ (c16 .look-in .ensures) (c21 .pre .1 .0) _ (c21 .pre .1 .2) (c11 .if2 .taken) _
             (sym (c8 .c .given .1) ∙ c10 .select .ensures),
         rooms-then _ _ _ _ _ _ _ _ _ _ _ _ (c21 .pre .1 .3)
-            (body-words _ _ _ _ (c16 .look .ensures) (c21 .pre .1 .0) _ (c21 .pre .1 .2) (c11 .if2 .taken) _
-            (sym (c8 .c .given .1) ∙ c10 .select .ensures)) (body-bytes _ _ _ _ (c16 .look .ensures) (c21 .pre .1 .0) _ (c21 .pre .1 .2)
+            (body-words _ _ _ _ (c16 .look-in .ensures) (c21 .pre .1 .0) _ (c21 .pre .1 .2) (c11 .if2 .taken) _
+            (sym (c8 .c .given .1) ∙ c10 .select .ensures)) (body-bytes _ _ _ _ (c16 .look-in .ensures) (c21 .pre .1 .0) _ (c21 .pre .1 .2)
             (c11 .if2 .taken) _ (sym (c8 .c .given .1) ∙ c10 .select .ensures))
             (selector-filled _ _ _ _ _ _ (c5 .put-selector2 .ensures .0) (c5 .put-selector2 .ensures .1)),
       ),
@@ -460,11 +428,11 @@ unfold-item-unfold-leaf-requires t c κs =
     let c4 = c2 .before .before in
     let c7 = c4 .before .before .before in
     let c12 = c7 .before .before .before .before .before in (
-      node-ok _ _ _ _ (c7 .look .ensures) (c12 .pre .1 .0) .small,
+      node-ok _ _ _ _ (c7 .look-in .ensures) (c12 .pre .1 .0) .small,
       c12 .pre .1 .1,
-      leaf-accepts _ _ _ _ (c7 .look .ensures) (c12 .pre .1 .0) _
+      leaf-accepts _ _ _ _ (c7 .look-in .ensures) (c12 .pre .1 .0) _
           (c12 .pre .1 .2) (c4 .if1 .left) (c2 .if2 .left),
-      leaf-rooms _ _ _ _ (c7 .look .ensures) (c12 .pre .1 .0) _ (c12 .pre .1 .2) (c4 .if1 .left)
+      leaf-rooms _ _ _ _ (c7 .look-in .ensures) (c12 .pre .1 .0) _ (c12 .pre .1 .2) (c4 .if1 .left)
           (c2 .if2 .left) _ _ _ (c12 .pre .1 .3),
     )
 
@@ -484,7 +452,7 @@ unfold-item-returns t c =
     let c7 = c4 .before .before .before in
     let c10 = c7 .before .before .before in
     let c15 = c10 .before .before .before .before .before in
-    container-filled _ _ _ _ (c10 .look .ensures) (c15 .pre .1 .0) _ (c15 .pre .1 .2) (c7 .if1 .taken) _ _ _ _ _ _ (c4 .unfold-fields .ensures)
+    container-filled _ _ _ _ (c10 .look-in .ensures) (c15 .pre .1 .0) _ (c15 .pre .1 .2) (c7 .if1 .taken) _ _ _ _ _ _ (c4 .unfold-fields .ensures)
 
 unfold-item-same-length-3 : (t : ℕ) → unfold-item-lts.Need-same-length-3 (unfold-item-calls t) (unfold-item-at t) unfold-item.Post
 unfold-item-same-length-3 t c =
@@ -499,7 +467,7 @@ unfold-item-returns-2 t c =
     let c7 = c6 .before in
     let c12 = c7 .before .before .before .before .before in
     let c17 = c12 .before .before .before .before .before in
-    bare-filled _ _ _ _ (c12 .look .ensures) (c17 .pre .1 .0) _ (c17 .pre .1 .2) (c7 .if2 .taken) (sym (c4 .enum-told .given .1) ∙ c6 .select .ensures) _ _ _
+    bare-filled _ _ _ _ (c12 .look-in .ensures) (c17 .pre .1 .0) _ (c17 .pre .1 .2) (c7 .if2 .taken) (sym (c4 .enum-told .given .1) ∙ c6 .select .ensures) _ _ _
     _ _ _ (selector-filled _ _ _ _ _ _ (c2 .put-selector .ensures .0) (c2 .put-selector .ensures .1))
 
 unfold-item-same-length-4 : (t : ℕ) → unfold-item-lts.Need-same-length-4 (unfold-item-calls t) (unfold-item-at t) unfold-item.Post
@@ -524,8 +492,8 @@ unfold-item-returns-3 t c =
     let c26 = c21 .before .before .before .before .before in
     filled-then _ _ _ _ _ _ _ _ _ _ _ _ _ _ _ (selector-filled _ _ _ _ _ _ (c10 .put-selector2 .ensures .0) (c10 .put-selector2 .ensures .1))
     (c4 .unfold-item .ensures)
-    (body-words _ _ _ _ (c21 .look .ensures) (c26 .pre .1 .0) _ (c26 .pre .1 .2) (c16 .if2 .taken) _ (sym (c13 .c .given .1) ∙ c15 .select .ensures))
-    (body-bytes _ _ _ _ (c21 .look .ensures) (c26 .pre .1 .0) _ (c26 .pre .1 .2) (c16 .if2 .taken) _ (sym (c13 .c .given .1) ∙ c15 .select .ensures))
+    (body-words _ _ _ _ (c21 .look-in .ensures) (c26 .pre .1 .0) _ (c26 .pre .1 .2) (c16 .if2 .taken) _ (sym (c13 .c .given .1) ∙ c15 .select .ensures))
+    (body-bytes _ _ _ _ (c21 .look-in .ensures) (c26 .pre .1 .0) _ (c26 .pre .1 .2) (c16 .if2 .taken) _ (sym (c13 .c .given .1) ∙ c15 .select .ensures))
 
 unfold-item-returns-4 : (t : ℕ) → unfold-item-lts.Need-returns-4 (unfold-item-calls t) (unfold-item-at t) unfold-item.Post
 unfold-item-returns-4 t c =
@@ -533,7 +501,7 @@ unfold-item-returns-4 t c =
     let c3 = c2 .before in
     let c8 = c3 .before .before .before .before .before in
     let c13 = c8 .before .before .before .before .before in
-    never _ _ _ _ (c8 .look .ensures) (c13 .pre .1 .0) _ (c13 .pre .1 .2) (c3 .if2 .taken) _ (sym (c .enum-told2 .given .1) ∙ c2 .select .ensures)
+    never _ _ _ _ (c8 .look-in .ensures) (c13 .pre .1 .0) _ (c13 .pre .1 .2) (c3 .if2 .taken) _ (sym (c .enum-told2 .given .1) ∙ c2 .select .ensures)
 
 unfold-item-same-length-6 : (t : ℕ) → unfold-item-lts.Need-same-length-6 (unfold-item-calls t) (unfold-item-at t) unfold-item.Post
 unfold-item-same-length-6 t c =
@@ -552,7 +520,7 @@ unfold-item-returns-5 t c =
     let c9 = c7 .before .before in
     let c12 = c9 .before .before .before in
     let c17 = c12 .before .before .before .before .before in
-    leaf-filled _ _ _ _ (c12 .look .ensures) (c17 .pre .1 .0) _ (c17 .pre .1 .2) (c9 .if1 .left) (c7 .if2 .left) _ _ _ _ _ _ (c4 .unfold-leaf .ensures)
+    leaf-filled _ _ _ _ (c12 .look-in .ensures) (c17 .pre .1 .0) _ (c17 .pre .1 .2) (c9 .if1 .left) (c7 .if2 .left) _ _ _ _ _ _ (c4 .unfold-leaf .ensures)
 
 pub +unfold-fields+unfold-item-spec : {M : Type 1} → statement M
 +unfold-fields+unfold-item-spec = close μ-unfold-fields μ-unfold-item (λ t. unfold-fields-lts.spec (unfold-fields-calls t)
@@ -561,18 +529,17 @@ pub +unfold-fields+unfold-item-spec : {M : Type 1} → statement M
     unfold-fields-Inv-loop
     unfold-fields-μ-loop
     (unfold-fields-loop-holds t)
-    (unfold-fields-word-at-requires t)
+    (unfold-fields-word-in-requires t)
     (unfold-fields-locate-requires t)
     (unfold-fields-add-a t)
     (unfold-fields-sub-left t)
-    (unfold-fields-kind-of-requires t)
+    (unfold-fields-look-in-requires t)
     (unfold-fields-sub-copy-into t)
     (unfold-fields-part-copy-into-start t)
     (unfold-fields-part-copy-into-end t)
     (unfold-fields-copy-into-requires t)
     (unfold-fields-loop-less t)
     (unfold-fields-loop-again t)
-    (unfold-fields-look-requires t)
     (unfold-fields-sub-unfold-leaf t)
     (unfold-fields-part-unfold-leaf-start t)
     (unfold-fields-part-unfold-leaf-end t)
@@ -591,7 +558,7 @@ pub +unfold-fields+unfold-item-spec : {M : Type 1} → statement M
     λ t. unfold-item-lts.spec (unfold-item-calls t)
     (unfold-item-at t)
     unfold-item.Post
-    (unfold-item-look-requires t)
+    (unfold-item-look-in-requires t)
     (unfold-item-add-first t)
     (unfold-item-unfold-fields-requires t)
     (unfold-item-select-requires t)
