@@ -17,6 +17,7 @@ use Rattle.standard.specs.declared.Head.{Head}
 use Rattle.standard.specs.declared.Head.the-variants.{Fixed, Variable}
 use Rattle.standard.proofs.Laws.{fixed-some}
 use Rattle.layout.specs.Tree.{nodeOf, leafOf, fromNode, fields, options, trees, treeOf, lenOf, headOf, lengths, filled}
+use Rattle.layout.specs.Table.{count}
 use Rattle.layout.specs.Legal.{Lower, LegalNode, Legal}
 use Rattle.layout.specs.declared.Node.{Node}
 
@@ -101,6 +102,11 @@ module _ (l : List ℕ) (t : ℕ) (r : Node) (e : r ≡ nodeOf l t) where
   pub legal-node : Legal l (t + 1) → LegalNode l t r
   unfolding Legal
   legal-node g = rw e (g t (omega arith))
+
+-- The start word and the kind word of a legal type are there.
+pub legal-words : (l : List ℕ) (t : ℕ) → Legal l (t + 1) → (1 + t < count l) × (wordAt l (1 + t) < count l)
+unfolding nodeOf
+legal-words l t g = let n = legal-node l t (nodeOf l t) refl g in (n .listed, n .begun)
 
 pub legal-below : (l : List ℕ) (t f : ℕ) → f ≤ t → Legal l t → Legal l f
 unfolding Legal

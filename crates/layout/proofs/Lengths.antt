@@ -24,7 +24,7 @@ use Rattle.layout.specs.declared.Checked.{Checked}
 use Rattle.layout.specs.declared.Checked.the-variants.{Bad, Upto}
 use Rattle.layout.proofs.Facts.{fields-at, fields-none, filled-set, head-len, as-container}
 use Rattle.layout.proofs.Tables.{Adding, adding-next, adding-end, bad-upto, may-lower, refs-missing, refs-wrong, refs-lower}
-use Rattle.layout.proofs.Trees.{legal-tree, len-small, leaf-length}
+use Rattle.layout.proofs.Trees.{legal-tree, len-small, leaf-length, all-portion}
 
 width-small : (m : ℕ) → m < 2 ^ 32 → width (headOf m) < 2 ^ 32
 unfolding width
@@ -183,19 +183,8 @@ lengthened l known t r lens f i j b h =
 pub found-set : (l : List ℕ) (t v : ℕ) (lens : List ℕ) → lens ≡ filled l t → t < 64 → v ≡ lenOf (head (treeOf l t)) → set lens t v ≡ filled l (t + 1)
 found-set l t v lens f b h = rw (h, f, add-one) (filled-set l t b)
 
--- A length is no more than the fixed portion.
-len-portion : (ts : Tys) → lenOf (headAll ts) ≤ portion (heads ts)
-unfolding head heads portion joined width
-len-portion end = omega arith
-len-portion (field t ts) = go (head t) (headAll ts) (len-portion ts)
-  where
-    go : (h g : Head) → lenOf g ≤ portion (heads ts) → lenOf (joined h g) ≤ width h + portion (heads ts)
-    go (Fixed n) (Fixed m) q = omega arith
-    go (Fixed n) Variable q = omega arith
-    go Variable g q = omega arith
-
 pub sizes-small : (x : Checked) (ts : Tys) (s : Sizes) (i : ℕ) → s ≡ sizesOf x ts → x ≡ Upto i → s .portion ≤ 4294967295 → s .length < 2 ^ 32
-sizes-small x ts s i e u h = omega (arith, sizes-portion x ts s i e u, sizes-length x ts s i e u, len-portion ts)
+sizes-small x ts s i e u h = omega (arith, sizes-portion x ts s i e u, sizes-length x ts s i e u, all-portion ts)
 
 -- The type t, whose body starts at the word at.
 module _ (l : List ℕ) (t at : ℕ) (w : at ≡ wordAt l (1 + t)) where

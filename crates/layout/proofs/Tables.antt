@@ -377,12 +377,3 @@ pub table-known : (l lens : List ℕ) (n : ℕ) → Bytes l → tableOf l ≡ Up
 table-known l lens n b h e =
     let g = table-legal l n b h in
     (record { found = e ∙ rw h; legal = g .0; few = g .2 }, g .1)
-
-pub table-length : (l lens : List ℕ) (n : ℕ) → tableOf l ≡ Upto n → lens ≡ lengthsOf (tableOf l) l → 64 ≡ length lens
-unfolding tableOf
-table-length l lens n h e =
-    let p = upto-onward (typesOf l) _ n h in
-    let q = upto-onward (typesEnd l (p .0) 0 (p .0 + 1)) _ n (p .2) in
-    let r = upto-left (eqb (q .0) (count l)) (Upto (p .0)) (q .0) n (q .2) in
-    let few : n ≤ 64 = omega (arith, types-say l (p .0) (p .1) .1, upto-inj (p .0) n (r .1)) in
-    sym (ap length e ∙ rw h (length-filled l n few))

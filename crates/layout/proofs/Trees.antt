@@ -140,7 +140,8 @@ joined-len (Fixed n) (Fixed m) p h = omega arith
 joined-len (Fixed n) Variable p h = omega arith
 joined-len Variable y p h = omega arith
 
-all-portion : (ts : Tys) → lenOf (headAll ts) ≤ portion (heads ts)
+-- A length is no more than the fixed portion.
+pub all-portion : (ts : Tys) → lenOf (headAll ts) ≤ portion (heads ts)
 unfolding head heads portion
 all-portion end = omega arith
 all-portion (field t ts) = joined-len (head t) (headAll ts) (portion (heads ts)) (all-portion ts)

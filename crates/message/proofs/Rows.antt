@@ -49,7 +49,7 @@ module _ (lens l : List ℕ) (t : ℕ) (g : Under lens l t) (f : ℕ) (h : f < t
   under-index = omega (arith, g .few, g .room)
 
 -- A length of 0 says variable, another one is the fixed length.
-len-head : (h : Head) (k : ℕ) → k ≡ lenOf h → (k ≡ 0 → ⊥) → Fixed k ≡ h
+pub len-head : (h : Head) (k : ℕ) → k ≡ lenOf h → (k ≡ 0 → ⊥) → Fixed k ≡ h
 len-head (Fixed n) k e z = ap Fixed e
 len-head Variable k e z = absurd (z e)
 

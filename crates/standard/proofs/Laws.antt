@@ -12,7 +12,7 @@ use native.Mathlib.Omega.{arith}
 use lib.ListN.{length, length-append}
 use Rattle.standard.specs.Bytes.{Bytes, le, num}
 use Rattle.standard.specs.Bits.{bit, pack, marked}
-use Rattle.standard.specs.Types.{Ty, Tys, Opts, number, boolean, fixedBytes, freeBytes, bitVector, bitList, container, union, end, field, over, bare, body, head, headAll, heads, joined, isWidth, NoFields, Rising, LegalTy, LegalAll, LegalOptions}
+use Rattle.standard.specs.Types.{Ty, Tys, Opts, number, boolean, fixedBytes, freeBytes, bitVector, bitList, container, union, end, field, over, bare, body, head, headAll, heads, joined, width, portion, isWidth, NoFields, Rising, LegalTy, LegalAll, LegalOptions}
 use Rattle.standard.specs.Parts.{Part, piece, fixedLengths, fronts, backs, join, partHeads}
 use Rattle.standard.specs.Serialize.{Val, Vals, Option, Ok, OkAll, OkOption, serialize, parts, selected}
 use Rattle.standard.specs.declared.Head.{Head}
@@ -46,6 +46,14 @@ joined-fixed Variable h n e = let w : _≡_ {A = ℕ} 0 1 = cc in absurd (omega 
 
 pub fixed-injective : (k m : ℕ) → Fixed k ≡ Fixed m → k ≡ m
 fixed-injective k m e = cc
+
+-- Fields of fixed size are their fixed portion.
+pub all-fixed : (ts : Tys) (m : ℕ) → headAll ts ≡ Fixed m → portion (heads ts) ≡ m
+unfolding head heads portion width
+all-fixed end m e = fixed-injective 0 m e
+all-fixed (field t ts) m e =
+    let j = joined-fixed (head t) (headAll ts) m e in
+    rw (j .2, all-fixed ts (j .1) (j .3)) (j .4)
 
 -- A fixed type of the standard takes at least one byte.
 width-some : (w : ℕ) → isWidth w ≡ true → 1 ≤ w

@@ -19,7 +19,7 @@ use Rattle.standard.specs.declared.Head.the-variants.{Fixed, Variable}
 use Rattle.standard.proofs.Bytes.{length-le}
 use Rattle.standard.proofs.Store.{sets-append, stored-then, room-then}
 use Rattle.standard.proofs.Join.{Size, Sized, fixed-portion, length-fronts, length-join}
-use Rattle.standard.proofs.Laws.{joined-fixed}
+use Rattle.standard.proofs.Laws.{joined-fixed, all-fixed}
 use Rattle.bitfield.proofs.Places.{bit-on, one-shifted}
 use Rattle.layout.specs.Tree.{nodeOf, leafOf, treeOf, headOf}
 use Rattle.layout.specs.declared.Node.{Node}
@@ -27,12 +27,12 @@ use Rattle.layout.proofs.Facts.{as-container, as-leaf}
 use Rattle.layout.proofs.Trees.{legal-tree}
 use Rattle.message.specs.Read.{rawBytes}
 use Rattle.message.specs.Steps.{Under, Row, rowOf, headsOf}
-use Rattle.message.proofs.Rows.{row-next, row-head, row-heads, heads-none}
+use Rattle.message.proofs.Rows.{under-small, len-head, row-next, row-head, row-heads, heads-none}
 use Rattle.message.proofs.Bodies.{node-ok, container-row}
 use Rattle.value.specs.Walk.{Walked, upto, wrong, onward, lastBits, walkItem, walkFields}
 use Rattle.value.specs.Write.{wordAfter, byteAfter, bytesAt, withMark, writeItem, partsFrom}
 use Rattle.value.specs.Steps.{IsUpto}
-use Rattle.value.specs.Stores.{Put, Begun, placeOf, headed, headAfter, tailAfter, Fields}
+use Rattle.value.specs.Stores.{Put, Begun, placeOf, headed, headAfter, tailAfter, Owned, Fields}
 use Rattle.value.specs.declared.store.Stop.{Stop}
 use Rattle.value.proofs.Walks.{length-bytesAt}
 use Rattle.value.proofs.Leaves.{number-form, fixed-form, boolean-form, vector-form}
@@ -315,7 +315,7 @@ pub writing-none : (lens l : List ℕ) (t a n : ℕ) (c b : List ℕ) (i j : ℕ
 writing-none lens l t a n c b i j o start own g e =
     record {
       long = refl;
-      row = g .row;
+      row = g .owned .row;
       walk = refl;
       room = g .room .room;
       two = two-start (partsFrom (rowOf l t a n) c b i j) o start own (e ∙ sym (g .own));
@@ -354,6 +354,19 @@ adding-end lens l t a₀ n a left sum g h = omega (arith, rw (heads-none l t a l
 
 -- A container's fields, ready to be stored.
 module _ (lens l : List ℕ) (t : ℕ) (r : Node) (e : r ≡ nodeOf l t) (g : Under lens l (t + 1)) (k : r .kind ≡ 6) (c b : List ℕ) (i j : ℕ) where
+  container-owned : Owned lens l t (r .at + 2) (r .second)
+  unfolding head
+  container-owned =
+      record {
+        row = container-row lens l t r e g k;
+        few = omega (arith, g .few);
+        small = under-small lens l (t + 1) g t (omega arith);
+        short = node-ok lens l t r e g .short k;
+        whole =
+            λ h. let f = len-head (head (treeOf l t)) (getD lens t 0) (g .found t (omega arith)) (λ (z : getD lens t 0 ≡ 0). omega arith) in
+            sym (all-fixed (rowOf l t (r .at + 2) (r .second)) (getD lens t 0) (sym (rw (as-container l t r e k) at f)));
+      }
+
   pub container-ready : (o : List ℕ) (at : ℕ) → IsUpto (walkItem (treeOf l t) c b i j) → Room o at (writeItem (treeOf l t) c b i j) →
       Fields lens l t (r .at + 2) (r .second) c b i j o at
   unfolding LegalTy
@@ -361,8 +374,7 @@ module _ (lens l : List ℕ) (t : ℕ) (r : Node) (e : r ≡ nodeOf l t) (g : Un
       let w : IsUpto (walkFields (rowOf l t (r .at + 2) (r .second)) c b i j) = rw (container-walk l t r e k c b i j) at h in
       let v = rw (as-container l t r e k) at (legal-tree l (t + 1) t (g .legal) (omega arith)) in
       record {
-        row = container-row lens l t r e g k;
-        short = node-ok lens l t r e g .short k;
+        owned = container-owned;
         walk = w;
         own = own-portion (rowOf l t (r .at + 2) (r .second)) c b i j (v .1) w;
         room = rw (container-write l t r e k c b i j) at m;

@@ -89,13 +89,12 @@ plain-leaf t n h = ⊎-elim (λ (k : n .kind ≡ 0). rw k (number-plain t (n .se
 
 -- The length of a plain field is what the table says.
 module _ (lens l : List ℕ) (t a left f : ℕ) (g : Row lens l t a left) (z : 0 < left) (e : f ≡ wordAt l a) (k : ℕ) (q : k ≡ getD lens f 0) where
-  pub plain-field : (m : ℕ) → m ≡ nodeOf l f .kind → isPlain m ≡ true → Plain (treeOf l f) k
-  plain-field m d h =
-      let n = nodeOf l f in
-      let s = plain-kind (n .kind) (sym (ap isPlain d) ∙ h) in
+  pub plain-field : (n : Node) → n ≡ nodeOf l f → isPlain (n .kind) ≡ true → Plain (treeOf l f) k
+  plain-field n d h =
+      let s = plain-kind (n .kind) h in
       let b : n .kind < 6 = ⊎-elim (λ (p : n .kind ≡ 0). omega arith) (λ (p : n .kind ≡ 2). omega arith) s in
       let v = below-six (n .kind) b in
-      let x : Plain (treeOf l f) (n .second) = rw (as-leaf l f n refl (v .0) (v .1)) (plain-leaf f n s) in
+      let x : Plain (treeOf l f) (n .second) = rw (as-leaf l f n d (v .0) (v .1)) (plain-leaf f n s) in
       let y : k ≡ n .second = q ∙ g .under .found f (row-below lens l t a left f g z e) ∙ ap lenOf (x .head) in
       rw y x
 

@@ -2,6 +2,7 @@
 use Prim.Native.Nat.{ℕ, _+_, _-_, _<_, _^_}
 use mathlib.Core.Path.{_≡_}
 use mathlib.Core.List.{List}
+use lib.ListN.{getD}
 use lib.Seq.{sets}
 use Rattle.standard.specs.Bytes.{Stored, Room, le}
 use Rattle.standard.specs.Types.{portion}
@@ -42,10 +43,17 @@ abbrev pub tailAfter : Head → ℕ → ℕ → ℕ
 tailAfter (Fixed n) q to = q
 tailAfter Variable q to = to
 
+-- n fields of the type t: they are there, and a length of the type's own is their fixed portion.
+pub record Owned (lens l : List ℕ) (t a n : ℕ) : Type 0 where
+  pub row : Row lens l t a n
+  pub few : t < 64
+  pub small : getD lens t 0 < 2 ^ 32
+  pub short : portion (headsOf l t a n) < 2 ^ 32
+  pub whole : 0 < getD lens t 0 → getD lens t 0 ≡ portion (headsOf l t a n)
+
 -- What storing the n fields that the words from a on name asks: their form is well, and there is room for them.
 pub record Fields (lens l : List ℕ) (t a n : ℕ) (c b : List ℕ) (i j : ℕ) (o : List ℕ) (at : ℕ) : Type 0 where
-  pub row : Row lens l t a n
-  pub short : portion (headsOf l t a n) < 2 ^ 32
+  pub owned : Owned lens l t a n
   pub walk : IsUpto (walkFields (rowOf l t a n) c b i j)
   pub own : fixedLengths (partsFrom (rowOf l t a n) c b i j) ≡ portion (headsOf l t a n)
   pub room : Room o at (join (partsFrom (rowOf l t a n) c b i j))

@@ -1,6 +1,7 @@
 // The value writer: from the form of a value to the message.
 mod measure;
 mod store;
+mod words;
 
 use layout::Checked;
 use layout::table_of;
@@ -23,7 +24,7 @@ pub enum Written {
 // Writes under a legal table of n types.
 fn write_under(
     out: &mut [u8],
-    lens: &[u32],
+    lens: &[u32; 64],
     layout: &[u8],
     n: usize,
     contents: &[u32],

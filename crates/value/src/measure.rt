@@ -1,8 +1,8 @@
 // The form of a value measured: its first fault, or how far it goes and how long what it says is. Nothing is written.
+use crate::words::look_in;
+use crate::words::word_in;
 use layout::NO_BODY;
 use layout::Node;
-use layout::kind_of;
-use layout::look;
 use standard::Refusal;
 use standard::words::word_at;
 ghost use mathlib.Core.Path.{_≡_};
@@ -260,7 +260,7 @@ fn with_offset(k: usize, len: usize) -> usize
 
 // Measures the form of an item of the type t, from the contents word i and the body byte j on.
 pub(crate) fn measure_item(
-    lens: &[u32],
+    lens: &[u32; 64],
     layout: &[u8],
     t: usize,
     contents: &[u32],
@@ -271,7 +271,7 @@ pub(crate) fn measure_item(
     requires { ⌜ Under (now lens) (now layout) (t + 1) ⌝ }
     ensures { λ r. ⌜ r ≡ measured (walkItem (treeOf (now (layout .entry)) t) (now (contents .entry)) (now (bodies .entry)) i j) (length (writeItem (treeOf (now (layout .entry)) t) (now (contents .entry)) (now (bodies .entry)) i j)) ⌝ }
 {
-    let n = look(layout, t);
+    let n = look_in(layout, t);
     let first = n.at + 2;
     if n.kind == 6 {
         measure_fields(lens, layout, t, first, n.second, contents, bodies, i, j)
@@ -301,7 +301,7 @@ pub(crate) fn measure_item(
 // Measures the forms of the n fields of type t that the words from a0 on name. Most fields are numbers or fixed bytes, which need no call,
 // and another kind below 6 has no lower types: only a container or a union is measured as an item.
 fn measure_fields(
-    lens: &[u32],
+    lens: &[u32; 64],
     layout: &[u8],
     t: usize,
     a0: usize,
@@ -320,11 +320,12 @@ fn measure_fields(
     let mut i = i0;
     let mut j = j0;
     while left > 0 {
-        let f = word_at(layout, a);
+        let f = word_in(layout, a);
+        let n = look_in(layout, f);
         let k = lens[f] as usize;
         a += 1;
         left -= 1;
-        if is_plain(kind_of(layout, f)) {
+        if is_plain(n.kind) {
             if !has(bodies, j, k) {
                 return Measured::Wrong(Refusal::BadValue(1, bodies.len()));
             }
@@ -332,7 +333,6 @@ fn measure_fields(
             sum = add(sum, k);
             continue;
         }
-        let n = look(layout, f);
         let r = if n.kind < 6 {
             measure_leaf(n, contents, bodies, i, j)
         } else {

@@ -3,11 +3,10 @@ use crate::measure::Choice;
 use crate::measure::is_plain;
 use crate::measure::raw_bytes;
 use crate::measure::select;
+use crate::words::look_in;
+use crate::words::word_in;
 use layout::Node;
-use layout::kind_of;
-use layout::look;
 use standard::words::put_four;
-use standard::words::word_at;
 ghost use mathlib.Core.Path.{_≡_};
 ghost use mathlib.Core.List.{[], _∷_};
 ghost use Prim.Native.Nat.{_+_, _-_, _/_, _%_, _≤_, _<_, _^_};
@@ -20,11 +19,11 @@ ghost use Rattle.standard.specs.Types.{width, portion};
 ghost use Rattle.standard.specs.Parts.{join};
 ghost use Rattle.layout.specs.Tree.{leafOf, treeOf, headOf};
 ghost use Rattle.message.specs.Read.{rawBytes};
-ghost use Rattle.message.specs.Steps.{Under, Row, rowOf, headsOf};
+ghost use Rattle.message.specs.Steps.{Under, rowOf, headsOf};
 ghost use Rattle.value.specs.Walk.{upto, lastBits, walkItem, walkFields};
 ghost use Rattle.value.specs.Write.{bytesAt, withMark, writeItem, partsFrom};
 ghost use Rattle.value.specs.Steps.{IsUpto};
-ghost use Rattle.value.specs.Stores.{Put, Begun, headAfter, tailAfter, Fields};
+ghost use Rattle.value.specs.Stores.{Put, Begun, headAfter, tailAfter, Owned, Fields};
 
 // How far the contents and the bodies are used, and where what was written ends.
 pub(crate) struct Stop {
@@ -132,16 +131,20 @@ fn put_selector(out: &mut [u8], at: usize, contents: &[u32], i: usize)
     out[at] = k as u8;
 }
 
-// The fixed portion of the n fields that the words from a0 on name.
-fn portion_of(lens: &[u32], layout: &[u8], t: usize, a0: usize, n: usize) -> usize
-    requires { ⌜ Row (now lens) (now layout) t a0 n × (portion (headsOf (now layout) t a0 n) < 2 ^ 32) ⌝ }
+// The fixed portion of the n fields of type t that the words from a0 on name: the type's own length where it has one.
+fn portion_of(lens: &[u32; 64], layout: &[u8], t: usize, a0: usize, n: usize) -> usize
+    requires { ⌜ Owned (now lens) (now layout) t a0 n ⌝ }
     ensures { λ r. ⌜ r ≡ portion (headsOf (now (layout .entry)) t a0 n) ⌝ }
 {
+    let own = lens[t] as usize;
+    if own > 0 {
+        return own;
+    }
     let mut a = a0;
     let mut left = n;
     let mut sum: usize = 0;
     while left > 0 {
-        let f = word_at(layout, a);
+        let f = word_in(layout, a);
         let k = width_of(lens[f] as usize);
         sum += k;
         a += 1;
@@ -189,7 +192,7 @@ fn next_tail(k: usize, q: usize, to: usize) -> usize
 pub(crate) fn write_item(
     out: &mut [u8],
     at: usize,
-    lens: &[u32],
+    lens: &[u32; 64],
     layout: &[u8],
     t: usize,
     contents: &[u32],
@@ -200,7 +203,7 @@ pub(crate) fn write_item(
     requires { ⌜ Under (now lens) (now layout) (t + 1) × IsUpto (walkItem (treeOf (now layout) t) (now contents) (now bodies) i j) × Room (now out) at (writeItem (treeOf (now layout) t) (now contents) (now bodies) i j) ⌝ }
     ensures { λ r. ⌜ Put (now (out .entry)) at (writeItem (treeOf (now (layout .entry)) t) (now (contents .entry)) (now (bodies .entry)) i j) (walkItem (treeOf (now (layout .entry)) t) (now (contents .entry)) (now (bodies .entry)) i j) r (now (out .exit)) ⌝ }
 {
-    let n = look(layout, t);
+    let n = look_in(layout, t);
     let first = n.at + 2;
     let k = n.second;
     if n.kind == 6 {
@@ -236,7 +239,7 @@ pub(crate) fn write_item(
 fn write_fields(
     out: &mut [u8],
     start: usize,
-    lens: &[u32],
+    lens: &[u32; 64],
     layout: &[u8],
     t: usize,
     a0: usize,
@@ -257,12 +260,12 @@ fn write_fields(
     let mut i = i0;
     let mut j = j0;
     while left > 0 {
-        let f = word_at(layout, a);
+        let f = word_in(layout, a);
+        let n = look_in(layout, f);
         let k = lens[f] as usize;
         a += 1;
         left -= 1;
-        let plain = is_plain(kind_of(layout, f));
-        if plain {
+        if is_plain(n.kind) {
             let byte = j + k;
             copy_into(out, p, &bodies[j..byte]);
             p += k;
@@ -270,7 +273,6 @@ fn write_fields(
             continue;
         }
         let at = begin(out, k, p, q, start);
-        let n = look(layout, f);
         let s = if n.kind < 6 {
             put_leaf(out, at, n, contents, bodies, i, j)
         } else {

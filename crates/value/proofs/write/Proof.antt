@@ -1,7 +1,7 @@
 -- As the table goes. Assumes nothing.
 use mathlib.Core.Path.{_≡_, refl, sym, ap, _∙_}
 use Rattle.standard.proofs.Bytes.{bytes-known}
-use Rattle.layout.proofs.Tables.{table-known, table-length}
+use Rattle.layout.proofs.Tables.{table-known}
 use Rattle.message.proofs.Rows.{under-table}
 use Rattle.value.specs.Write.{writeMessage, writtenBytes}
 use borrow.Author.Needs.{needs}
@@ -16,12 +16,6 @@ enum-known-c c = search needs
 
 enum-known-c-2 : tie.Need-enum-known-c-2
 enum-known-c-2 c = search needs
-
-slice-aggregate-write-under : tie.Need-slice-aggregate-write-under
-slice-aggregate-write-under c =
-    let c3 = c .before .before .before in
-    let c5 = c3 .before .before in
-    table-length _ _ _ (sym (c5 .table-of .ensures .0) ∙ c3 .c2 .given .1) (c5 .table-of .ensures .1)
 
 write-under-requires : tie.Need-write-under-requires
 write-under-requires c κs =
@@ -59,7 +53,6 @@ write-spec =
     table-of-requires
     enum-known-c
     enum-known-c-2
-    slice-aggregate-write-under
     write-under-requires
     returns
     same-length

@@ -1,30 +1,21 @@
 -- Three words of the table, of which a legal type has the first two. Assumes nothing.
-use mathlib.Core.Path.{_≡_, refl}
-use mathlib.Core.List.{List}
-use Prim.Native.Nat.{ℕ, _+_, _<_}
 use native.Mathlib.Omega.{arith}
 use borrow.Author.Needs.{needs}
-use Rattle.standard.specs.Bytes.{wordAt}
 use Rattle.layout.specs.Tree.{nodeOf}
 use Rattle.layout.specs.Table.{count}
-use Rattle.layout.specs.Legal.{Legal}
-use Rattle.layout.proofs.Facts.{legal-node}
+use Rattle.layout.proofs.Facts.{legal-words}
 use Rattle.message.proofs.words.look_in.Statement.{statement}
 use Rattle.message.proofs.words.look_in.Tie as tie
 
-two-there : (l : List ℕ) (t : ℕ) → Legal l (t + 1) → (1 + t < count l) × (wordAt l (1 + t) < count l)
-unfolding nodeOf
-two-there l t g = let n = legal-node l t (nodeOf l t) refl g in (n .listed, n .begun)
-
 add-word-in : tie.Need-add-word-in
 unfolding count
-add-word-in c = omega (arith, two-there _ _ (c .before .pre))
+add-word-in c = omega (arith, legal-words _ _ (c .before .pre))
 
 word-in-requires : tie.Need-word-in-requires
-word-in-requires c κs = two-there _ _ (c .before .pre) .0
+word-in-requires c κs = legal-words _ _ (c .before .pre) .0
 
 word-in-requires-2 : tie.Need-word-in-requires-2
-word-in-requires-2 c κs = rw (c .word-in .ensures .0) (two-there _ _ (c .before .before .pre) .1)
+word-in-requires-2 c κs = rw (c .word-in .ensures .0) (legal-words _ _ (c .before .before .pre) .1)
 
 add-word-at : tie.Need-add-word-at
 add-word-at c = search needs

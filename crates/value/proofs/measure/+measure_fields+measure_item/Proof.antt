@@ -6,7 +6,7 @@ use native.Mathlib.Omega.{arith}
 use borrow.Author.Needs.{needs}
 use Prim.Native.Nat.{_+_, _*_}
 use Rattle.layout.proofs.Facts.{as-leaf}
-use Rattle.message.proofs.Rows.{row-below, row-under, row-small, row-index, under-below}
+use Rattle.message.proofs.Rows.{row-there, row-legal, row-below, row-under, row-small, row-few, under-below}
 use Rattle.message.proofs.Bodies.{node-ok, container-row}
 use Rattle.value.specs.Steps.{measured}
 use Rattle.value.proofs.Unions.{bare-item, body-item, wrong-item, leaf-walk, leaf-write}
@@ -26,9 +26,8 @@ use Rattle.value.proofs.measure.+measure_fields+measure_item.Lts-measur
 use Rattle.value.proofs.measure.measure_item.Reads as measure-item
 use Rattle.value.proofs.measure.measure_item.Kinds as measure-item-kinds
 use Rattle.value.proofs.measure.+measure_fields+measure_item.Lts-measure_item as measure-item-lts
-use Rattle.layout.proofs.look.Reads as look-reads
-use Rattle.layout.proofs.kind_of.Reads as kind-of-reads
-use Rattle.standard.proofs.words.word_at.Reads as word-at-reads
+use Rattle.value.proofs.words.look_in.Reads as look-in-reads
+use Rattle.value.proofs.words.word_in.Reads as word-in-reads
 use Rattle.value.proofs.measure.add.Reads as add-reads
 use Rattle.value.proofs.measure.has.Reads as has-reads
 use Rattle.value.proofs.measure.is_plain.Reads as is-plain-reads
@@ -83,18 +82,16 @@ measure-fields-μ-loop lens layout t a0 n contents bodies i0 j0 sum₀ a₀ left
 -- what `measure_fields` calls, at the measure t
 abbrev measure-fields-calls : ℕ → measure-fields-lts.Claims
 measure-fields-calls t = (
-  word-at-reads.Asked,
-  word-at-reads.Learnt,
-  kind-of-reads.Asked,
-  kind-of-reads.Learnt,
+  word-in-reads.Asked,
+  word-in-reads.Learnt,
+  look-in-reads.Asked,
+  look-in-reads.Learnt,
   is-plain-reads.Asked,
   is-plain-reads.Learnt,
   has-reads.Asked,
   has-reads.Learnt,
   add-reads.Asked,
   add-reads.Learnt,
-  look-reads.Asked,
-  look-reads.Learnt,
   measure-leaf-reads.Asked,
   measure-leaf-reads.Learnt,
   measure-item-below t,
@@ -106,8 +103,8 @@ measure-fields-calls t = (
 -- what `measure_item` calls, at the measure t
 abbrev measure-item-calls : ℕ → measure-item-lts.Claims
 measure-item-calls t = (
-  look-reads.Asked,
-  look-reads.Learnt,
+  look-in-reads.Asked,
+  look-in-reads.Learnt,
   measure-fields-below t,
   measure-fields.Post,
   select-reads.Asked,
@@ -120,49 +117,71 @@ measure-item-calls t = (
   measure-leaf-reads.Learnt,
 )
 
+-- What is measured of a field that is not plain, whichever way.
+measure-fields-told : (t : ℕ) → (c : measure-fields-lts.Joined3 (measure-fields-calls t) (measure-fields-at t) measure-fields.Post
+    measure-fields-Inv-loop measure-fields-μ-loop) →
+    let c6 = c .before .before .before .before .before .before in
+    let c8 = c6 .before .before in
+    let args = c8 .before .before .before .before .args in
+    let tree = treeOf (args .layout .now) (c6 .word-in .result) in
+    c .if3 .r ≡ measured (walkItem tree (args .contents .now) (args .bodies .now) (c8 .loop .i) (c8 .loop .j))
+    (length (writeItem tree (args .contents .now) (args .bodies .now) (c8 .loop .i) (c8 .loop .j)))
+measure-fields-told t c =
+    ⊎-elim
+    (λ h. h .2 ∙ below-measured _ _ _ (c .before .before .before .before .before .look-in .ensures) (h .0 .taken) _ _ _ _ _ (h .1 .ensures))
+    (λ h. h .2 ∙ h .1 .ensures)
+    (c .if3 .came)
+
 measure-fields-loop-holds : (t : ℕ) → measure-fields-lts.Need-loop-holds (measure-fields-calls t) (measure-fields-at t) measure-fields.Post
     measure-fields-Inv-loop measure-fields-μ-loop
 measure-fields-loop-holds t c =
-    let c4 = c .before .before .before .before in
-    measuring-none _ _ _ _ _ _ _ _ _ (c4 .pre .1)
+    let c3 = c .before .before .before in
+    measuring-none _ _ _ _ _ _ _ _ _ (c3 .pre .1)
 
-measure-fields-word-at-requires : (t : ℕ) → measure-fields-lts.Need-word-at-requires (measure-fields-calls t) (measure-fields-at t) measure-fields.Post
+measure-fields-word-in-requires : (t : ℕ) → measure-fields-lts.Need-word-in-requires (measure-fields-calls t) (measure-fields-at t) measure-fields.Post
     measure-fields-Inv-loop measure-fields-μ-loop
-measure-fields-word-at-requires t c κs = search needs
+measure-fields-word-in-requires t c κs =
+    let c1 = c .before in
+    row-there _ _ _ _ _ (c1 .loop .inv .row) (c .loop-test .taken)
+
+measure-fields-look-in-requires : (t : ℕ) → measure-fields-lts.Need-look-in-requires (measure-fields-calls t) (measure-fields-at t) measure-fields.Post
+    measure-fields-Inv-loop measure-fields-μ-loop
+measure-fields-look-in-requires t c κs =
+    let c1 = c .before in
+    let c2 = c1 .before in
+    row-legal _ _ _ _ _ _ (c2 .loop .inv .row) (c1 .loop-test .taken) (c .word-in .ensures .0)
 
 measure-fields-mul-k : (t : ℕ) → measure-fields-lts.Need-mul-k (measure-fields-calls t) (measure-fields-at t) measure-fields.Post
     measure-fields-Inv-loop measure-fields-μ-loop
-measure-fields-mul-k t c = omega (arith, c .word-at .ensures .1)
+measure-fields-mul-k t c =
+    let c1 = c .before in
+    omega (arith, c1 .word-in .ensures .1)
 
-measure-fields-shared-slice-read-k : (t : ℕ) → measure-fields-lts.Need-shared-slice-read-k (measure-fields-calls t) (measure-fields-at t) measure-fields.Post
+measure-fields-element-copy-out-k : (t : ℕ) → measure-fields-lts.Need-element-copy-out-k (measure-fields-calls t) (measure-fields-at t) measure-fields.Post
     measure-fields-Inv-loop measure-fields-μ-loop
-measure-fields-shared-slice-read-k t c =
+measure-fields-element-copy-out-k t c =
     let c1 = c .before in
     let c2 = c1 .before in
     let c3 = c2 .before in
-    row-index _ _ _ _ _ _ (c3 .loop .inv .row) (c2 .loop-test .taken) (c1 .word-at .ensures .0)
+    row-few _ _ _ _ _ _ (c3 .loop .inv .row) (c2 .loop-test .taken) (c1 .word-in .ensures .0)
 
 measure-fields-cast-k : (t : ℕ) → measure-fields-lts.Need-cast-k (measure-fields-calls t) (measure-fields-at t) measure-fields.Post
     measure-fields-Inv-loop measure-fields-μ-loop
 measure-fields-cast-k t c =
-    let c1 = c .before in
-    let c2 = c1 .before in
+    let c2 = c .before .before in
     let c3 = c2 .before in
-    omega (arith, row-small _ _ _ _ _ _ (c3 .loop .inv .row) (c2 .loop-test .taken) (c1 .word-at .ensures .0))
+    let c4 = c3 .before in
+    omega (arith, row-small _ _ _ _ _ _ (c4 .loop .inv .row) (c3 .loop-test .taken) (c2 .word-in .ensures .0))
 
 measure-fields-add-a : (t : ℕ) → measure-fields-lts.Need-add-a (measure-fields-calls t) (measure-fields-at t) measure-fields.Post
     measure-fields-Inv-loop measure-fields-μ-loop
 measure-fields-add-a t c =
-    let c3 = c .before .before .before in
-    omega (arith, c3 .loop .inv .row .near)
+    let c4 = c .before .before .before .before in
+    omega (arith, c4 .loop .inv .row .near)
 
 measure-fields-sub-left : (t : ℕ) → measure-fields-lts.Need-sub-left (measure-fields-calls t) (measure-fields-at t) measure-fields.Post
     measure-fields-Inv-loop measure-fields-μ-loop
 measure-fields-sub-left t c = omega arith
-
-measure-fields-kind-of-requires : (t : ℕ) → measure-fields-lts.Need-kind-of-requires (measure-fields-calls t) (measure-fields-at t) measure-fields.Post
-    measure-fields-Inv-loop measure-fields-μ-loop
-measure-fields-kind-of-requires t c κs = search needs
 
 measure-fields-is-plain-requires : (t : ℕ) → measure-fields-lts.Need-is-plain-requires (measure-fields-calls t) (measure-fields-at t) measure-fields.Post
     measure-fields-Inv-loop measure-fields-μ-loop
@@ -178,14 +197,14 @@ measure-fields-returns t c =
     let c1 = c .before in
     let c2 = c1 .before in
     let c3 = c2 .before in
-    let c4 = c3 .before in
-    let c6 = c4 .before .before in
+    let c5 = c3 .before .before in
+    let c6 = c5 .before in
     let c7 = c6 .before in
     let c8 = c7 .before in
     let field =
-    plain-field _ _ _ _ _ _ (c8 .loop .inv .row) (c7 .loop-test .taken) (c6 .word-at .ensures .0) _ refl _ (c4 .kind-of .ensures)
+    plain-field _ _ _ _ _ _ (c8 .loop .inv .row) (c7 .loop-test .taken) (c6 .word-in .ensures .0) _ refl _ (c5 .look-in .ensures)
     (sym (c3 .is-plain .ensures) ∙ c2 .if1 .taken) in
-    measuring-short _ _ _ _ _ _ _ _ _ _ _ _ _ _ _ (c8 .loop .inv) (c7 .loop-test .taken) (c6 .word-at .ensures .0) _ refl field
+    measuring-short _ _ _ _ _ _ _ _ _ _ _ _ _ _ _ (c8 .loop .inv) (c7 .loop-test .taken) (c6 .word-in .ensures .0) _ refl field
     (sym (c1 .has .ensures) ∙ not-true (c1 .has .result) (c .if2 .taken))
 
 measure-fields-add-j : (t : ℕ) → measure-fields-lts.Need-add-j (measure-fields-calls t) (measure-fields-at t) measure-fields.Post
@@ -194,10 +213,11 @@ measure-fields-add-j t c =
     let c1 = c .before in
     let c6 = c1 .before .before .before .before .before in
     let c8 = c6 .before .before in
-    let args = c8 .before .before .before .before .before .args in
-    let there = leb-true (c8 .loop .j + getD (args .lens .now) (c6 .word-at .result) 0) (length (args .bodies .now))
+    let c12 = c8 .before .before .before .before in
+    let args = c12 .args in
+    let there = leb-true (c8 .loop .j + getD (args .lens .now) (c6 .word-in .result) 0) (length (args .bodies .now))
     (sym (c1 .has .ensures) ∙ not-false (c1 .has .result) (c .if2 .left)) in
-    omega (arith, there, c8 .before .before .before .before .before .good)
+    omega (arith, there, c12 .good)
 
 measure-fields-add-requires : (t : ℕ) → measure-fields-lts.Need-add-requires (measure-fields-calls t) (measure-fields-at t) measure-fields.Post
     measure-fields-Inv-loop measure-fields-μ-loop
@@ -210,23 +230,20 @@ measure-fields-loop-less t c = omega arith
 measure-fields-loop-again : (t : ℕ) → measure-fields-lts.Need-loop-again (measure-fields-calls t) (measure-fields-at t) measure-fields.Post
     measure-fields-Inv-loop measure-fields-μ-loop
 measure-fields-loop-again t c =
-    let c2 = c .before .before in
+    let c1 = c .before in
+    let c2 = c1 .before in
     let c3 = c2 .before in
     let c4 = c3 .before in
-    let c5 = c4 .before in
-    let c7 = c5 .before .before in
+    let c6 = c4 .before .before in
+    let c7 = c6 .before in
     let c8 = c7 .before in
     let c9 = c8 .before in
     let field =
-    plain-field _ _ _ _ _ _ (c9 .loop .inv .row) (c8 .loop-test .taken) (c7 .word-at .ensures .0) _ refl _ (c5 .kind-of .ensures)
+    plain-field _ _ _ _ _ _ (c9 .loop .inv .row) (c8 .loop-test .taken) (c7 .word-in .ensures .0) _ refl _ (c6 .look-in .ensures)
     (sym (c4 .is-plain .ensures) ∙ c3 .if1 .taken) in
     rw (c .add .ensures)
-    (measuring-plain _ _ _ _ _ _ _ _ _ _ _ _ _ _ _ (c9 .loop .inv) (c8 .loop-test .taken) (c7 .word-at .ensures .0) _ refl field
-    (sym (c2 .has .ensures) ∙ not-false (c2 .has .result) (c .before .if2 .left)))
-
-measure-fields-look-requires : (t : ℕ) → measure-fields-lts.Need-look-requires (measure-fields-calls t) (measure-fields-at t) measure-fields.Post
-    measure-fields-Inv-loop measure-fields-μ-loop
-measure-fields-look-requires t c κs = search needs
+    (measuring-plain _ _ _ _ _ _ _ _ _ _ _ _ _ _ _ (c9 .loop .inv) (c8 .loop-test .taken) (c7 .word-in .ensures .0) _ refl field
+    (sym (c2 .has .ensures) ∙ not-false (c2 .has .result) (c1 .if2 .left)))
 
 measure-fields-measure-leaf-requires : (t : ℕ) → measure-fields-lts.Need-measure-leaf-requires (measure-fields-calls t) (measure-fields-at t)
     measure-fields.Post measure-fields-Inv-loop measure-fields-μ-loop
@@ -235,28 +252,14 @@ measure-fields-measure-leaf-requires t c κs = search needs
 measure-fields-measure-item-requires : (t : ℕ) → measure-fields-lts.Need-measure-item-requires (measure-fields-calls t) (measure-fields-at t)
     measure-fields.Post measure-fields-Inv-loop measure-fields-μ-loop
 measure-fields-measure-item-requires t c κs =
-    let c7 = c .before .before .before .before .before .before .before in
+    let c6 = c .before .before .before .before .before .before in
+    let c7 = c6 .before in
     let c8 = c7 .before in
-    let c9 = c8 .before in
-    let c14 = c9 .before .before .before .before .before in (
-      omega (arith, row-below _ _ _ _ _ _ (c9 .loop .inv .row) (c8 .loop-test .taken) (c7 .word-at .ensures .0), c14 .pre .0),
-      row-under _ _ _ _ _ _ (c9 .loop .inv .row) (c8 .loop-test .taken) (c7 .word-at .ensures .0),
+    let c12 = c8 .before .before .before .before in
+    (
+      omega (arith, row-below _ _ _ _ _ _ (c8 .loop .inv .row) (c7 .loop-test .taken) (c6 .word-in .ensures .0), c12 .pre .0),
+      row-under _ _ _ _ _ _ (c8 .loop .inv .row) (c7 .loop-test .taken) (c6 .word-in .ensures .0),
     )
-
--- What is measured of a field that is not plain, whichever way.
-measure-fields-told : (t : ℕ) → (c : measure-fields-lts.Joined3 (measure-fields-calls t) (measure-fields-at t) measure-fields.Post
-    measure-fields-Inv-loop measure-fields-μ-loop) →
-    let c7 = c .before .before .before .before .before .before .before in
-    let c9 = c7 .before .before in
-    let args = c9 .before .before .before .before .before .args in
-    let tree = treeOf (args .layout .now) (c7 .word-at .result) in
-    c .if3 .r ≡ measured (walkItem tree (args .contents .now) (args .bodies .now) (c9 .loop .i) (c9 .loop .j))
-    (length (writeItem tree (args .contents .now) (args .bodies .now) (c9 .loop .i) (c9 .loop .j)))
-measure-fields-told t c =
-    ⊎-elim
-    (λ h. h .2 ∙ below-measured _ _ _ (c .before .before .look .ensures) (h .0 .taken) _ _ _ _ _ (h .1 .ensures))
-    (λ h. h .2 ∙ h .1 .ensures)
-    (c .if3 .came)
 
 measure-fields-enum-known-r : (t : ℕ) → measure-fields-lts.Need-enum-known-r (measure-fields-calls t) (measure-fields-at t) measure-fields.Post
     measure-fields-Inv-loop measure-fields-μ-loop
@@ -280,11 +283,11 @@ measure-fields-loop-again-2 t c =
     let c1 = c .before in
     let c3 = c1 .before .before in
     let c5 = c3 .before .before in
-    let c12 = c5 .before .before .before .before .before .before .before in
+    let c11 = c5 .before .before .before .before .before .before in
+    let c12 = c11 .before in
     let c13 = c12 .before in
-    let c14 = c13 .before in
     rw (c .add2 .ensures)
-    (measuring-next _ _ _ _ _ _ _ _ _ _ _ _ _ _ _ (c14 .loop .inv) (c13 .loop-test .taken) (c12 .word-at .ensures .0) _
+    (measuring-next _ _ _ _ _ _ _ _ _ _ _ _ _ _ _ (c13 .loop .inv) (c12 .loop-test .taken) (c11 .word-in .ensures .0) _
     (sym (c3 .r .given .1) ∙ measure-fields-told t c5) _ refl _ (c1 .with-offset .ensures))
 
 measure-fields-enum-known-r-2 : (t : ℕ) → measure-fields-lts.Need-enum-known-r-2 (measure-fields-calls t) (measure-fields-at t) measure-fields.Post
@@ -296,35 +299,40 @@ measure-fields-returns-2 : (t : ℕ) → measure-fields-lts.Need-returns-2 (meas
 measure-fields-returns-2 t c =
     let c1 = c .before in
     let c3 = c1 .before .before in
-    let c10 = c3 .before .before .before .before .before .before .before in
+    let c9 = c3 .before .before .before .before .before .before in
+    let c10 = c9 .before in
     let c11 = c10 .before in
-    let c12 = c11 .before in
-    measuring-stop _ _ _ _ _ _ _ _ _ _ _ _ _ _ _ (c12 .loop .inv) (c11 .loop-test .taken) (c10 .word-at .ensures .0) _
+    measuring-stop _ _ _ _ _ _ _ _ _ _ _ _ _ _ _ (c11 .loop .inv) (c10 .loop-test .taken) (c9 .word-in .ensures .0) _
     (sym (c1 .r2 .given .1) ∙ measure-fields-told t c3)
 
 measure-fields-returns-3 : (t : ℕ) → measure-fields-lts.Need-returns-3 (measure-fields-calls t) (measure-fields-at t) measure-fields.Post
     measure-fields-Inv-loop measure-fields-μ-loop
-measure-fields-returns-3 t c = measuring-end _ _ _ _ _ _ _ _ _ _ _ _ _ _ (c .before .loop .inv) (c .loop-test .left)
+measure-fields-returns-3 t c =
+    let c1 = c .before in
+    measuring-end _ _ _ _ _ _ _ _ _ _ _ _ _ _ (c1 .loop .inv) (c .loop-test .left)
 
-measure-item-look-requires : (t : ℕ) → measure-item-lts.Need-look-requires (measure-item-calls t) (measure-item-at t) measure-item.Post
-measure-item-look-requires t c κs = search needs
+measure-item-look-in-requires : (t : ℕ) → measure-item-lts.Need-look-in-requires (measure-item-calls t) (measure-item-at t) measure-item.Post
+measure-item-look-in-requires t c κs =
+    let c3 = c .before .before .before in
+    c3 .pre .1 .legal
 
 measure-item-add-first : (t : ℕ) → measure-item-lts.Need-add-first (measure-item-calls t) (measure-item-at t) measure-item.Post
 measure-item-add-first t c =
-    let c6 = c .before .before .before .before .before .before in
-    omega (arith, node-ok _ _ _ _ (c .before .look .ensures) (c6 .pre .1) .near)
+    let c1 = c .before in
+    let c5 = c1 .before .before .before .before in
+    omega (arith, node-ok _ _ _ _ (c1 .look-in .ensures) (c5 .pre .1) .near)
 
 measure-item-measure-fields-requires : (t : ℕ) → measure-item-lts.Need-measure-fields-requires (measure-item-calls t) (measure-item-at t) measure-item.Post
 measure-item-measure-fields-requires t c κs =
     let c3 = c .before .before .before in
-    let c8 = c3 .before .before .before .before .before in
-    (omega (arith, c8 .pre .0), container-row _ _ _ _ (c3 .look .ensures) (c8 .pre .1) (c .if1 .taken))
+    let c7 = c3 .before .before .before .before in
+    (omega (arith, c7 .pre .0), container-row _ _ _ _ (c3 .look-in .ensures) (c7 .pre .1) (c .if1 .taken))
 
 measure-item-select-requires : (t : ℕ) → measure-item-lts.Need-select-requires (measure-item-calls t) (measure-item-at t) measure-item.Post
 measure-item-select-requires t c κs =
     let c5 = c .before .before .before .before .before in
-    let c10 = c5 .before .before .before .before .before in
-    omega (arith, node-ok _ _ _ _ (c5 .look .ensures) (c10 .pre .1) .near)
+    let c9 = c5 .before .before .before .before in
+    omega (arith, node-ok _ _ _ _ (c5 .look-in .ensures) (c9 .pre .1) .near)
 
 measure-item-enum-told : (t : ℕ) → measure-item-lts.Need-enum-told (measure-item-calls t) (measure-item-at t) measure-item.Post
 measure-item-enum-told t c = search needs
@@ -334,10 +342,10 @@ measure-item-add-word t c =
     let c2 = c .before .before in
     let c3 = c2 .before in
     let c8 = c3 .before .before .before .before .before in
-    let c13 = c8 .before .before .before .before .before in
+    let c12 = c8 .before .before .before .before in
     omega (
       arith,
-      bare-item _ _ _ (c8 .look .ensures) (c3 .if2 .taken) _ (c13 .args .bodies .now) _ (c13 .args .j)
+      bare-item _ _ _ (c8 .look-in .ensures) (c3 .if2 .taken) _ (c12 .args .bodies .now) _ (c12 .args .j)
           (sym (c .enum-told .given .1) ∙ c2 .select .ensures) .2,
     )
 
@@ -346,25 +354,27 @@ measure-item-enum-known-c t c = search needs
 
 measure-item-add-word-2 : (t : ℕ) → measure-item-lts.Need-add-word-2 (measure-item-calls t) (measure-item-at t) measure-item.Post
 measure-item-add-word-2 t c =
-    let c3 = c .before .before .before in
+    let c1 = c .before in
+    let c3 = c1 .before .before in
     let c4 = c3 .before in
     let c9 = c4 .before .before .before .before .before in
-    let c14 = c9 .before .before .before .before .before in
+    let c13 = c9 .before .before .before .before in
     omega (
       arith,
-      body-item _ _ _ (c9 .look .ensures) (c4 .if2 .taken) _ (c14 .args .bodies .now) _ (c14 .args .j) ((c14 .pre .1) .legal) _
-          (sym (c .before .c .given .1) ∙ c3 .select .ensures) .2,
+      body-item _ _ _ (c9 .look-in .ensures) (c4 .if2 .taken) _ (c13 .args .bodies .now) _ (c13 .args .j) ((c13 .pre .1) .legal) _
+          (sym (c1 .c .given .1) ∙ c3 .select .ensures) .2,
     )
 
 measure-item-measure-item-requires : (t : ℕ) → measure-item-lts.Need-measure-item-requires (measure-item-calls t) (measure-item-at t) measure-item.Post
 measure-item-measure-item-requires t c κs =
-    let c3 = c .before .before .before in
+    let c1 = c .before in
+    let c3 = c1 .before .before in
     let c4 = c3 .before in
     let c9 = c4 .before .before .before .before .before in
-    let c14 = c9 .before .before .before .before .before in
-    let z = body-item _ _ _ (c9 .look .ensures) (c4 .if2 .taken) _ (c14 .args .bodies .now) _ (c14 .args .j) ((c14 .pre .1) .legal) _
-    (sym (c .before .c .given .1) ∙ c3 .select .ensures) .4 in
-    (omega (arith, c14 .pre .0, z), under-below _ _ _ _ (omega (arith, z)) (c14 .pre .1))
+    let c13 = c9 .before .before .before .before in
+    let z = body-item _ _ _ (c9 .look-in .ensures) (c4 .if2 .taken) _ (c13 .args .bodies .now) _ (c13 .args .j) ((c13 .pre .1) .legal) _
+    (sym (c1 .c .given .1) ∙ c3 .select .ensures) .4 in
+    (omega (arith, c13 .pre .0, z), under-below _ _ _ _ (omega (arith, z)) (c13 .pre .1))
 
 measure-item-with-selector-requires : (t : ℕ) → measure-item-lts.Need-with-selector-requires (measure-item-calls t) (measure-item-at t) measure-item.Post
 measure-item-with-selector-requires t c κs = search needs
@@ -377,8 +387,9 @@ measure-item-measure-leaf-requires t c κs = search needs
 
 measure-item-returns : (t : ℕ) → measure-item-lts.Need-returns (measure-item-calls t) (measure-item-at t) measure-item.Post
 measure-item-returns t c =
-    let c4 = c .before .before .before .before in
-    rw (container-walk _ _ _ (c4 .look .ensures) (c .before .if1 .taken), container-write _ _ _ (c4 .look .ensures) (c .before .if1 .taken))
+    let c1 = c .before in
+    let c4 = c1 .before .before .before in
+    rw (container-walk _ _ _ (c4 .look-in .ensures) (c1 .if1 .taken), container-write _ _ _ (c4 .look-in .ensures) (c1 .if1 .taken))
     (c .measure-fields .ensures)
 
 measure-item-returns-2 : (t : ℕ) → measure-item-lts.Need-returns-2 (measure-item-calls t) (measure-item-at t) measure-item.Post
@@ -386,39 +397,42 @@ measure-item-returns-2 t c =
     let c2 = c .before .before in
     let c3 = c2 .before in
     let c8 = c3 .before .before .before .before .before in
-    let c13 = c8 .before .before .before .before .before in
+    let c12 = c8 .before .before .before .before in
     rw (
-      bare-item _ _ _ (c8 .look .ensures) (c3 .if2 .taken) _ (c13 .args .bodies .now) _ (c13 .args .j)
+      bare-item _ _ _ (c8 .look-in .ensures) (c3 .if2 .taken) _ (c12 .args .bodies .now) _ (c12 .args .j)
           (sym (c .enum-told .given .1) ∙ c2 .select .ensures) .0,
-      bare-item _ _ _ (c8 .look .ensures) (c3 .if2 .taken) _ (c13 .args .bodies .now) _
-          (c13 .args .j) (sym (c .enum-told .given .1) ∙ c2 .select .ensures) .1,
+      bare-item _ _ _ (c8 .look-in .ensures) (c3 .if2 .taken) _ (c12 .args .bodies .now) _
+          (c12 .args .j) (sym (c .enum-told .given .1) ∙ c2 .select .ensures) .1,
     )
 
 measure-item-returns-3 : (t : ℕ) → measure-item-lts.Need-returns-3 (measure-item-calls t) (measure-item-at t) measure-item.Post
 measure-item-returns-3 t c =
-    let c3 = c .before .before .before in
+    let c1 = c .before in
+    let c3 = c1 .before .before in
     let c5 = c3 .before .before in
     let c6 = c5 .before in
     let c11 = c6 .before .before .before .before .before in
-    let c16 = c11 .before .before .before .before .before in
-    let z = body-item _ _ _ (c11 .look .ensures) (c6 .if2 .taken) _ (c16 .args .bodies .now) _ (c16 .args .j) ((c16 .pre .1) .legal) _
+    let c15 = c11 .before .before .before .before in
+    let z = body-item _ _ _ (c11 .look-in .ensures) (c6 .if2 .taken) _ (c15 .args .bodies .now) _ (c15 .args .j) ((c15 .pre .1) .legal) _
     (sym (c3 .c .given .1) ∙ c5 .select .ensures) in
-    selected-item _ _ _ _ _ (z .0) (z .1) _ _ (c .with-selector .ensures) (c .before .measure-item .ensures)
+    selected-item _ _ _ _ _ (z .0) (z .1) _ _ (c .with-selector .ensures) (c1 .measure-item .ensures)
 
 measure-item-returns-4 : (t : ℕ) → measure-item-lts.Need-returns-4 (measure-item-calls t) (measure-item-at t) measure-item.Post
 measure-item-returns-4 t c =
-    let c3 = c .before .before .before in
+    let c1 = c .before in
+    let c3 = c1 .before .before in
     let c4 = c3 .before in
     let c9 = c4 .before .before .before .before .before in
-    let c14 = c9 .before .before .before .before .before in
-    rw (wrong-item _ _ _ (c9 .look .ensures) (c4 .if2 .taken) _ (c14 .args .bodies .now) _ (c14 .args .j) _
-    (sym (c .before .c2 .given .1) ∙ c3 .select .ensures))
+    let c13 = c9 .before .before .before .before in
+    rw (wrong-item _ _ _ (c9 .look-in .ensures) (c4 .if2 .taken) _ (c13 .args .bodies .now) _ (c13 .args .j) _
+    (sym (c1 .c2 .given .1) ∙ c3 .select .ensures))
 
 measure-item-returns-5 : (t : ℕ) → measure-item-lts.Need-returns-5 (measure-item-calls t) (measure-item-at t) measure-item.Post
 measure-item-returns-5 t c =
-    let c3 = c .before .before .before in
+    let c1 = c .before in
+    let c3 = c1 .before .before in
     let c6 = c3 .before .before .before in
-    rw (as-leaf _ _ _ (c6 .look .ensures) (c3 .if1 .left) (c .before .if2 .left), leaf-walk, leaf-write) (c .measure-leaf .ensures)
+    rw (as-leaf _ _ _ (c6 .look-in .ensures) (c3 .if1 .left) (c1 .if2 .left), leaf-walk, leaf-write) (c .measure-leaf .ensures)
 
 pub +measure-fields+measure-item-spec : {M : Type 1} → statement M
 +measure-fields+measure-item-spec =
@@ -428,13 +442,13 @@ pub +measure-fields+measure-item-spec : {M : Type 1} → statement M
     measure-fields-Inv-loop
     measure-fields-μ-loop
     (measure-fields-loop-holds t)
-    (measure-fields-word-at-requires t)
+    (measure-fields-word-in-requires t)
+    (measure-fields-look-in-requires t)
     (measure-fields-mul-k t)
-    (measure-fields-shared-slice-read-k t)
+    (measure-fields-element-copy-out-k t)
     (measure-fields-cast-k t)
     (measure-fields-add-a t)
     (measure-fields-sub-left t)
-    (measure-fields-kind-of-requires t)
     (measure-fields-is-plain-requires t)
     (measure-fields-has-requires t)
     (measure-fields-returns t)
@@ -442,7 +456,6 @@ pub +measure-fields+measure-item-spec : {M : Type 1} → statement M
     (measure-fields-add-requires t)
     (measure-fields-loop-less t)
     (measure-fields-loop-again t)
-    (measure-fields-look-requires t)
     (measure-fields-measure-leaf-requires t)
     (measure-fields-measure-item-requires t)
     (measure-fields-enum-known-r t)
@@ -456,7 +469,7 @@ pub +measure-fields+measure-item-spec : {M : Type 1} → statement M
     λ t. measure-item-lts.spec (measure-item-calls t)
     (measure-item-at t)
     measure-item.Post
-    (measure-item-look-requires t)
+    (measure-item-look-in-requires t)
     (measure-item-add-first t)
     (measure-item-measure-fields-requires t)
     (measure-item-select-requires t)

@@ -6,7 +6,7 @@ use Prim.Native.Nat.{_+_, _*_}
 use lib.Seq.{sets}
 use Rattle.standard.specs.Parts.{join}
 use Rattle.message.specs.Steps.{rowOf}
-use Rattle.message.proofs.Rows.{row-below, row-under, row-small, row-index, under-below}
+use Rattle.message.proofs.Rows.{row-there, row-legal, row-below, row-under, row-small, row-few, under-below}
 use Rattle.message.proofs.Bodies.{node-ok}
 use Rattle.value.specs.Walk.{walkFields}
 use Rattle.value.specs.Write.{partsFrom}
@@ -25,9 +25,8 @@ use Rattle.value.proofs.store.+write_fields+write_item.Lts-write_fields
 use Rattle.value.proofs.store.write_item.Reads as write-item
 use Rattle.value.proofs.store.write_item.Kinds as write-item-kinds
 use Rattle.value.proofs.store.+write_fields+write_item.Lts-write_item as write-item-lts
-use Rattle.layout.proofs.kind_of.Reads as kind-of-reads
-use Rattle.layout.proofs.look.Reads as look-reads
-use Rattle.standard.proofs.words.word_at.Reads as word-at-reads
+use Rattle.value.proofs.words.look_in.Reads as look-in-reads
+use Rattle.value.proofs.words.word_in.Reads as word-in-reads
 use Rattle.value.proofs.measure.is_plain.Reads as is-plain-reads
 use Rattle.value.proofs.measure.select.Reads as select-reads
 use Rattle.value.proofs.store.begin.Reads as begin-reads
@@ -80,18 +79,16 @@ abbrev write-fields-calls : ℕ → write-fields-lts.Claims
 write-fields-calls t = (
   portion-of-reads.Asked,
   portion-of-reads.Learnt,
-  word-at-reads.Asked,
-  word-at-reads.Learnt,
-  kind-of-reads.Asked,
-  kind-of-reads.Learnt,
+  word-in-reads.Asked,
+  word-in-reads.Learnt,
+  look-in-reads.Asked,
+  look-in-reads.Learnt,
   is-plain-reads.Asked,
   is-plain-reads.Learnt,
   copy-into-reads.Asked,
   copy-into-reads.Learnt,
   begin-reads.Asked,
   begin-reads.Learnt,
-  look-reads.Asked,
-  look-reads.Learnt,
   put-leaf-reads.Asked,
   put-leaf-reads.Learnt,
   write-item-below t,
@@ -105,8 +102,8 @@ write-fields-calls t = (
 -- what `write_item` calls, at the measure t
 abbrev write-item-calls : ℕ → write-item-lts.Claims
 write-item-calls t = (
-  look-reads.Asked,
-  look-reads.Learnt,
+  look-in-reads.Asked,
+  look-in-reads.Learnt,
   write-fields-below t,
   write-fields.Post,
   select-reads.Asked,
@@ -122,57 +119,65 @@ write-item-calls t = (
 write-fields-portion-of-requires : (t : ℕ) → write-fields-lts.Need-portion-of-requires (write-fields-calls t) (write-fields-at t) write-fields.Post
     write-fields-Inv-loop write-fields-μ-loop
 write-fields-portion-of-requires t c κs =
-    let c5 = c .before .before .before .before .before in
-    (c5 .pre .1 .row, c5 .pre .1 .short)
+    let c4 = c .before .before .before .before in
+    c4 .pre .1 .owned
 
 write-fields-add-q : (t : ℕ) → write-fields-lts.Need-add-q (write-fields-calls t) (write-fields-at t) write-fields.Post write-fields-Inv-loop
     write-fields-μ-loop
 write-fields-add-q t c =
-    let c6 = c .before .before .before .before .before .before in
-    omega (arith, fields-fit _ _ _ _ _ _ _ _ _ _ _ _ (c6 .pre .1) (c .portion-of .ensures), c6 .good)
+    let c5 = c .before .before .before .before .before in
+    omega (arith, fields-fit _ _ _ _ _ _ _ _ _ _ _ _ (c5 .pre .1) (c .portion-of .ensures), c5 .good)
 
 write-fields-loop-holds : (t : ℕ) → write-fields-lts.Need-loop-holds (write-fields-calls t) (write-fields-at t) write-fields.Post
     write-fields-Inv-loop write-fields-μ-loop
 write-fields-loop-holds t c =
-    let c6 = c .before .before .before .before .before .before in
-    writing-none _ _ _ _ _ _ _ _ _ _ _ _ (c6 .pre .1) (c .portion-of .ensures)
+    let c5 = c .before .before .before .before .before in
+    writing-none _ _ _ _ _ _ _ _ _ _ _ _ (c5 .pre .1) (c .portion-of .ensures)
 
-write-fields-word-at-requires : (t : ℕ) → write-fields-lts.Need-word-at-requires (write-fields-calls t) (write-fields-at t) write-fields.Post
+write-fields-word-in-requires : (t : ℕ) → write-fields-lts.Need-word-in-requires (write-fields-calls t) (write-fields-at t) write-fields.Post
     write-fields-Inv-loop write-fields-μ-loop
-write-fields-word-at-requires t c κs = search needs
+write-fields-word-in-requires t c κs =
+    let c1 = c .before in
+    row-there _ _ _ _ _ (c1 .loop .inv .row) (c .loop-test .taken)
+
+write-fields-look-in-requires : (t : ℕ) → write-fields-lts.Need-look-in-requires (write-fields-calls t) (write-fields-at t) write-fields.Post
+    write-fields-Inv-loop write-fields-μ-loop
+write-fields-look-in-requires t c κs =
+    let c1 = c .before in
+    let c2 = c1 .before in
+    row-legal _ _ _ _ _ _ (c2 .loop .inv .row) (c1 .loop-test .taken) (c .word-in .ensures .0)
 
 write-fields-mul-k : (t : ℕ) → write-fields-lts.Need-mul-k (write-fields-calls t) (write-fields-at t) write-fields.Post write-fields-Inv-loop
     write-fields-μ-loop
-write-fields-mul-k t c = omega (arith, c .word-at .ensures .1)
+write-fields-mul-k t c =
+    let c1 = c .before in
+    omega (arith, c1 .word-in .ensures .1)
 
-write-fields-shared-slice-read-k : (t : ℕ) → write-fields-lts.Need-shared-slice-read-k (write-fields-calls t) (write-fields-at t) write-fields.Post
+write-fields-element-copy-out-k : (t : ℕ) → write-fields-lts.Need-element-copy-out-k (write-fields-calls t) (write-fields-at t) write-fields.Post
     write-fields-Inv-loop write-fields-μ-loop
-write-fields-shared-slice-read-k t c =
-    let c2 = c .before .before in
+write-fields-element-copy-out-k t c =
+    let c1 = c .before in
+    let c2 = c1 .before in
     let c3 = c2 .before in
-    row-index _ _ _ _ _ _ (c3 .loop .inv .row) (c2 .loop-test .taken) (c .before .word-at .ensures .0)
+    row-few _ _ _ _ _ _ (c3 .loop .inv .row) (c2 .loop-test .taken) (c1 .word-in .ensures .0)
 
 write-fields-cast-k : (t : ℕ) → write-fields-lts.Need-cast-k (write-fields-calls t) (write-fields-at t) write-fields.Post write-fields-Inv-loop
     write-fields-μ-loop
 write-fields-cast-k t c =
-    let c1 = c .before in
-    let c2 = c1 .before in
+    let c2 = c .before .before in
     let c3 = c2 .before in
-    omega (arith, row-small _ _ _ _ _ _ (c3 .loop .inv .row) (c2 .loop-test .taken) (c1 .word-at .ensures .0))
+    let c4 = c3 .before in
+    omega (arith, row-small _ _ _ _ _ _ (c4 .loop .inv .row) (c3 .loop-test .taken) (c2 .word-in .ensures .0))
 
 write-fields-add-a : (t : ℕ) → write-fields-lts.Need-add-a (write-fields-calls t) (write-fields-at t) write-fields.Post
     write-fields-Inv-loop write-fields-μ-loop
 write-fields-add-a t c =
-    let c3 = c .before .before .before in
-    omega (arith, c3 .loop .inv .row .near)
+    let c4 = c .before .before .before .before in
+    omega (arith, c4 .loop .inv .row .near)
 
 write-fields-sub-left : (t : ℕ) → write-fields-lts.Need-sub-left (write-fields-calls t) (write-fields-at t) write-fields.Post
     write-fields-Inv-loop write-fields-μ-loop
 write-fields-sub-left t c = omega arith
-
-write-fields-kind-of-requires : (t : ℕ) → write-fields-lts.Need-kind-of-requires (write-fields-calls t) (write-fields-at t) write-fields.Post
-    write-fields-Inv-loop write-fields-μ-loop
-write-fields-kind-of-requires t c κs = search needs
 
 write-fields-is-plain-requires : (t : ℕ) → write-fields-lts.Need-is-plain-requires (write-fields-calls t) (write-fields-at t) write-fields.Post
     write-fields-Inv-loop write-fields-μ-loop
@@ -182,17 +187,17 @@ write-fields-add-byte : (t : ℕ) → write-fields-lts.Need-add-byte (write-fiel
     write-fields-Inv-loop write-fields-μ-loop
 write-fields-add-byte t c =
     let c1 = c .before in
-    let c2 = c1 .before in
-    let c4 = c2 .before .before in
+    let c3 = c1 .before .before in
+    let c4 = c3 .before in
     let c5 = c4 .before in
     let c6 = c5 .before in
-    let c13 = c6 .before .before .before .before .before .before .before in
+    let c12 = c6 .before .before .before .before .before .before in
     let field =
-    plain-field _ _ _ _ _ _ (c6 .loop .inv .row) (c5 .loop-test .taken) (c4 .word-at .ensures .0) _ refl _ (c2 .kind-of .ensures)
+    plain-field _ _ _ _ _ _ (c6 .loop .inv .row) (c5 .loop-test .taken) (c4 .word-in .ensures .0) _ refl _ (c3 .look-in .ensures)
     (sym (c1 .is-plain .ensures) ∙ c .if1 .taken) in
-    let there = writing-there _ _ _ _ _ _ _ _ _ _ _ _ _ _ _ _ _ _ _ (c13 .pre .1 .walk) (c6 .loop .inv) (c5 .loop-test .taken)
-    (c4 .word-at .ensures .0) _ refl field in
-    omega (arith, there, c13 .good)
+    let there = writing-there _ _ _ _ _ _ _ _ _ _ _ _ _ _ _ _ _ _ _ (c12 .pre .1 .walk) (c6 .loop .inv) (c5 .loop-test .taken)
+    (c4 .word-in .ensures .0) _ refl field in
+    omega (arith, there, c12 .good)
 
 write-fields-sub-copy-into : (t : ℕ) → write-fields-lts.Need-sub-copy-into (write-fields-calls t) (write-fields-at t) write-fields.Post
     write-fields-Inv-loop write-fields-μ-loop
@@ -207,16 +212,16 @@ write-fields-part-copy-into-end : (t : ℕ) → write-fields-lts.Need-part-copy-
 write-fields-part-copy-into-end t c =
     let c1 = c .before in
     let c2 = c1 .before in
-    let c3 = c2 .before in
-    let c5 = c3 .before .before in
+    let c4 = c2 .before .before in
+    let c5 = c4 .before in
     let c6 = c5 .before in
     let c7 = c6 .before in
-    let c14 = c7 .before .before .before .before .before .before .before in
+    let c13 = c7 .before .before .before .before .before .before in
     let field =
-    plain-field _ _ _ _ _ _ (c7 .loop .inv .row) (c6 .loop-test .taken) (c5 .word-at .ensures .0) _ refl _ (c3 .kind-of .ensures)
+    plain-field _ _ _ _ _ _ (c7 .loop .inv .row) (c6 .loop-test .taken) (c5 .word-in .ensures .0) _ refl _ (c4 .look-in .ensures)
     (sym (c2 .is-plain .ensures) ∙ c1 .if1 .taken) in
-    let there = writing-there _ _ _ _ _ _ _ _ _ _ _ _ _ _ _ _ _ _ _ (c14 .pre .1 .walk) (c7 .loop .inv) (c6 .loop-test .taken)
-    (c5 .word-at .ensures .0) _ refl field in
+    let there = writing-there _ _ _ _ _ _ _ _ _ _ _ _ _ _ _ _ _ _ _ (c13 .pre .1 .walk) (c7 .loop .inv) (c6 .loop-test .taken)
+    (c5 .word-in .ensures .0) _ refl field in
     there .0
 
 write-fields-copy-into-requires : (t : ℕ) → write-fields-lts.Need-copy-into-requires (write-fields-calls t) (write-fields-at t) write-fields.Post
@@ -224,16 +229,16 @@ write-fields-copy-into-requires : (t : ℕ) → write-fields-lts.Need-copy-into-
 write-fields-copy-into-requires t c κs =
     let c2 = c .before .before in
     let c3 = c2 .before in
-    let c4 = c3 .before in
-    let c6 = c4 .before .before in
+    let c5 = c3 .before .before in
+    let c6 = c5 .before in
     let c7 = c6 .before in
     let c8 = c7 .before in
-    let c15 = c8 .before .before .before .before .before .before .before in
+    let c14 = c8 .before .before .before .before .before .before in
     let field =
-    plain-field _ _ _ _ _ _ (c8 .loop .inv .row) (c7 .loop-test .taken) (c6 .word-at .ensures .0) _ refl _ (c4 .kind-of .ensures)
+    plain-field _ _ _ _ _ _ (c8 .loop .inv .row) (c7 .loop-test .taken) (c6 .word-in .ensures .0) _ refl _ (c5 .look-in .ensures)
     (sym (c3 .is-plain .ensures) ∙ c2 .if1 .taken) in
-    let there = writing-there _ _ _ _ _ _ _ _ _ _ _ _ _ _ _ _ _ _ _ (c15 .pre .1 .walk) (c8 .loop .inv) (c7 .loop-test .taken)
-    (c6 .word-at .ensures .0) _ refl field in
+    let there = writing-there _ _ _ _ _ _ _ _ _ _ _ _ _ _ _ _ _ _ _ (c14 .pre .1 .walk) (c8 .loop .inv) (c7 .loop-test .taken)
+    (c6 .word-in .ensures .0) _ refl field in
     simp (length-take, length-drop) (omega (arith, there))
 
 write-fields-add-p : (t : ℕ) → write-fields-lts.Need-add-p (write-fields-calls t) (write-fields-at t) write-fields.Post
@@ -241,17 +246,17 @@ write-fields-add-p : (t : ℕ) → write-fields-lts.Need-add-p (write-fields-cal
 write-fields-add-p t c =
     let c5 = c .before .before .before .before .before in
     let c6 = c5 .before in
-    let c7 = c6 .before in
-    let c9 = c7 .before .before in
+    let c8 = c6 .before .before in
+    let c9 = c8 .before in
     let c10 = c9 .before in
     let c11 = c10 .before in
-    let c18 = c11 .before .before .before .before .before .before .before in
+    let c17 = c11 .before .before .before .before .before .before in
     let field =
-    plain-field _ _ _ _ _ _ (c11 .loop .inv .row) (c10 .loop-test .taken) (c9 .word-at .ensures .0) _ refl _ (c7 .kind-of .ensures)
+    plain-field _ _ _ _ _ _ (c11 .loop .inv .row) (c10 .loop-test .taken) (c9 .word-in .ensures .0) _ refl _ (c8 .look-in .ensures)
     (sym (c6 .is-plain .ensures) ∙ c5 .if1 .taken) in
-    let there = writing-there _ _ _ _ _ _ _ _ _ _ _ _ _ _ _ _ _ _ _ (c18 .pre .1 .walk) (c11 .loop .inv) (c10 .loop-test .taken)
-    (c9 .word-at .ensures .0) _ refl field in
-    omega (arith, there, c11 .loop .inv .long, c18 .good)
+    let there = writing-there _ _ _ _ _ _ _ _ _ _ _ _ _ _ _ _ _ _ _ (c17 .pre .1 .walk) (c11 .loop .inv) (c10 .loop-test .taken)
+    (c9 .word-in .ensures .0) _ refl field in
+    omega (arith, there, c11 .loop .inv .long, c17 .good)
 
 write-fields-loop-less : (t : ℕ) → write-fields-lts.Need-loop-less (write-fields-calls t) (write-fields-at t) write-fields.Post
     write-fields-Inv-loop write-fields-μ-loop
@@ -263,16 +268,16 @@ write-fields-loop-again t c =
     let c2 = c .before .before in
     let c5 = c2 .before .before .before in
     let c6 = c5 .before in
-    let c7 = c6 .before in
-    let c9 = c7 .before .before in
+    let c8 = c6 .before .before in
+    let c9 = c8 .before in
     let c10 = c9 .before in
     let c11 = c10 .before in
-    let c18 = c11 .before .before .before .before .before .before .before in
+    let c17 = c11 .before .before .before .before .before .before in
     let field =
-    plain-field _ _ _ _ _ _ (c11 .loop .inv .row) (c10 .loop-test .taken) (c9 .word-at .ensures .0) _ refl _ (c7 .kind-of .ensures)
+    plain-field _ _ _ _ _ _ (c11 .loop .inv .row) (c10 .loop-test .taken) (c9 .word-in .ensures .0) _ refl _ (c8 .look-in .ensures)
     (sym (c6 .is-plain .ensures) ∙ c5 .if1 .taken) in
-    writing-plain _ _ _ _ _ _ _ _ _ _ _ _ _ _ _ _ _ _ _ (c18 .pre .1 .walk) (c11 .loop .inv) (c10 .loop-test .taken)
-    (c9 .word-at .ensures .0) _ refl field _ (c2 .copy-into .ensures)
+    writing-plain _ _ _ _ _ _ _ _ _ _ _ _ _ _ _ _ _ _ _ (c17 .pre .1 .walk) (c11 .loop .inv) (c10 .loop-test .taken)
+    (c9 .word-in .ensures .0) _ refl field _ (c2 .copy-into .ensures)
 
 write-fields-begin-requires : (t : ℕ) → write-fields-lts.Need-begin-requires (write-fields-calls t) (write-fields-at t) write-fields.Post
     write-fields-Inv-loop write-fields-μ-loop
@@ -280,58 +285,55 @@ write-fields-begin-requires t c κs =
     let c5 = c .before .before .before .before .before in
     let c6 = c5 .before in
     let c7 = c6 .before in
-    let c14 = c7 .before .before .before .before .before .before .before in
-    writing-order _ _ _ _ _ _ _ _ _ _ _ _ _ _ _ _ _ _ _ (c14 .pre .1 .walk) (c7 .loop .inv) (c6 .loop-test .taken) (c5 .word-at .ensures .0)
-
-write-fields-look-requires : (t : ℕ) → write-fields-lts.Need-look-requires (write-fields-calls t) (write-fields-at t) write-fields.Post
-    write-fields-Inv-loop write-fields-μ-loop
-write-fields-look-requires t c κs = search needs
+    let c13 = c7 .before .before .before .before .before .before in
+    writing-order _ _ _ _ _ _ _ _ _ _ _ _ _ _ _ _ _ _ _ (c13 .pre .1 .walk) (c7 .loop .inv) (c6 .loop-test .taken) (c5 .word-in .ensures .0)
 
 write-fields-put-leaf-requires : (t : ℕ) → write-fields-lts.Need-put-leaf-requires (write-fields-calls t) (write-fields-at t) write-fields.Post
     write-fields-Inv-loop write-fields-μ-loop
 write-fields-put-leaf-requires t c κs =
     let c1 = c .before in
-    let c3 = c1 .before .before in
-    let c6 = c3 .before .before .before in
-    let c12 = c6 .before .before .before .before .before .before in
+    let c5 = c1 .before .before .before .before in
+    let c10 = c5 .before .before .before .before .before in
+    let c11 = c10 .before in
+    let c12 = c11 .before in
     let c13 = c12 .before in
-    let c14 = c13 .before in
-    let c21 = c14 .before .before .before .before .before .before .before in
-    below-asked _ _ _ (c3 .look .ensures) (c1 .if2 .taken) _ _ _ _ _ _
-    (writing-upto _ _ _ _ _ _ _ _ _ _ _ _ _ _ _ _ _ _ _ (c21 .pre .1 .walk) (c14 .loop .inv) (c13 .loop-test .taken) (c12 .word-at .ensures .0))
-    (writing-room _ _ _ _ _ _ _ _ _ _ _ _ _ _ _ _ _ _ _ (c21 .pre .1 .walk) (c14 .loop .inv) (c13 .loop-test .taken) (c12 .word-at .ensures .0) _ refl _ _
-    (c6 .begin .ensures))
+    let c19 = c13 .before .before .before .before .before .before in
+    below-asked _ _ _ (c10 .look-in .ensures) (c1 .if2 .taken) _ _ _ _ _ _
+    (writing-upto _ _ _ _ _ _ _ _ _ _ _ _ _ _ _ _ _ _ _ (c19 .pre .1 .walk) (c13 .loop .inv) (c12 .loop-test .taken) (c11 .word-in .ensures .0))
+    (writing-room _ _ _ _ _ _ _ _ _ _ _ _ _ _ _ _ _ _ _ (c19 .pre .1 .walk) (c13 .loop .inv) (c12 .loop-test .taken) (c11 .word-in .ensures .0) _ refl _ _
+    (c5 .begin .ensures))
 
 write-fields-write-item-requires : (t : ℕ) → write-fields-lts.Need-write-item-requires (write-fields-calls t) (write-fields-at t) write-fields.Post
     write-fields-Inv-loop write-fields-μ-loop
 write-fields-write-item-requires t c κs =
-    let c6 = c .before .before .before .before .before .before in
-    let c12 = c6 .before .before .before .before .before .before in
+    let c5 = c .before .before .before .before .before in
+    let c11 = c5 .before .before .before .before .before .before in
+    let c12 = c11 .before in
     let c13 = c12 .before in
-    let c14 = c13 .before in
-    let c21 = c14 .before .before .before .before .before .before .before in (
-      omega (arith, row-below _ _ _ _ _ _ (c14 .loop .inv .row) (c13 .loop-test .taken) (c12 .word-at .ensures .0), c21 .pre .0),
+    let c19 = c13 .before .before .before .before .before .before in
+    (
+      omega (arith, row-below _ _ _ _ _ _ (c13 .loop .inv .row) (c12 .loop-test .taken) (c11 .word-in .ensures .0), c19 .pre .0),
       (
-        row-under _ _ _ _ _ _ (c14 .loop .inv .row) (c13 .loop-test .taken) (c12 .word-at .ensures .0),
-        writing-upto _ _ _ _ _ _ _ _ _ _ _ _ _ _ _ _ _ _ _ (c21 .pre .1 .walk) (c14 .loop .inv) (c13 .loop-test .taken) (c12 .word-at .ensures .0),
-        writing-room _ _ _ _ _ _ _ _ _ _ _ _ _ _ _ _ _ _ _ (c21 .pre .1 .walk) (c14 .loop .inv) (c13 .loop-test .taken)
-            (c12 .word-at .ensures .0) _ refl _ _ (c6 .begin .ensures),
+        row-under _ _ _ _ _ _ (c13 .loop .inv .row) (c12 .loop-test .taken) (c11 .word-in .ensures .0),
+        writing-upto _ _ _ _ _ _ _ _ _ _ _ _ _ _ _ _ _ _ _ (c19 .pre .1 .walk) (c13 .loop .inv) (c12 .loop-test .taken) (c11 .word-in .ensures .0),
+        writing-room _ _ _ _ _ _ _ _ _ _ _ _ _ _ _ _ _ _ _ (c19 .pre .1 .walk) (c13 .loop .inv) (c12 .loop-test .taken)
+            (c11 .word-in .ensures .0) _ refl _ _ (c5 .begin .ensures),
       ),
     )
 
 write-fields-next-head-requires : (t : ℕ) → write-fields-lts.Need-next-head-requires (write-fields-calls t) (write-fields-at t) write-fields.Post
     write-fields-Inv-loop write-fields-μ-loop
 write-fields-next-head-requires t c κs =
-    let c11 = c .before .before .before .before .before .before .before .before .before .before .before in
+    let c10 = c .before .before .before .before .before .before .before .before .before .before in
+    let c11 = c10 .before in
     let c12 = c11 .before in
-    let c13 = c12 .before in
-    let c20 = c13 .before .before .before .before .before .before .before in
+    let c18 = c12 .before .before .before .before .before .before in
     λ z. omega (
       arith,
-      writing-four _ _ _ _ _ _ _ _ _ _ _ _ _ _ _ _ _ _ _ (c20 .pre .1 .walk) (c13 .loop .inv) (c12 .loop-test .taken)
-          (c11 .word-at .ensures .0) _ refl z,
-      c13 .loop .inv .long,
-      c20 .good,
+      writing-four _ _ _ _ _ _ _ _ _ _ _ _ _ _ _ _ _ _ _ (c18 .pre .1 .walk) (c12 .loop .inv) (c11 .loop-test .taken)
+          (c10 .word-in .ensures .0) _ refl z,
+      c12 .loop .inv .long,
+      c18 .good,
     )
 
 write-fields-next-tail-requires : (t : ℕ) → write-fields-lts.Need-next-tail-requires (write-fields-calls t) (write-fields-at t) write-fields.Post
@@ -347,66 +349,76 @@ write-fields-loop-again-2 : (t : ℕ) → write-fields-lts.Need-loop-again-2 (wr
 write-fields-loop-again-2 t c =
     let c1 = c .before in
     let c2 = c1 .before in
-    let c4 = c2 .before .before in
-    let c7 = c4 .before .before .before in
-    let c13 = c7 .before .before .before .before .before .before in
+    let c6 = c2 .before .before .before .before in
+    let c11 = c6 .before .before .before .before .before in
+    let c12 = c11 .before in
+    let c13 = c12 .before in
     let c14 = c13 .before in
-    let c15 = c14 .before in
-    let c22 = c15 .before .before .before .before .before .before .before in
+    let c20 = c14 .before .before .before .before .before .before in
     let put =
     ⊎-elim
     (λ h. put-as _ _ _ _ (c2 .if2 .s) _ (c2 .if2 .out) _ (h .5) (h .6)
-    (below-put _ _ _ (c4 .look .ensures) (h .0 .taken) _ _ _ _ _ _ _ _ (h .2 .ensures)))
+    (below-put _ _ _ (c11 .look-in .ensures) (h .0 .taken) _ _ _ _ _ _ _ _ (h .2 .ensures)))
     (λ h. put-as _ _ _ _ (c2 .if2 .s) _ (c2 .if2 .out) _ (h .5) (h .6) (h .2 .ensures))
     (c2 .if2 .came) in
     rw (c1 .next-head .ensures, c .next-tail .ensures)
-    (writing-next _ _ _ _ _ _ _ _ _ _ _ _ _ _ _ _ _ _ _ (c22 .pre .1 .walk) (c15 .loop .inv) (c14 .loop-test .taken) (c13 .word-at .ensures .0) _ refl _ _
-    (c7 .begin .ensures) (c2 .if2 .s) (c2 .if2 .out) put)
+    (writing-next _ _ _ _ _ _ _ _ _ _ _ _ _ _ _ _ _ _ _ (c20 .pre .1 .walk) (c14 .loop .inv) (c13 .loop-test .taken) (c12 .word-in .ensures .0) _ refl _ _
+    (c6 .begin .ensures) (c2 .if2 .s) (c2 .if2 .out) put)
 
 write-fields-same-length : (t : ℕ) → write-fields-lts.Need-same-length (write-fields-calls t) (write-fields-at t) write-fields.Post
     write-fields-Inv-loop write-fields-μ-loop
-write-fields-same-length t c = c .before .loop .inv .long
+write-fields-same-length t c =
+    let c1 = c .before in
+    c1 .loop .inv .long
 
 write-fields-returns : (t : ℕ) → write-fields-lts.Need-returns (write-fields-calls t) (write-fields-at t) write-fields.Post
     write-fields-Inv-loop write-fields-μ-loop
-write-fields-returns t c = writing-end _ _ _ _ _ _ _ _ _ _ _ _ _ _ _ _ _ _ (c .before .loop .inv) refl (c .loop-test .left)
+write-fields-returns t c =
+    let c1 = c .before in
+    writing-end _ _ _ _ _ _ _ _ _ _ _ _ _ _ _ _ _ _ (c1 .loop .inv) refl (c .loop-test .left)
 
-write-item-look-requires : (t : ℕ) → write-item-lts.Need-look-requires (write-item-calls t) (write-item-at t) write-item.Post
-write-item-look-requires t c κs = search needs
+write-item-look-in-requires : (t : ℕ) → write-item-lts.Need-look-in-requires (write-item-calls t) (write-item-at t) write-item.Post
+write-item-look-in-requires t c κs =
+    let c4 = c .before .before .before .before in
+    c4 .pre .1 .0 .legal
 
 write-item-add-first : (t : ℕ) → write-item-lts.Need-add-first (write-item-calls t) (write-item-at t) write-item.Post
 write-item-add-first t c =
-    let c7 = c .before .before .before .before .before .before .before in
-    omega (arith, node-ok _ _ _ _ (c .before .look .ensures) (c7 .pre .1 .0) .near)
+    let c1 = c .before in
+    let c6 = c1 .before .before .before .before .before in
+    omega (arith, node-ok _ _ _ _ (c1 .look-in .ensures) (c6 .pre .1 .0) .near)
 
 write-item-write-fields-requires : (t : ℕ) → write-item-lts.Need-write-fields-requires (write-item-calls t) (write-item-at t) write-item.Post
 write-item-write-fields-requires t c κs =
-    let c4 = c .before .before .before .before in
-    let c10 = c4 .before .before .before .before .before .before in (
-      omega (arith, c10 .pre .0),
-      container-ready _ _ _ _ (c4 .look .ensures) (c10 .pre .1 .0) (c .before .if1 .taken) _ _ _ _ _ _ (c10 .pre .1 .1)
-          (c10 .pre .1 .2),
+    let c1 = c .before in
+    let c4 = c1 .before .before .before in
+    let c9 = c4 .before .before .before .before .before in
+    (
+      omega (arith, c9 .pre .0),
+      container-ready _ _ _ _ (c4 .look-in .ensures) (c9 .pre .1 .0) (c1 .if1 .taken) _ _ _ _ _ _ (c9 .pre .1 .1)
+          (c9 .pre .1 .2),
     )
 
 write-item-select-requires : (t : ℕ) → write-item-lts.Need-select-requires (write-item-calls t) (write-item-at t) write-item.Post
 write-item-select-requires t c κs =
     let c5 = c .before .before .before .before .before in
-    let c11 = c5 .before .before .before .before .before .before in
-    omega (arith, node-ok _ _ _ _ (c5 .look .ensures) (c11 .pre .1 .0) .near)
+    let c10 = c5 .before .before .before .before .before in
+    omega (arith, node-ok _ _ _ _ (c5 .look-in .ensures) (c10 .pre .1 .0) .near)
 
 write-item-enum-told : (t : ℕ) → write-item-lts.Need-enum-told (write-item-calls t) (write-item-at t) write-item.Post
 write-item-enum-told t c = search needs
 
 write-item-put-selector-requires : (t : ℕ) → write-item-lts.Need-put-selector-requires (write-item-calls t) (write-item-at t) write-item.Post
 write-item-put-selector-requires t c κs =
-    let c3 = c .before .before .before in
+    let c1 = c .before in
+    let c3 = c1 .before .before in
     let c4 = c3 .before in
     let c9 = c4 .before .before .before .before .before in
-    let c15 = c9 .before .before .before .before .before .before in
-    let z = bare-item _ _ _ (c9 .look .ensures) (c4 .if2 .taken) _ (c15 .args .bodies .now) _ (c15 .args .j)
-    (sym (c .before .enum-told .given .1) ∙ c3 .select .ensures) in
-    selector-need _ _ _ _ (c15 .args .contents .now) (c15 .args .i) _ _ (z .1) refl (z .2) (z .3)
-    (node-ok _ _ _ _ (c9 .look .ensures) (c15 .pre .1 .0) .most (c4 .if2 .taken)) (c15 .pre .1 .2)
+    let c14 = c9 .before .before .before .before .before in
+    let z = bare-item _ _ _ (c9 .look-in .ensures) (c4 .if2 .taken) _ (c14 .args .bodies .now) _ (c14 .args .j)
+    (sym (c1 .enum-told .given .1) ∙ c3 .select .ensures) in
+    selector-need _ _ _ _ (c14 .args .contents .now) (c14 .args .i) _ _ (z .1) refl (z .2) (z .3)
+    (node-ok _ _ _ _ (c9 .look-in .ensures) (c14 .pre .1 .0) .most (c4 .if2 .taken)) (c14 .pre .1 .2)
 
 write-item-add-word : (t : ℕ) → write-item-lts.Need-add-word (write-item-calls t) (write-item-at t) write-item.Post
 write-item-add-word t c =
@@ -414,12 +426,12 @@ write-item-add-word t c =
     let c6 = c4 .before .before in
     let c7 = c6 .before in
     let c12 = c7 .before .before .before .before .before in
-    let c18 = c12 .before .before .before .before .before .before in
+    let c17 = c12 .before .before .before .before .before in
     omega (
       arith,
-      bare-item _ _ _ (c12 .look .ensures) (c7 .if2 .taken) _ (c18 .args .bodies .now) _ (c18 .args .j)
+      bare-item _ _ _ (c12 .look-in .ensures) (c7 .if2 .taken) _ (c17 .args .bodies .now) _ (c17 .args .j)
           (sym (c4 .enum-told .given .1) ∙ c6 .select .ensures) .2,
-      c18 .good,
+      c17 .good,
     )
 
 write-item-add-to : (t : ℕ) → write-item-lts.Need-add-to (write-item-calls t) (write-item-at t) write-item.Post
@@ -428,13 +440,13 @@ write-item-add-to t c =
     let c6 = c4 .before .before in
     let c7 = c6 .before in
     let c12 = c7 .before .before .before .before .before in
-    let c18 = c12 .before .before .before .before .before .before in
-    let z = bare-item _ _ _ (c12 .look .ensures) (c7 .if2 .taken) _ (c18 .args .bodies .now) _ (c18 .args .j)
+    let c17 = c12 .before .before .before .before .before in
+    let z = bare-item _ _ _ (c12 .look-in .ensures) (c7 .if2 .taken) _ (c17 .args .bodies .now) _ (c17 .args .j)
     (sym (c4 .enum-told .given .1) ∙ c6 .select .ensures) in
     omega (
       arith,
-      selector-need _ _ _ _ (c18 .args .contents .now) (c18 .args .i) _ _ (z .1) refl (z .2) (z .3)
-          (node-ok _ _ _ _ (c12 .look .ensures) (c18 .pre .1 .0) .most (c7 .if2 .taken)) (c18 .pre .1 .2) .2,
+      selector-need _ _ _ _ (c17 .args .contents .now) (c17 .args .i) _ _ (z .1) refl (z .2) (z .3)
+          (node-ok _ _ _ _ (c12 .look-in .ensures) (c17 .pre .1 .0) .most (c7 .if2 .taken)) (c17 .pre .1 .2) .2,
     )
 
 write-item-enum-known-c : (t : ℕ) → write-item-lts.Need-enum-known-c (write-item-calls t) (write-item-at t) write-item.Post
@@ -446,11 +458,11 @@ write-item-put-selector-requires-2 t c κs =
     let c4 = c2 .before .before in
     let c5 = c4 .before in
     let c10 = c5 .before .before .before .before .before in
-    let c16 = c10 .before .before .before .before .before .before in
-    let z = body-item _ _ _ (c10 .look .ensures) (c5 .if2 .taken) _ (c16 .args .bodies .now) _ (c16 .args .j) ((c16 .pre .1 .0) .legal) _
+    let c15 = c10 .before .before .before .before .before in
+    let z = body-item _ _ _ (c10 .look-in .ensures) (c5 .if2 .taken) _ (c15 .args .bodies .now) _ (c15 .args .j) ((c15 .pre .1 .0) .legal) _
     (sym (c2 .c .given .1) ∙ c4 .select .ensures) in
-    selector-need _ _ _ _ (c16 .args .contents .now) (c16 .args .i) _ _ (z .1) refl (z .2) (z .3)
-    (node-ok _ _ _ _ (c10 .look .ensures) (c16 .pre .1 .0) .most (c5 .if2 .taken)) (c16 .pre .1 .2)
+    selector-need _ _ _ _ (c15 .args .contents .now) (c15 .args .i) _ _ (z .1) refl (z .2) (z .3)
+    (node-ok _ _ _ _ (c10 .look-in .ensures) (c15 .pre .1 .0) .most (c5 .if2 .taken)) (c15 .pre .1 .2)
 
 write-item-add-word-2 : (t : ℕ) → write-item-lts.Need-add-word-2 (write-item-calls t) (write-item-at t) write-item.Post
 write-item-add-word-2 t c =
@@ -458,12 +470,12 @@ write-item-add-word-2 t c =
     let c7 = c5 .before .before in
     let c8 = c7 .before in
     let c13 = c8 .before .before .before .before .before in
-    let c19 = c13 .before .before .before .before .before .before in
+    let c18 = c13 .before .before .before .before .before in
     omega (
       arith,
-      body-item _ _ _ (c13 .look .ensures) (c8 .if2 .taken) _ (c19 .args .bodies .now) _ (c19 .args .j) ((c19 .pre .1 .0) .legal) _
+      body-item _ _ _ (c13 .look-in .ensures) (c8 .if2 .taken) _ (c18 .args .bodies .now) _ (c18 .args .j) ((c18 .pre .1 .0) .legal) _
           (sym (c5 .c .given .1) ∙ c7 .select .ensures) .2,
-      c19 .good,
+      c18 .good,
     )
 
 write-item-add-to-2 : (t : ℕ) → write-item-lts.Need-add-to-2 (write-item-calls t) (write-item-at t) write-item.Post
@@ -472,13 +484,13 @@ write-item-add-to-2 t c =
     let c7 = c5 .before .before in
     let c8 = c7 .before in
     let c13 = c8 .before .before .before .before .before in
-    let c19 = c13 .before .before .before .before .before .before in
-    let z = body-item _ _ _ (c13 .look .ensures) (c8 .if2 .taken) _ (c19 .args .bodies .now) _ (c19 .args .j) ((c19 .pre .1 .0) .legal) _
+    let c18 = c13 .before .before .before .before .before in
+    let z = body-item _ _ _ (c13 .look-in .ensures) (c8 .if2 .taken) _ (c18 .args .bodies .now) _ (c18 .args .j) ((c18 .pre .1 .0) .legal) _
     (sym (c5 .c .given .1) ∙ c7 .select .ensures) in
     omega (
       arith,
-      selector-need _ _ _ _ (c19 .args .contents .now) (c19 .args .i) _ _ (z .1) refl (z .2) (z .3)
-          (node-ok _ _ _ _ (c13 .look .ensures) (c19 .pre .1 .0) .most (c8 .if2 .taken)) (c19 .pre .1 .2) .2,
+      selector-need _ _ _ _ (c18 .args .contents .now) (c18 .args .i) _ _ (z .1) refl (z .2) (z .3)
+          (node-ok _ _ _ _ (c13 .look-in .ensures) (c18 .pre .1 .0) .most (c8 .if2 .taken)) (c18 .pre .1 .2) .2,
     )
 
 write-item-write-item-requires : (t : ℕ) → write-item-lts.Need-write-item-requires (write-item-calls t) (write-item-at t) write-item.Post
@@ -488,15 +500,15 @@ write-item-write-item-requires t c κs =
     let c8 = c6 .before .before in
     let c9 = c8 .before in
     let c14 = c9 .before .before .before .before .before in
-    let c20 = c14 .before .before .before .before .before .before in
-    let z = body-item _ _ _ (c14 .look .ensures) (c9 .if2 .taken) _ (c20 .args .bodies .now) _ (c20 .args .j) ((c20 .pre .1 .0) .legal) _
+    let c19 = c14 .before .before .before .before .before in
+    let z = body-item _ _ _ (c14 .look-in .ensures) (c9 .if2 .taken) _ (c19 .args .bodies .now) _ (c19 .args .j) ((c19 .pre .1 .0) .legal) _
     (sym (c6 .c .given .1) ∙ c8 .select .ensures) in (
-      omega (arith, c20 .pre .0, z .4),
+      omega (arith, c19 .pre .0, z .4),
       (
-        under-below _ _ _ _ (omega (arith, z .4)) (c20 .pre .1 .0),
-        rw (z .0) at (c20 .pre .1 .1),
+        under-below _ _ _ _ (omega (arith, z .4)) (c19 .pre .1 .0),
+        rw (z .0) at (c19 .pre .1 .1),
         body-room _ _ _ _
-            _ (z .1) (c20 .pre .1 .2) _ (c3 .put-selector2 .ensures),
+            _ (z .1) (c19 .pre .1 .2) _ (c3 .put-selector2 .ensures),
       ),
     )
 
@@ -505,14 +517,15 @@ write-item-enum-told-2 t c = search needs
 
 write-item-put-leaf-requires : (t : ℕ) → write-item-lts.Need-put-leaf-requires (write-item-calls t) (write-item-at t) write-item.Post
 write-item-put-leaf-requires t c κs =
-    let c3 = c .before .before .before in
+    let c1 = c .before in
+    let c3 = c1 .before .before in
     let c6 = c3 .before .before .before in
-    let c12 = c6 .before .before .before .before .before .before in
-    let w = tree-walk _ _ _ (c6 .look .ensures) (c3 .if1 .left) (c .before .if2 .left) (c12 .args .contents .now) (c12 .args .bodies .now) (c12 .args .i)
-    (c12 .args .j) in
-    let x = tree-write _ _ _ (c6 .look .ensures) (c3 .if1 .left) (c .before .if2 .left) (c12 .args .contents .now) (c12 .args .bodies .now) (c12 .args .i)
-    (c12 .args .j) in
-    (rw w at (c12 .pre .1 .1), rw x at (c12 .pre .1 .2))
+    let c11 = c6 .before .before .before .before .before in
+    let w = tree-walk _ _ _ (c6 .look-in .ensures) (c3 .if1 .left) (c1 .if2 .left) (c11 .args .contents .now) (c11 .args .bodies .now) (c11 .args .i)
+    (c11 .args .j) in
+    let x = tree-write _ _ _ (c6 .look-in .ensures) (c3 .if1 .left) (c1 .if2 .left) (c11 .args .contents .now) (c11 .args .bodies .now) (c11 .args .i)
+    (c11 .args .j) in
+    (rw w at (c11 .pre .1 .1), rw x at (c11 .pre .1 .2))
 
 write-item-same-length : (t : ℕ) → write-item-lts.Need-same-length (write-item-calls t) (write-item-at t) write-item.Post
 write-item-same-length t c = search needs
@@ -522,7 +535,7 @@ write-item-returns t c =
     let c2 = c .before .before in
     let c4 = c2 .before .before in
     let c7 = c4 .before .before .before in
-    rw (container-walk _ _ _ (c7 .look .ensures) (c4 .if1 .taken), container-write _ _ _ (c7 .look .ensures) (c4 .if1 .taken)) (c2 .write-fields .ensures)
+    rw (container-walk _ _ _ (c7 .look-in .ensures) (c4 .if1 .taken), container-write _ _ _ (c7 .look-in .ensures) (c4 .if1 .taken)) (c2 .write-fields .ensures)
 
 write-item-same-length-2 : (t : ℕ) → write-item-lts.Need-same-length-2 (write-item-calls t) (write-item-at t) write-item.Post
 write-item-same-length-2 t c = search needs
@@ -534,8 +547,8 @@ write-item-returns-2 t c =
     let c6 = c4 .before .before in
     let c7 = c6 .before in
     let c12 = c7 .before .before .before .before .before in
-    let c18 = c12 .before .before .before .before .before .before in
-    let z = bare-item _ _ _ (c12 .look .ensures) (c7 .if2 .taken) _ (c18 .args .bodies .now) _ (c18 .args .j)
+    let c17 = c12 .before .before .before .before .before in
+    let z = bare-item _ _ _ (c12 .look-in .ensures) (c7 .if2 .taken) _ (c17 .args .bodies .now) _ (c17 .args .j)
     (sym (c4 .enum-told .given .1) ∙ c6 .select .ensures) in
     bare-done _ _ _ _ _ _ _ (z .0) (z .1) _ (c2 .put-selector .ensures)
 
@@ -550,8 +563,8 @@ write-item-returns-3 t c =
     let c11 = c9 .before .before in
     let c12 = c11 .before in
     let c17 = c12 .before .before .before .before .before in
-    let c23 = c17 .before .before .before .before .before .before in
-    let z = body-item _ _ _ (c17 .look .ensures) (c12 .if2 .taken) _ (c23 .args .bodies .now) _ (c23 .args .j) ((c23 .pre .1 .0) .legal) _
+    let c22 = c17 .before .before .before .before .before in
+    let z = body-item _ _ _ (c17 .look-in .ensures) (c12 .if2 .taken) _ (c22 .args .bodies .now) _ (c22 .args .j) ((c22 .pre .1 .0) .legal) _
     (sym (c9 .c .given .1) ∙ c11 .select .ensures) in
     body-done _ _ _ _ _ _ _ (z .0) (z .1) _ (c6 .put-selector2 .ensures) _ _ (c2 .write-item .ensures)
 
@@ -560,9 +573,9 @@ write-item-returns-4 t c =
     let c2 = c .before .before in
     let c3 = c2 .before in
     let c8 = c3 .before .before .before .before .before in
-    let c14 = c8 .before .before .before .before .before .before in
-    absurd (rw (wrong-item _ _ _ (c8 .look .ensures) (c3 .if2 .taken) (c14 .args .contents .now) (c14 .args .bodies .now) (c14 .args .i)
-    (c14 .args .j) _ (sym (c .enum-told2 .given .1) ∙ c2 .select .ensures)) at (c14 .pre .1 .1))
+    let c13 = c8 .before .before .before .before .before in
+    absurd (rw (wrong-item _ _ _ (c8 .look-in .ensures) (c3 .if2 .taken) (c13 .args .contents .now) (c13 .args .bodies .now) (c13 .args .i)
+    (c13 .args .j) _ (sym (c .enum-told2 .given .1) ∙ c2 .select .ensures)) at (c13 .pre .1 .1))
 
 write-item-same-length-4 : (t : ℕ) → write-item-lts.Need-same-length-4 (write-item-calls t) (write-item-at t) write-item.Post
 write-item-same-length-4 t c = search needs
@@ -573,7 +586,7 @@ write-item-returns-5 t c =
     let c4 = c2 .before .before in
     let c6 = c4 .before .before in
     let c9 = c6 .before .before .before in
-    rw (tree-walk _ _ _ (c9 .look .ensures) (c6 .if1 .left) (c4 .if2 .left), tree-write _ _ _ (c9 .look .ensures) (c6 .if1 .left) (c4 .if2 .left))
+    rw (tree-walk _ _ _ (c9 .look-in .ensures) (c6 .if1 .left) (c4 .if2 .left), tree-write _ _ _ (c9 .look-in .ensures) (c6 .if1 .left) (c4 .if2 .left))
     (c2 .put-leaf .ensures)
 
 pub +write-fields+write-item-spec : {M : Type 1} → statement M
@@ -585,13 +598,13 @@ pub +write-fields+write-item-spec : {M : Type 1} → statement M
     (write-fields-portion-of-requires t)
     (write-fields-add-q t)
     (write-fields-loop-holds t)
-    (write-fields-word-at-requires t)
+    (write-fields-word-in-requires t)
+    (write-fields-look-in-requires t)
     (write-fields-mul-k t)
-    (write-fields-shared-slice-read-k t)
+    (write-fields-element-copy-out-k t)
     (write-fields-cast-k t)
     (write-fields-add-a t)
     (write-fields-sub-left t)
-    (write-fields-kind-of-requires t)
     (write-fields-is-plain-requires t)
     (write-fields-add-byte t)
     (write-fields-sub-copy-into t)
@@ -602,7 +615,6 @@ pub +write-fields+write-item-spec : {M : Type 1} → statement M
     (write-fields-loop-less t)
     (write-fields-loop-again t)
     (write-fields-begin-requires t)
-    (write-fields-look-requires t)
     (write-fields-put-leaf-requires t)
     (write-fields-write-item-requires t)
     (write-fields-next-head-requires t)
@@ -614,7 +626,7 @@ pub +write-fields+write-item-spec : {M : Type 1} → statement M
     λ t. write-item-lts.spec (write-item-calls t)
     (write-item-at t)
     write-item.Post
-    (write-item-look-requires t)
+    (write-item-look-in-requires t)
     (write-item-add-first t)
     (write-item-write-fields-requires t)
     (write-item-select-requires t)

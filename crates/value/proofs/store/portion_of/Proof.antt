@@ -2,40 +2,60 @@
 use native.Mathlib.Omega.{arith}
 use borrow.Author.Needs.{needs}
 use native.Mathlib.Nat.{zero-add}
-use Rattle.message.proofs.Rows.{row-small, row-index}
+use Rattle.message.proofs.Rows.{under-small, row-there, row-small, row-few}
 use Rattle.value.proofs.Fills.{Adding, adding-same, adding-next, adding-end}
 use Rattle.value.proofs.store.portion_of.Statement.{statement}
 use Rattle.value.proofs.store.portion_of.Tie as tie
 
 abbrev Inv-loop : tie.InvT-loop
-Inv-loop lens layout t a0 n a₀ left₀ sum₀ a left sum = Adding lens layout t a0 n a left sum
+Inv-loop lens layout t a0 n own a₀ left₀ sum₀ a left sum = Adding lens layout t a0 n a left sum
 
 abbrev μ-loop : tie.MeasureT-loop
-μ-loop lens layout t a0 n a₀ left₀ sum₀ a left sum = left
+μ-loop lens layout t a0 n own a₀ left₀ sum₀ a left sum = left
+
+mul-own : tie.Need-mul-own Inv-loop μ-loop
+mul-own c =
+    let c1 = c .before in
+    omega (arith, c1 .pre .few)
+
+element-copy-out-own : tie.Need-element-copy-out-own Inv-loop μ-loop
+element-copy-out-own c =
+    let c1 = c .before in
+    c1 .pre .few
+
+cast-own : tie.Need-cast-own Inv-loop μ-loop
+cast-own c = omega (arith, c .before .before .pre .small)
+
+returns : tie.Need-returns Inv-loop μ-loop
+returns c =
+    let c3 = c .before .before .before in
+    c3 .pre .whole (c .if1 .taken)
 
 loop-holds : tie.Need-loop-holds Inv-loop μ-loop
 loop-holds c =
-    let c2 = c .before .before in
-    record { row = c2 .pre .0; same = zero-add _ }
+    let c3 = c .before .before .before in
+    record { row = c3 .pre .row; same = zero-add _ }
 
-word-at-requires : tie.Need-word-at-requires Inv-loop μ-loop
-word-at-requires c κs = search needs
+word-in-requires : tie.Need-word-in-requires Inv-loop μ-loop
+word-in-requires c κs =
+    let c1 = c .before in
+    row-there _ _ _ _ _ (c1 .loop .inv .row) (c .loop-test .taken)
 
 mul-width-of : tie.Need-mul-width-of Inv-loop μ-loop
-mul-width-of c = omega (arith, c .word-at .ensures .1)
+mul-width-of c = omega (arith, c .word-in .ensures .1)
 
-shared-slice-read-width-of : tie.Need-shared-slice-read-width-of Inv-loop μ-loop
-shared-slice-read-width-of c =
-    let c2 = c .before .before in
-    let c3 = c2 .before in
-    row-index _ _ _ _ _ _ (c3 .loop .inv .row) (c2 .loop-test .taken) (c .before .word-at .ensures .0)
+element-copy-out-width-of : tie.Need-element-copy-out-width-of Inv-loop μ-loop
+element-copy-out-width-of c =
+    let c1 = c .before in
+    let c2 = c1 .before in
+    row-few _ _ _ _ _ _ (c2 .loop .inv .row) (c1 .loop-test .taken) (c .word-in .ensures .0)
 
 cast-width-of : tie.Need-cast-width-of Inv-loop μ-loop
 cast-width-of c =
     let c1 = c .before in
     let c2 = c1 .before in
     let c3 = c2 .before in
-    omega (arith, row-small _ _ _ _ _ _ (c3 .loop .inv .row) (c2 .loop-test .taken) (c1 .word-at .ensures .0))
+    omega (arith, row-small _ _ _ _ _ _ (c3 .loop .inv .row) (c2 .loop-test .taken) (c1 .word-in .ensures .0))
 
 width-of-requires : tie.Need-width-of-requires Inv-loop μ-loop
 width-of-requires c κs = search needs
@@ -45,8 +65,8 @@ add-sum c =
     let c2 = c .before .before in
     let c3 = c2 .before in
     let c4 = c3 .before in
-    let c7 = c4 .before .before .before in
-    omega (arith, adding-same _ _ _ _ _ _ _ _ _ _ (c4 .loop .inv) (c3 .loop-test .taken) (c2 .word-at .ensures .0) (c .width-of .ensures), c7 .pre .1)
+    let c8 = c4 .before .before .before .before in
+    omega (arith, adding-same _ _ _ _ _ _ _ _ _ _ (c4 .loop .inv) (c3 .loop-test .taken) (c2 .word-in .ensures .0) (c .width-of .ensures), c8 .pre .short)
 
 add-a : tie.Need-add-a Inv-loop μ-loop
 add-a c =
@@ -64,10 +84,12 @@ loop-again c =
     let c2 = c .before .before in
     let c3 = c2 .before in
     let c4 = c3 .before in
-    adding-next _ _ _ _ _ _ _ _ _ _ (c4 .loop .inv) (c3 .loop-test .taken) (c2 .word-at .ensures .0) (c .width-of .ensures)
+    adding-next _ _ _ _ _ _ _ _ _ _ (c4 .loop .inv) (c3 .loop-test .taken) (c2 .word-in .ensures .0) (c .width-of .ensures)
 
-returns : tie.Need-returns Inv-loop μ-loop
-returns c = adding-end _ _ _ _ _ _ _ _ (c .before .loop .inv) (c .loop-test .left)
+returns-2 : tie.Need-returns-2 Inv-loop μ-loop
+returns-2 c =
+    let c1 = c .before in
+    adding-end _ _ _ _ _ _ _ _ (c1 .loop .inv) (c .loop-test .left)
 
 pub portion-of-spec : {M : Type 1} → statement M
 portion-of-spec =
@@ -75,10 +97,14 @@ portion-of-spec =
     (tie.spec
     Inv-loop
     μ-loop
+    mul-own
+    element-copy-out-own
+    cast-own
+    returns
     loop-holds
-    word-at-requires
+    word-in-requires
     mul-width-of
-    shared-slice-read-width-of
+    element-copy-out-width-of
     cast-width-of
     width-of-requires
     add-sum
@@ -86,4 +112,4 @@ portion-of-spec =
     sub-left
     loop-less
     loop-again
-    returns)
+    returns-2)
