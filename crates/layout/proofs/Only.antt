@@ -6,20 +6,10 @@ use denote.Ref.{now}
 use denote.Triple.Clauses.{AtExit}
 use borrow.Fn.Kinds.{Dens, resT, endedOf}
 use Rattle.standard.proofs.Only.{Only, only-answer}
-use Rattle.layout.proofs.look.Kinds as look-kinds
-use Rattle.layout.proofs.look.Reads as look-reads
-use Rattle.layout.proofs.kind_of.Kinds as kind-of-kinds
-use Rattle.layout.proofs.kind_of.Reads as kind-of-reads
 use Rattle.layout.proofs.layout_check.Kinds as layout-check-kinds
 use Rattle.layout.proofs.layout_check.Reads as layout-check-reads
 use Rattle.layout.proofs.table_of.Kinds as table-of-kinds
 use Rattle.layout.proofs.table_of.Reads as table-of-reads
-
-pub look-only : Only look-kinds.ps look-kinds.r look-reads.Post
-look-only κs a x y e f p q = only-answer _ x y p q
-
-pub kind-of-only : Only kind-of-kinds.ps kind-of-kinds.r kind-of-reads.Post
-kind-of-only κs a x y e f p q = only-answer _ x y p q
 
 pub layout-check-only : Only layout-check-kinds.ps layout-check-kinds.r layout-check-reads.Post
 layout-check-only κs a x y e f p q = only-answer _ x y p q

@@ -59,21 +59,13 @@ fn start_of(layout: &[u8], t: usize) -> usize
 }
 
 // What the table says of the type t.
-pub fn look(layout: &[u8], t: usize) -> Node
+fn look(layout: &[u8], t: usize) -> Node
     ensures { λ r. ⌜ r ≡ nodeOf (now (layout .entry)) t ⌝ }
 {
     let at = start_of(layout, t);
     let kind = word_at(layout, at);
     let second = word_at(layout, at + 1);
     Node { kind, at, second }
-}
-
-// The kind of the type t alone.
-pub fn kind_of(layout: &[u8], t: usize) -> usize
-    ensures { λ r. ⌜ r ≡ nodeOf (now (layout .entry)) t .kind ⌝ }
-{
-    let at = start_of(layout, t);
-    word_at(layout, at)
 }
 
 // A word names a type below t, or no body where that may be.
