@@ -14,7 +14,7 @@ use Rattle.standard.specs.Types.{Ty, Tys, head, heads, width, portion, LegalTy}
 use Rattle.standard.specs.declared.Head.{Head}
 use Rattle.standard.proofs.Bytes.{word-bound}
 use Rattle.layout.specs.Tree.{nodeOf, fields, trees, treeOf, lenOf, headOf, lengths, filled}
-use Rattle.layout.specs.Table.{onward, count, mayName, refs, many, containerEnd, leafWord, leafEnd, bodyEnd, typesEnd, typesOf, tableOf, lengthsOf}
+use Rattle.layout.specs.Table.{onward, count, mayName, refs, counted, many, containerEnd, leafWord, leafEnd, bodyEnd, typesEnd, typesOf, tableOf, lengthsOf}
 use Rattle.layout.specs.Legal.{Lower, LowerOrBare, LegalNode, Legal}
 use Rattle.layout.specs.Steps.{Known, Typed, Tabled}
 use Rattle.layout.specs.declared.Node.{Node}
@@ -153,14 +153,30 @@ pub record Many (l : List ℕ) (t at most : ℕ) (none : Bool) (e : ℕ) : Type 
   pub ends : e ≡ at + 2 + wordAt l (at + 1)
   pub each : (i : ℕ) → i < wordAt l (at + 1) → mayName (wordAt l (at + 2 + i)) t none ≡ true
 
+-- An accepted number is the word behind at.
+pub record Counted (l : List ℕ) (at most n : ℕ) : Type 0 where
+  pub there : at + 1 < count l
+  pub word : n ≡ wordAt l (at + 1)
+  pub some : 1 ≤ n
+  pub few : n ≤ most
+
+pub counted-says : (l : List ℕ) (at most n : ℕ) → counted l at most ≡ Upto n → Counted l at most n
+unfolding counted
+counted-says l at most n h =
+    let w = wordAt l (at + 1) in
+    let p = upto-left (ltb (at + 1) (count l)) _ (count l) n h in
+    let q = upto-left (andAlso (ltb 0 w) (leb w most)) (Upto w) (at + 1) n (p .1) in
+    let r = both-true (ltb 0 w) (leb w most) (q .0) in
+    let e : n ≡ w = sym (upto-inj w n (q .1)) in
+    record { there = ltb-true _ _ (p .0); word = e; some = rw e (ltb-true _ _ (r .0)); few = rw e (leb-true _ _ (r .1)) }
+
 pub many-says : (l : List ℕ) (t at most : ℕ) (none : Bool) (e : ℕ) → many l t at none most ≡ Upto e → Many l t at most none e
 unfolding many
 many-says l t at most none e h =
-    let p = upto-left (ltb (at + 1) (count l)) _ (count l) e h in
-    let q = upto-left (andAlso (ltb 0 (wordAt l (at + 1))) (leb (wordAt l (at + 1)) most)) _ (at + 1) e (p .1) in
-    let r = both-true (ltb 0 (wordAt l (at + 1))) (leb (wordAt l (at + 1)) most) (q .0) in
-    let s = refs-say l t none (wordAt l (at + 1)) (at + 2) e (omega (arith, ltb-true (at + 1) (count l) (p .0))) (q .1) in
-    record { some = ltb-true _ _ (r .0); few = leb-true _ _ (r .1); within = s .0; ends = s .1; each = s .2 }
+    let p = upto-onward (counted l at most) (λ n. refs l t none (at + 2) n) e h in
+    let k = counted-says l at most (p .0) (p .1) in
+    let s = rw (k .word) at (refs-say l t none (p .0) (at + 2) e (omega (arith, k .there)) (p .2)) in
+    record { some = rw (k .word) at (k .some); few = rw (k .word) at (k .few); within = s .0; ends = s .1; each = s .2 }
 
 pub many-lower : (l : List ℕ) (t at most e : ℕ) → Many l t at most false e → Lower l t (at + 2) (wordAt l (at + 1))
 unfolding Lower
@@ -233,8 +249,8 @@ module _ (l : List ℕ) (t at e : ℕ) (h : bodyEnd l t at ≡ Upto e) where
       go false false false false p q r s = bad-upto at e (body-kind false false false false p q r s)
 
   -- A container or a union: a number of 1 on, and as many words.
-  counted : 6 ≤ wordAt l at → (1 ≤ wordAt l (at + 1)) × (at + 2 + wordAt l (at + 1) ≤ count l)
-  counted k = go (eqb (wordAt l at) 6) refl
+  some-within : 6 ≤ wordAt l at → (1 ≤ wordAt l (at + 1)) × (at + 2 + wordAt l (at + 1) ≤ count l)
+  some-within k = go (eqb (wordAt l at) 6) refl
     where
       said : (most : ℕ) (none : Bool) → Many l t at most none e → (1 ≤ wordAt l (at + 1)) × (at + 2 + wordAt l (at + 1) ≤ count l)
       said most none m = (m .some, omega (arith, m .within, m .ends))
@@ -256,9 +272,9 @@ module _ (l : List ℕ) (t at e : ℕ) (h : bodyEnd l t at ≡ Upto e) where
         near = rw (← w) (word-bound l (1 + t) b);
         small = word-bound l (at + 1) b;
         leaf = λ k n. leaf-says l at e (leaf k n) .0;
-        some = λ k. counted k .0;
+        some = λ k. some-within k .0;
         few = λ k. container-says l t at e (six k) .0 .few;
-        within = λ k. counted k .1;
+        within = λ k. some-within k .1;
         lower = λ k. many-lower l t at 64 e (container-says l t at e (six k) .0);
         short = λ k. container-says l t at e (six k) .1;
         most = λ k. many-says l t at 128 true e (seven k) .few;

@@ -1,10 +1,10 @@
 -- What the steps of the table check ask and give, one to another. Assumes nothing: these are definitions.
-use Prim.Native.Nat.{ℕ, _+_, _≤_}
+use Prim.Native.Nat.{ℕ, _+_, _≤_, _<_, _^_}
 use mathlib.Core.Path.{_≡_}
 use mathlib.Core.List.{List}
 use lib.Dec.{ltb}
 use Rattle.standard.specs.Choice.{pick}
-use Rattle.standard.specs.Bytes.{Bytes}
+use Rattle.standard.specs.Bytes.{wordAt}
 use Rattle.standard.specs.Types.{Tys, head, headAll, heads, portion}
 use Rattle.layout.specs.Tree.{leafOf, treeOf, lenOf, filled}
 use Rattle.layout.specs.Table.{typesEnd, tableOf}
@@ -19,6 +19,16 @@ pub record Known (lens l : List ℕ) (k : ℕ) : Type 0 where
   pub found : lens ≡ filled l k
   pub legal : Legal l k
   pub few : k ≤ 64
+
+-- The types below t are known, and the table says n of the type t.
+pub record Begun (lens l : List ℕ) (t : ℕ) (n : Node) : Type 0 where
+  pub known : Known lens l t
+  pub few : t < 64
+  pub near : n .at < 2 ^ 32
+  pub start : n .at ≡ wordAt l (1 + t)
+  pub kind : n .kind ≡ wordAt l (n .at)
+  pub second : n .second ≡ wordAt l (n .at + 1)
+  pub small : n .second < 2 ^ 32
 
 -- The fixed length of a type that holds no fields
 abbrev pub leafLen : Node → ℕ

@@ -33,14 +33,16 @@ refs l t none at (suc n) =
     (pick (mayName (wordAt l at) t none) (refs l t none (at + 1) n) (Bad at))
     (Bad (count l))
 
--- Where a number of 1 to most, and as many references, end
-unfoldable pub many : List ℕ → ℕ → ℕ → Bool → ℕ → Checked
-many l t at none most =
+-- A number of 1 to most at the word behind at
+unfoldable pub counted : List ℕ → ℕ → ℕ → Checked
+counted l at most =
     pick (ltb (at + 1) (count l))
-    (pick (andAlso (ltb 0 (wordAt l (at + 1))) (leb (wordAt l (at + 1)) most))
-    (refs l t none (at + 2) (wordAt l (at + 1)))
-    (Bad (at + 1)))
+    (pick (andAlso (ltb 0 (wordAt l (at + 1))) (leb (wordAt l (at + 1)) most)) (Upto (wordAt l (at + 1))) (Bad (at + 1)))
     (Bad (count l))
+
+-- Where such a number, and as many references, end
+unfoldable pub many : List ℕ → ℕ → ℕ → Bool → ℕ → Checked
+many l t at none most = onward (counted l at most) (λ n. refs l t none (at + 2) n)
 
 -- "A container's fixed portion .. is at most 4,294,967,295", "charged to the kind word"
 unfoldable pub containerEnd : List ℕ → ℕ → ℕ → Checked

@@ -8,12 +8,12 @@ ghost use Prim.Native.Nat.{_+_, _≤_, _<_, _^_};
 ghost use lib.ListN.{set};
 ghost use Rattle.standard.specs.Bytes.{wordAt};
 ghost use Rattle.standard.specs.Types.{isWidth, width};
-ghost use mathlib.Core.Bool.{false};
+ghost use mathlib.Core.Bool.{true, false};
 ghost use Rattle.layout.specs.Tree.{nodeOf, fields, trees, headOf};
-ghost use Rattle.layout.specs.Table.{count, mayName, refs, many, containerEnd, leafWord, leafEnd, bodyEnd, typesEnd, typesOf, tableOf, lengthsOf, toldOf};
+ghost use Rattle.layout.specs.Table.{count, mayName, refs, counted, many, containerEnd, leafWord, leafEnd, bodyEnd, typesEnd, typesOf, tableOf, lengthsOf, toldOf};
 ghost use Rattle.layout.specs.declared.Checked.the-variants.{Bad};
 ghost use Rattle.layout.specs.Legal.{Legal};
-ghost use Rattle.layout.specs.Steps.{Known, leafLen, sizesOf, Lengthened, Ended, Typed, Tabled};
+ghost use Rattle.layout.specs.Steps.{Known, Begun, leafLen, sizesOf, Lengthened, Ended, Typed, Tabled};
 
 // What stands in an option's place where it has no body.
 pub const NO_BODY: usize = 4294967295;
@@ -103,10 +103,10 @@ fn refs_end(layout: &[u8], t: usize, none: bool, a0: usize, n: usize) -> Checked
     Checked::Upto(a)
 }
 
-// A number of 1 to most at the word behind at, and as many references.
-fn many_end(layout: &[u8], t: usize, at: usize, none: bool, most: usize) -> Checked
+// A number of 1 to most at the word behind at.
+fn count_at(layout: &[u8], at: usize, most: usize) -> Checked
     requires { ⌜ at ≤ 2 ^ 61 ⌝ }
-    ensures { λ r. ⌜ r ≡ many (now (layout .entry)) t at none most ⌝ }
+    ensures { λ r. ⌜ r ≡ counted (now (layout .entry)) at most ⌝ }
 {
     let words = layout.len() / 4;
     let next = at + 1;
@@ -120,7 +120,19 @@ fn many_end(layout: &[u8], t: usize, at: usize, none: bool, most: usize) -> Chec
     if n > most {
         return Checked::Bad(next);
     }
-    refs_end(layout, t, none, at + 2, n)
+    Checked::Upto(n)
+}
+
+// The options of the union t at the word at: their number, and as many references.
+fn union_end(layout: &[u8], t: usize, at: usize) -> Checked
+    requires { ⌜ at ≤ 2 ^ 61 ⌝ }
+    ensures { λ r. ⌜ r ≡ many (now (layout .entry)) t at true 128 ⌝ }
+{
+    let options = count_at(layout, at, 128);
+    match options {
+        Checked::Bad(w) => Checked::Bad(w),
+        Checked::Upto(n) => refs_end(layout, t, true, at + 2, n),
+    }
 }
 
 // How much of a fixed portion a type with this length takes.
@@ -191,7 +203,7 @@ fn keep(lens: &mut [u32; 64], t: usize, n: Node)
 
 // A leaf with one word behind its kind; its length goes to `lens`.
 fn leaf_end(lens: &mut [u32; 64], layout: &[u8], t: usize, n: Node) -> Checked
-    requires { ⌜ Known (now lens) (now layout) t × (t < 64) × (n .at < 2 ^ 32) × (n .at ≡ wordAt (now layout) (1 + t)) × (n .kind ≡ wordAt (now layout) (n .at)) × (n .second ≡ wordAt (now layout) (n .at + 1)) × (n .second < 2 ^ 32) × (n .kind < 6) ⌝ }
+    requires { ⌜ Begun (now lens) (now layout) t n × (n .kind < 6) ⌝ }
     ensures { λ r. ⌜ Ended (now (layout .entry)) t (leafEnd (now (layout .entry)) (n .at)) r (now (lens .exit)) ⌝ }
 {
     let words = layout.len() / 4;
@@ -287,28 +299,22 @@ fn container_end(lens: &mut [u32; 64], layout: &[u8], t: usize, at: usize) -> Ch
     requires { ⌜ Known (now lens) (now layout) t × (t < 64) × (at < 2 ^ 32) × (at ≡ wordAt (now layout) (1 + t)) × (wordAt (now layout) at ≡ 6) ⌝ }
     ensures { λ r. ⌜ Ended (now (layout .entry)) t (containerEnd (now (layout .entry)) t at) r (now (lens .exit)) ⌝ }
 {
-    let words = layout.len() / 4;
-    let next = at + 1;
-    if next >= words {
-        return Checked::Bad(words);
-    }
-    let n = word_at(layout, next);
-    if n == 0 {
-        return Checked::Bad(next);
-    }
-    if n > 64 {
-        return Checked::Bad(next);
-    }
-    let sizes = fields_len(lens, t, layout, t, at + 2, n);
-    let end = sizes.end;
-    match end {
+    let fields = count_at(layout, at, 64);
+    match fields {
         Checked::Bad(w) => Checked::Bad(w),
-        Checked::Upto(e) => {
-            if sizes.portion > 4294967295 {
-                return Checked::Bad(at);
+        Checked::Upto(n) => {
+            let sizes = fields_len(lens, t, layout, t, at + 2, n);
+            let end = sizes.end;
+            match end {
+                Checked::Bad(w) => Checked::Bad(w),
+                Checked::Upto(e) => {
+                    if sizes.portion > 4294967295 {
+                        return Checked::Bad(at);
+                    }
+                    lens[t] = sizes.length as u32;
+                    Checked::Upto(e)
+                }
             }
-            lens[t] = sizes.length as u32;
-            Checked::Upto(e)
         }
     }
 }
@@ -330,7 +336,7 @@ fn body_end(lens: &mut [u32; 64], layout: &[u8], t: usize, at: usize) -> Checked
     let n = Node { kind, at, second };
     if kind == 7 {
         keep(lens, t, n);
-        return many_end(layout, t, at, true, 128);
+        return union_end(layout, t, at);
     }
     if kind == 1 {
         keep(lens, t, n);

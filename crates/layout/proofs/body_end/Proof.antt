@@ -38,8 +38,8 @@ word-at-requires-2 c κs = search needs
 keep-requires : tie.Need-keep-requires
 keep-requires c κs = search needs
 
-many-end-requires : tie.Need-many-end-requires
-many-end-requires c κs = search needs
+union-end-requires : tie.Need-union-end-requires
+union-end-requires c κs = search needs
 
 returns-3 : tie.Need-returns-3
 unfolding bodyEnd count
@@ -52,7 +52,7 @@ returns-3 c =
     let c7 = c6 .before in
     let start = c7 .before .before in
     ended _ _ _ _ _
-    (rw (lt-ltb _ _ (c7 .if1 .left), ← c6 .word-at .ensures .0, c3 .if3 .taken) (c .many-end .ensures))
+    (rw (lt-ltb _ _ (c7 .if1 .left), ← c6 .word-at .ensures .0, c3 .if3 .taken) (c .union-end .ensures))
     (c1 .keep .ensures ∙ leaf-found _ _ _ (start .pre .3) _ _ _ _ (c6 .word-at .ensures .0) (c4 .word-at2 .ensures .0) (c5 .if2 .left) refl
     (start .pre .0 .found) (start .pre .1))
 
@@ -81,14 +81,17 @@ leaf-end-requires c κs =
     let c1 = c .before in
     let c4 = c1 .before .before .before in
     let c6 = c4 .before .before in
-    let start = c6 .before .before .before in (
-      start .pre .0,
-      start .pre .1,
-      start .pre .2,
-      start .pre .3,
-      c6 .word-at .ensures .0,
-      c4 .word-at2 .ensures .0,
-      c4 .word-at2 .ensures .1,
+    let c9 = c6 .before .before .before in
+    (
+      record {
+        known = c9 .pre .0;
+        few = c9 .pre .1;
+        near = c9 .pre .2;
+        start = c9 .pre .3;
+        kind = c6 .word-at .ensures .0;
+        second = c4 .word-at2 .ensures .0;
+        small = c4 .word-at2 .ensures .1;
+      },
       c1 .if5 .taken,
     )
 
@@ -144,7 +147,7 @@ body-end-spec =
     add-word-at
     word-at-requires-2
     keep-requires
-    many-end-requires
+    union-end-requires
     returns-3
     keep-requires-2
     add-t16

@@ -10,7 +10,7 @@ use Rattle.layout.proofs.leaf_end.Statement.{statement}
 use Rattle.layout.proofs.leaf_end.Tie as tie
 
 add-next : tie.Need-add-next
-add-next c = search needs
+add-next c = omega (arith, c .before .before .pre .0 .near)
 
 returns : tie.Need-returns
 unfolding leafEnd count
@@ -25,10 +25,12 @@ returns-2 c =
     let c2 = c .before .before in
     let start = c2 .before .before .before in
     ended-bad _ _ _ _ _
-    (rw (lt-ltb _ _ (c2 .if1 .left), ← start .pre .4, ← start .pre .5, ← c .before .leaf-ok .ensures, not-true (c .before .leaf-ok .result) (c .if2 .taken)))
+    (rw (lt-ltb _ _ (c2 .if1 .left), ← start .pre .0 .kind, ← start .pre .0 .second, ← c .before .leaf-ok .ensures, not-true (c .before .leaf-ok .result) (c .if2 .taken)))
 
 keep-requires : tie.Need-keep-requires
-keep-requires c κs = search needs
+keep-requires c κs =
+    let c6 = c .before .before .before .before .before .before in
+    (c6 .pre .0 .few, c6 .pre .0 .small)
 
 add-t8 : tie.Need-add-t8
 add-t8 c = search needs
@@ -41,9 +43,9 @@ returns-3 c =
     let start = c4 .before .before .before in
     let two : start .args .n .at + 1 + 1 ≡ start .args .n .at + 2 = omega arith in
     ended _ _ _ _ _
-    (rw (lt-ltb _ _ (c4 .if1 .left), ← start .pre .4, ← start .pre .5, ← c2 .before .leaf-ok .ensures, not-false (c2 .before .leaf-ok .result) (c2 .if2 .left), two))
-    (c .keep .ensures ∙ leaf-found _ _ _ (start .pre .3) _ _ _ _ (start .pre .4) (start .pre .5) (λ z. omega (arith, start .pre .7)) refl
-    (start .pre .0 .found) (start .pre .1))
+    (rw (lt-ltb _ _ (c4 .if1 .left), ← start .pre .0 .kind, ← start .pre .0 .second, ← c2 .before .leaf-ok .ensures, not-false (c2 .before .leaf-ok .result) (c2 .if2 .left), two))
+    (c .keep .ensures ∙ leaf-found _ _ _ (start .pre .0 .start) _ _ _ _ (start .pre .0 .kind) (start .pre .0 .second) (λ z. omega (arith, start .pre .1)) refl
+    (start .pre .0 .known .found) (start .pre .0 .few))
 
 pub leaf-end-spec : {M : Type 1} → statement M
 leaf-end-spec =
