@@ -23,16 +23,16 @@ use types.Part.{agg, look-in}
 use types.Run.{look, init, forget, stop, from, load, of-opd, addr, and-then, no-more}
 use types.Run.{assigns, land, returns, enter, alloc1, alloc0, params1, pass1, free1, free0}
 use sound.WpLaws.{FmC, fmOf, WpFn-mono}
-use denote.RattleType.{Denots, owns}
+use denote.RattleType.{RattleType, Denots, owns}
 use denote.Laws.{Is, shows}
 use denote.Memory.{cellAt, lone, pointee}
 use denote.Ref.{MutRef}
-use denote.Steps.{only, owned, peeks, facts, heard}
+use denote.Steps.{only, owned, peeks, facts, heard, nothing}
 use denote.Enum.Laws as EL
 use denote.Struct.Struct.{layout}
 use denote.Struct.Declared.{shape, row}
 use denote.Struct.Laws as LL
-use denote.Triple.Statement.{Triple}
+use denote.Triple.Statement.{Contract, Triple}
 use denote.Triple.Call.{calls-at}
 use denote.Triple.Clauses.{ensured}
 use denote.Triple.Clauses as Clauses
@@ -44,7 +44,7 @@ use Rattle.standard.proofs.Told as O
 use Rattle.standard.proofs.Told.Laws as O′
 use Rattle.lent.proofs.Values.{Kind, Values, machines, Goods, stays, rows, taken, given, taken-given, spells, spelled, tell, flat-is, flat-given, goods}
 use Rattle.lent.proofs.Values.{lasts, fits, still-had, had, go, Held, machine, kind, pair, pair-laws, pair-plain, paired, pair-is, spell-told}
-use Rattle.lent.proofs.Locals.{locals, before, copies, Numbers, alloc-all, pass-all, free-all, from-at, operands, read-all}
+use Rattle.lent.proofs.Locals.{locals, copies, Numbers, alloc-all, pass-all, free-all, from-at, operands, read-all}
 use Rattle.lent.proofs.Contracts.{by-value, by-reference, value-clauses, reference-clauses, ByValue, ByReference}
 use Rattle.lent.proofs.Land.{spelled-as}
 use Rattle.lent.proofs.Lends.{refTo, lend, back}
@@ -69,52 +69,67 @@ module _ (B : Held) (ks : List Kind) (N : Numbers ks) (f : Name) where
   }
 
 module _ (B : Held) (ks : List Kind) (answer : B .the .D → Values ks → B .Pair) {M : Type 1} (𝓤 : URA M) (H : Heap 𝓤) (A : Atoms 𝓤) (W : Given 𝓤 H A) where
-  module _ (h : B .the .D) (a : Values ks) (is-h : Is (row (B .the)) h (machine B h ∷ [])) (ok : Goods ks a) where
-    abbrev sent : (l ν : ℕ) (γ : GName) → Denots (rows 1 (ν ∷ [], tt) ks)
-    sent l ν γ = given 1 (ν ∷ [], tt) ks a
+  -- what is lent, and the contract of the call at the lifetime that is made for it
+  abbrev R : RattleType
+  R = row (B .the)
+
+  abbrev τ : Ty
+  τ = layout (shape (B .the))
+
+  abbrev Call : Contract 𝓤
+  Call = ByReference B ks answer 𝓤 H A
+
+  abbrev at : ℕ → Lfts 1
+  at ν = (ν ∷ [], tt)
+
+  module _ (h : B .the .D) (a : Values ks) (is-h : Is R h (machine B h ∷ [])) (ok : Goods ks a) where
+    abbrev sent : (ν : ℕ) → Denots (rows 1 (at ν) ks)
+    sent ν = given 1 (at ν) ks a
 
     -- what the call is passed, where the local lies at l, and that it can be passed
-    abbrev to : ℕ → ℕ → GName → ByReference B ks answer 𝓤 H A .Ghost
-    to l ν γ = (((ν ∷ [], tt), (fullShare, tt), tt, (refTo h l 0 γ, sent l ν γ), (vptr l 0 ∷ [], spelled 1 (ν ∷ [], tt) ks (sent l ν γ))), tt)
+    abbrev to : ℕ → ℕ → GName → Call .Ghost
+    to l ν γ = (((at ν), (fullShare, tt), tt, (refTo h l 0 γ, sent ν), (vptr l 0 ∷ [], spelled 1 (at ν) ks (sent ν))), tt)
 
     asked : (l ν : ℕ) (γ : GName)
-        → ent 𝓤 (sep 𝓤 (A .lft (ν ∷ []) fullShare) (sem 𝓤 H A (MutRef (named 0) (ν ∷ []) (row (B .the)) .own (refTo h l 0 γ) (vptr l 0 ∷ []))))
-        (ByReference B ks answer 𝓤 H A .pre (to l ν γ))
+        → ent 𝓤 (sep 𝓤 (A .lft (ν ∷ []) fullShare) (sem 𝓤 H A (MutRef (named 0) (ν ∷ []) R .own (refTo h l 0 γ) (vptr l 0 ∷ []))))
+        (Call .pre (to l ν γ))
     asked l ν γ =
-        qed W (‵ (flft (ν ∷ []) fullShare) ∷ ‵ (MutRef (named 0) (ν ∷ []) (row (B .the)) .own (refTo h l 0 γ) (vptr l 0 ∷ [])) ∷ []) ∵
-        use0 W (‵ ftrue) (id⊢ 𝓤 (emp 𝓤)) $ move ! (1 ∷ 0 ∷ []) $ join ! $
-        use0 W (‵ (owns (rows 1 (ν ∷ [], tt) ks) (sent l ν γ) (spelled 1 (ν ∷ [], tt) ks (sent l ν γ)))) (had 1 𝓤 H A W (ν ∷ [], tt) ks a ok) $
+        qed W (‵ (flft (ν ∷ []) fullShare) ∷ ‵ (MutRef (named 0) (ν ∷ []) R .own (refTo h l 0 γ) (vptr l 0 ∷ [])) ∷ []) ∵
+        nothing ! $ move ! (1 ∷ 0 ∷ []) $ join ! $
+        use0 W (‵ (owns (rows 1 (at ν) ks) (sent ν) (spelled 1 (at ν) ks (sent ν)))) (had 1 𝓤 H A W (at ν) ks a ok) $
         move ! (2 ∷ 0 ∷ []) $ fjoin ! $ move ! (1 ∷ 0 ∷ []) $ join ! $ frame ! $ done !
 
     -- what it says of the local's last value and of what it tells
     abbrev Said : ℕ → B .the .D → Told → Type 0
-    Said ν z t = B .left z t ≡ answer h (taken 1 (ν ∷ [], tt) ks (given 1 (ν ∷ [], tt) ks a))
+    Said ν z t = B .left z t ≡ answer h (taken 1 (at ν) ks (given 1 (at ν) ks a))
 
     module _ (N : Numbers ks) (f : Name) (mine : Fml) (Post : Val → SProp 𝓤)
-        (exits : (z : B .the .D) (t : Told) → Is (row (B .the)) z (machine B z ∷ []) → Is O.the-row t (spell-told t ∷ []) → B .left z t ≡ answer h a
+        (exits : (z : B .the .D) (t : Told) → Is R z (machine B z ∷ []) → Is O.the-row t (spell-told t ∷ []) → B .left z t ≡ answer h a
           → ent 𝓤 (sem 𝓤 H A mine) (Post (paired B z t)))
-        (C : Calls 𝓤 H) (Λ : Loops 𝓤 H) (fm : FmC 𝓤 H (W .laws) C) (known : Triple 𝓤 (C f) (ByReference B ks answer 𝓤 H A)) where
+        (C : Calls 𝓤 H) (Λ : Loops 𝓤 H) (fm : FmC 𝓤 H (W .laws) C) (known : Triple 𝓤 (C f) Call) where
       walk : ent 𝓤 (sep 𝓤 (emp 𝓤) (sem 𝓤 H A mine)) (WpFn 𝓤 H C Λ (lends-own B ks N f) (machine B h ∷ machines ks a) Post)
       walk =
           qed W (‵ ftrue ∷ ‵ mine ∷ []) ∵ drop ! $ enter ! C Λ (lends-own B ks N f) (machine B h ∷ machines ks a) _ $
           alloc1 ! (λ l₀. alloc1 ! (λ l₁. alloc-all ! ks (λ bs. alloc1 ! (λ l₂. alloc1 ! (λ l₃. alloc1 ! (λ l₄. alloc1 ! (λ l₅. alloc0 ! $ params1 ! $
-          pass1 ! (init ! 9 refl (kind B .typed 𝓤 H A W h is-h)) $ move ! (8 ∷ []) $ pass-all ! ks bs a ok ((layout (shape (B .the)), l₂) ∷
-          (lone (O.the-row .mir), l₃) ∷ (tyRef erased mut (pointee (row (B .the) .written)), l₄) ∷ (layout (shape (B .the)), l₅) ∷ []) $
+          pass1 ! (init ! 9 refl (kind B .typed 𝓤 H A W h is-h)) $ move ! (8 ∷ []) $ pass-all ! ks bs a ok ((τ, l₂) ∷
+          (lone (O.the-row .mir), l₃) ∷ (tyRef erased mut (pointee (R .written)), l₄) ∷ (τ, l₅) ∷ []) $
           -- [the arguments; room for the copy; …; room for the reference; …; room for what is told; …; room for the local; …; the parameter; …; room for the
           -- result; …; what the parameters own]
-          assigns ! (of-opd ! (load ! (from ! (stop !)) (look ! 9 refl))) (from-at ! (N .at₀ _ _ bs _ _) (stop !)) (init ! 7 refl (kind B .typed 𝓤 H A W h is-h)) $
+          assigns ! (of-opd ! (load ! (from ! (stop !)) (look ! 9 refl))) (from-at ! (N .at₀ _ _ bs _ _) (stop !))
+          (init ! 7 refl (kind B .typed 𝓤 H A W h is-h)) $
           assigns ! (addr ! (from-at ! (N .at₀ _ _ bs _ _) (stop !))) (from-at ! (N .at₂ _ _ bs _ _ _ _) (stop !)) (init ! 3 refl (tt, tt)) $
-          move ! (7 ∷ []) $ use1 W (‵ (cellAt fullShare (row (B .the) .mir) (machine B h ∷ []) l₂ 0)) (W .laws .at-raw fullShare (layout (shape (B .the))) l₂ 0 (machine B h)) $
-          lend (row (B .the)) (Is (row (B .the))) ! tt (kind B .makes 𝓤 H A W) h (machine B h ∷ []) l₂ 0 is-h
-          (λ ν γ. use2 W (raw (ByReference B ks answer 𝓤 H A .pre (to l₂ ν γ))) (asked l₂ ν γ) $
-          calls-at ! fm (ByReference B ks answer 𝓤 H A) known (to l₂ ν γ)
-          (operands ! (ap (λ (us : List Val). vptr l₂ 0 ∷ us) (flat-given 1 (ν ∷ [], tt) ks a))
-          (and-then ! (load ! (from-at ! (N .at₂ _ _ bs _ _ _ _) (stop !)) (look ! 5 refl)) (read-all ! ks bs a (N .args) (N .lie _ _ bs _) (λ τ b v back p. look-in ! 2 p)))) (λ u.
+          move ! (7 ∷ []) $ use1 W (‵ (cellAt fullShare (R .mir) (machine B h ∷ []) l₂ 0)) (W .laws .at-raw fullShare (τ) l₂ 0 (machine B h)) $
+          lend R (Is R) ! tt (kind B .makes 𝓤 H A W) h (machine B h ∷ []) l₂ 0 is-h
+          (λ ν γ. use2 W (raw (Call .pre (to l₂ ν γ))) (asked l₂ ν γ) $
+          calls-at ! fm Call known (to l₂ ν γ)
+          (operands ! (ap (λ (us : List Val). vptr l₂ 0 ∷ us) (flat-given 1 (at ν) ks a))
+          (and-then ! (load ! (from-at ! (N .at₂ _ _ bs _ _ _ _) (stop !)) (look ! 5 refl))
+          (read-all ! ks bs a (N .args) (N .lie _ _ bs _) (λ σ p v back part. look-in ! 2 part)))) (λ u.
           use1 W (later (some (λ (t : Told). ((‵ (flft (ν ∷ []) fullShare) ⊛ ‵ ftrue) ⊛ ‵ (O.the-row .own t (u ∷ []))) ⊛ raw
-          (ensured 𝓤 H A (by-reference B ks) (reference-clauses B ks answer 𝓤) (ν ∷ [], tt) (refTo h l₂ 0 γ, sent l₂ ν γ) tt t)))) (id⊢ 𝓤 _) $
+          (ensured 𝓤 H A (by-reference B ks) (reference-clauses B ks answer 𝓤) (at ν) (refTo h l₂ 0 γ, sent ν) tt t)))) (id⊢ 𝓤 _) $
           await ! tt $ pick ! (λ t. split ! $ move ! (1 ∷ []) $
-          use1 W (some (λ (zs : Clauses.Lasts (by-reference B ks) (ν ∷ [], tt) (refTo h l₂ 0 γ, sent l₂ ν γ)).
-          ‵ (Clauses.lasts (by-reference B ks) (ν ∷ [], tt) (refTo h l₂ 0 γ, sent l₂ ν γ) zs) ⊛ raw (fact 𝓤 (Said ν (zs .0) t)))) (id⊢ 𝓤 _) $ pick ! (λ zs.
+          use1 W (some (λ (zs : Clauses.Lasts (by-reference B ks) (at ν) (refTo h l₂ 0 γ, sent ν)).
+          ‵ (Clauses.lasts (by-reference B ks) (at ν) (refTo h l₂ 0 γ, sent ν) zs) ⊛ raw (fact 𝓤 (Said ν (zs .0) t)))) (id⊢ 𝓤 _) $ pick ! (λ zs.
           split ! $ move ! (1 ∷ []) $ heard ! (Said ν (zs .0) t) (λ e. fsplit ! $ move ! (2 ∷ []) $ split ! $ split ! $ move ! (2 ∷ []) $
           -- [what is told; the token; true; the last value; those of the arguments; the lender's part; the arguments; room for the copy; …]
           peeks ! O.the-row (Is O.the-row) (shows 𝓤 H A O.the-row) t (u ∷ [])
@@ -122,9 +137,9 @@ module _ (B : Held) (ks : List Kind) (answer : B .the .D → Values ks → B .Pa
           facts ! O.the-row (Is O.the-row) (shows 𝓤 H A O.the-row) t (EL.vals O.the-type O′.the-laws t)
           (λ is-t. spelled-as ! (ap only (EL.tells O.the-type O′.the-laws t (u ∷ []) is)) $
           land ! (from-at ! (N .at₁ _ _ bs _ _ _) (stop !)) (init ! 10 refl (EL.lawful O.the-type O′.the-laws 𝓤 H A W tt .typed t _ is-t .0)) $
-          move ! (0 ∷ 4 ∷ 2 ∷ []) $ back (row (B .the)) (Is (row (B .the))) ! tt (shows 𝓤 H A (row (B .the))) (LL.vals (B .the) (B .laws))
+          move ! (0 ∷ 4 ∷ 2 ∷ []) $ back R (Is R) ! tt (shows 𝓤 H A R) (LL.vals (B .the) (B .laws))
           (LL.tells (B .the) (B .laws)) ν γ (zs .0) l₂ 0 (λ is-z.
-          use1 W (‵ (fat fullShare (layout (shape (B .the))) l₂ 0 (machine B (zs .0)))) (W .laws .raw-at fullShare (layout (shape (B .the))) l₂ 0 (machine B (zs .0))) $
+          use1 W (‵ (fat fullShare (τ) l₂ 0 (machine B (zs .0)))) (W .laws .raw-at fullShare (τ) l₂ 0 (machine B (zs .0))) $
           -- [the local; true; …; the arguments; room for the copy; …; the reference; …; what is told; …; the local's; the parameter; …; room for the result; …]
           assigns ! (of-opd ! (load ! (from-at ! (N .at₀ _ _ bs _ _) (stop !)) (look ! 0 refl))) (from-at ! (N .at₃ _ _ bs _ _ _ _ []) (stop !))
           (init ! 4 refl (kind B .typed 𝓤 H A W (zs .0) is-z)) $
@@ -134,7 +149,7 @@ module _ (B : Held) (ks : List Kind) (answer : B .the .D → Values ks → B .Pa
           returns ! (look ! 13 refl) $ forget ! 0 refl $ forget ! 4 refl $ forget ! 6 refl $ forget ! 8 refl $ forget ! 11 refl $ forget ! 13 refl $
           move ! (13 ∷ 14 ∷ []) $ free1 ! $ move ! (11 ∷ 12 ∷ []) $ free1 ! $ move ! (3 ∷ []) $ free-all ! ks bs a $ move ! (0 ∷ 9 ∷ []) $ free1 ! $
           move ! (6 ∷ 7 ∷ []) $ free1 ! $ move ! (4 ∷ 5 ∷ []) $ free1 ! $ move ! (2 ∷ 3 ∷ []) $ free1 ! $ free0 ! $
-          keep ! (2 ∷ []) $ by ! (exits (zs .0) t is-z is-t (e ∙ ap (answer h) (taken-given 1 (ν ∷ [], tt) ks a))))))))))))))))))
+          keep ! (2 ∷ []) $ by ! (exits (zs .0) t is-z is-t (e ∙ ap (answer h) (taken-given 1 (at ν) ks a))))))))))))))))))
 
   -- at the contract's own binders: what the function has at exit is what the contract asks
   module _ (a : Denots (rows 0 tt (kind B ∷ ks))) where
@@ -147,17 +162,17 @@ module _ (B : Held) (ks : List Kind) (answer : B .the .D → Values ks → B .Pa
     abbrev mine : Fml
     mine = owns (rows 0 tt (kind B ∷ ks)) a (spelled 0 tt (kind B ∷ ks) a)
 
-    exits : (z : B .the .D) (t : Told) → Is (row (B .the)) z (machine B z ∷ []) → Is O.the-row t (spell-told t ∷ []) → B .left z t ≡ answer (a .0) (taken 0 tt ks (a .1))
+    exits : (z : B .the .D) (t : Told) → Is R z (machine B z ∷ []) → Is O.the-row t (spell-told t ∷ []) → B .left z t ≡ answer (a .0) (taken 0 tt ks (a .1))
         → ent 𝓤 (sem 𝓤 H A mine) (Ends (paired B z t))
     exits z t is-z is-t e =
         qed W (‵ mine ∷ []) ∵
         suffices ! _ (ends-at 𝓤 H A (by-value B ks) (stays 0 (kind B ∷ ks)) (value-clauses B ks answer 𝓤) W bound (paired B z t) (B .left z t)
         (lasts 0 tt (kind B ∷ ks) a) (fits 0 tt (kind B ∷ ks) a)) $ says ! e $
-        rewrite ! 0 (λ (P : Fml). ‵ P) (still-had 0 tt (kind B ∷ ks) a (spelled 0 tt (kind B ∷ ks) a)) refl $ use0 W (‵ ftrue) (id⊢ 𝓤 (emp 𝓤)) $ frame ! $ frame ! $
+        rewrite ! 0 (λ (P : Fml). ‵ P) (still-had 0 tt (kind B ∷ ks) a (spelled 0 tt (kind B ∷ ks) a)) refl $ nothing ! $ frame ! $ frame ! $
         owned ! (row (pair B)) (Is (row (pair B))) (LL.makes (pair B) (pair-plain B) 𝓤 H A) (B .left z t) _ (pair-is B z t is-z is-t) $ done !
 
   module _ (N : Numbers ks) (f : Name) where
-    walks : (C : Calls 𝓤 H) (Λ : Loops 𝓤 H) → FmC 𝓤 H (W .laws) C → Triple 𝓤 (C f) (ByReference B ks answer 𝓤 H A)
+    walks : (C : Calls 𝓤 H) (Λ : Loops 𝓤 H) → FmC 𝓤 H (W .laws) C → Triple 𝓤 (C f) Call
         → Walks 𝓤 H A (by-value B ks) (stays 0 (kind B ∷ ks)) (WpFn 𝓤 H C Λ (lends-own B ks N f)) (value-clauses B ks answer 𝓤)
     walks C Λ fm known = walked 𝓤 H A (by-value B ks) (stays 0 (kind B ∷ ks)) (value-clauses B ks answer 𝓤) (WpFn 𝓤 H C Λ (lends-own B ks N f))
         (λ κs. spells 0 κs (kind B ∷ ks)) (λ κs. tell 0 κs (kind B ∷ ks))
@@ -166,7 +181,7 @@ module _ (B : Held) (ks : List Kind) (answer : B .the .D → Values ks → B .Pa
         (sym (flat-is 0 κs (kind B ∷ ks) a))
         (walk (a .0) (taken 0 κs ks (a .1)) (are .0) (goods 0 κs ks (a .1) (are .1)) N f (mine a) (Ends a) (exits a) C Λ fm known)))
 
-    meets : (𝓣 : Tables 𝓤 H) → Triple 𝓤 (𝓣 .C f) (ByReference B ks answer 𝓤 H A)
+    meets : (𝓣 : Tables 𝓤 H) → Triple 𝓤 (𝓣 .C f) Call
         → Triple 𝓤 (WpFn 𝓤 H (𝓣 .C) (𝓣 .Λ) (lends-own B ks N f)) (ByValue B ks answer 𝓤 H A)
     meets 𝓣 known =
         walk-meets 𝓤 H A (by-value B ks) (stays 0 (kind B ∷ ks)) W (go 0 𝓤 H A W (kind B ∷ ks))

@@ -23,18 +23,18 @@ use types.Run.{look, look-raw, store-raw, init, forget, stop, hop, fld, from, lo
 use types.Run.{enter, alloc1, alloc0, params1, pass1, free1, free0}
 use types.SemTy.{Body}
 use sound.WpLaws.{FmC, fmOf, WpFn-mono}
-use denote.RattleType.{Denots, owns}
+use denote.RattleType.{RattleType, Denots, owns}
 use denote.Laws.{Is, shows}
 use denote.Memory.{mem, lone, pointee}
 use denote.Ref.{RefT, MutRef, ptr-vals, mut-tells}
 use denote.Signature.{plain}
-use denote.Steps.{only, opens, closes, owned, peeks, facts, heard}
+use denote.Steps.{only, opens, closes, owned, peeks, facts, heard, nothing}
 use denote.Enum.Laws as EL
 use denote.Struct.Struct.{layout}
-use denote.Struct.Declared.{shape, row}
+use denote.Struct.Declared.{Declared, shape, row}
 use denote.Struct.Steps.{spelt}
 use denote.Struct.Laws as LL
-use denote.Triple.Statement.{Triple}
+use denote.Triple.Statement.{Contract, Triple}
 use denote.Triple.Call.{calls-at}
 use denote.Triple.Clauses.{ensured}
 use denote.Triple.Clauses as Clauses
@@ -43,9 +43,9 @@ use denote.Triple.Table.{entered, cited}
 use denote.Triple.Walked.{says, Stays, stay-ref, walkOf, AllGo, goes-ref, Walks, ends-at, walked, walk-meets}
 use Rattle.standard.proofs.Told as O
 use Rattle.standard.proofs.Told.Laws as O′
-use Rattle.lent.proofs.Values.{Kind, Values, machines, Goods, slots, stays, rows, taken, given, taken-given, spells, spelled, tell, flat-is, flat-given, goods}
-use Rattle.lent.proofs.Values.{lasts, fits, still-had, had, go, Held, machine, kind, pair, pair-laws, spell-told}
-use Rattle.lent.proofs.Locals.{Blocks, locals, before, copies, Numbers, cells, alloc-all, pass-all, free-all, from-at, operands, read-all}
+use Rattle.lent.proofs.Values.{Kind, Values, machines, Goods, stays, rows, taken, given, taken-given, spells, spelled, tell}
+use Rattle.lent.proofs.Values.{flat-is, flat-given, goods, lasts, fits, still-had, had, go, Held, machine, kind, pair, pair-laws, spell-told}
+use Rattle.lent.proofs.Locals.{locals, copies, Numbers, alloc-all, pass-all, free-all, from-at, operands, read-all}
 use Rattle.lent.proofs.Contracts.{by-value, by-reference, value-clauses, reference-clauses, ByValue, ByReference}
 use Rattle.lent.proofs.Land.{spelled-as}
 use Rattle.lent.proofs.Lends.{refTo}
@@ -72,64 +72,81 @@ abbrev stayed : (B : Held) (ks : List Kind) → Stays (by-reference B ks .signat
 stayed B ks = (stay-ref (0 ∷ []) tt (plain (λ _. row (B .the))), stays 1 ks)
 
 module _ (B : Held) (ks : List Kind) (answer : B .the .D → Values ks → B .Pair) {M : Type 1} (𝓤 : URA M) (H : Heap 𝓤) (A : Atoms 𝓤) (W : Given 𝓤 H A) where
+  -- what lies behind the reference, and what the method answers
+  abbrev R : RattleType
+  R = row (B .the)
+
+  abbrev τ : Ty
+  τ = layout (shape (B .the))
+
+  abbrev P : Declared
+  P = pair B
+
+  abbrev Method : Contract 𝓤
+  Method = ByValue B ks answer 𝓤 H A
+
   module _ (h : B .the .D) (a : Values ks) (ok : Goods ks a) where
     -- what the method is passed, and that it can be passed
-    abbrev to : ByValue B ks answer 𝓤 H A .Ghost
+    abbrev to : Method .Ghost
     to = ((tt, tt, tt, (h, given 0 tt ks a), (machine B h ∷ [], spelled 0 tt ks (given 0 tt ks a))), tt)
 
-    asked : Is (row (B .the)) h (machine B h ∷ []) → ent 𝓤 (emp 𝓤) (ByValue B ks answer 𝓤 H A .pre to)
+    asked : Is R h (machine B h ∷ []) → ent 𝓤 (emp 𝓤) (Method .pre to)
     asked is-h =
-        qed W [] ∵ use0 W (‵ ftrue) (id⊢ 𝓤 (emp 𝓤)) $ use0 W (‵ (owns (rows 0 tt ks) (given 0 tt ks a) (spelled 0 tt ks (given 0 tt ks a)))) (had 0 𝓤 H A W tt ks a ok) $
-        owned ! (row (B .the)) (Is (row (B .the))) (kind B .makes 𝓤 H A W) h _ is-h $ fjoin ! $ move ! (1 ∷ 0 ∷ []) $ join ! $ frame ! $ done !
+        qed W [] ∵ nothing ! $
+        use0 W (‵ (owns (rows 0 tt ks) (given 0 tt ks a) (spelled 0 tt ks (given 0 tt ks a)))) (had 0 𝓤 H A W tt ks a ok) $
+        owned ! R (Is R) (kind B .makes 𝓤 H A W) h _ is-h $ fjoin ! $ move ! (1 ∷ 0 ∷ []) $ join ! $ frame ! $ done !
 
     -- of the method's `ensured`, the clause alone: it has no `&mut`, so what is said of last values is dropped
     said : (r : B .Pair) → ent 𝓤 (ensured 𝓤 H A (by-value B ks) (value-clauses B ks answer 𝓤) tt (h, given 0 tt ks a) tt r)
         (fact 𝓤 (r ≡ answer h (taken 0 tt ks (given 0 tt ks a))))
-    said r = exE 𝓤 _ (λ ws. snd∗ 𝓤 (sem 𝓤 H A (Clauses.lasts (by-value B ks) tt (h, given 0 tt ks a) ws)) (fact 𝓤 (r ≡ answer h (taken 0 tt ks (given 0 tt ks a)))))
+    said r =
+        exE 𝓤 _ (λ ws. snd∗ 𝓤 (sem 𝓤 H A (Clauses.lasts (by-value B ks) tt (h, given 0 tt ks a) ws)) (fact 𝓤 (r ≡ answer h (taken 0 tt ks (given 0 tt ks a)))))
 
     module _ (N : Numbers ks) (f : Name) (κ : Lft) (q : Share) (b o : ℕ) (γ : GName) (rest : Fml) (Post : Val → SProp 𝓤)
         (exits : (r : B .Pair) → Is O.the-row (B .told r) (spell-told (B .told r) ∷ []) → r ≡ answer h a
-          → ent 𝓤 (sep 𝓤 (A .obs γ (row (B .the) .coded .code (B .held r))) (sep 𝓤 (A .bor κ (Body (mem (row (B .the))) b o γ)) (sep 𝓤 (A .lft κ q) (sem 𝓤 H A rest))))
+          → ent 𝓤 (sep 𝓤 (A .obs γ (R .coded .code (B .held r))) (sep 𝓤 (A .bor κ (Body (mem R) b o γ)) (sep 𝓤 (A .lft κ q) (sem 𝓤 H A rest))))
           (Post (spell-told (B .told r))))
-        (C : Calls 𝓤 H) (Λ : Loops 𝓤 H) (fm : FmC 𝓤 H (W .laws) C) (known : Triple 𝓤 (C f) (ByValue B ks answer 𝓤 H A)) where
-      walk : ent 𝓤 (sep 𝓤 (sep 𝓤 (A .lft κ q) (emp 𝓤)) (sem 𝓤 H A (fsep (MutRef (named 0) κ (row (B .the)) .own (refTo h b o γ) (vptr b o ∷ [])) rest)))
+        (C : Calls 𝓤 H) (Λ : Loops 𝓤 H) (fm : FmC 𝓤 H (W .laws) C) (known : Triple 𝓤 (C f) Method) where
+      walk : ent 𝓤 (sep 𝓤 (sep 𝓤 (A .lft κ q) (emp 𝓤)) (sem 𝓤 H A (fsep (MutRef (named 0) κ R .own (refTo h b o γ) (vptr b o ∷ [])) rest)))
           (WpFn 𝓤 H C Λ (changes B ks N f) (vptr b o ∷ machines ks a) Post)
       walk =
-          qed W ((‵ (flft κ q) ⊛ ‵ ftrue) ∷ ‵ (fsep (MutRef (named 0) κ (row (B .the)) .own (refTo h b o γ) (vptr b o ∷ [])) rest) ∷ []) ∵
+          qed W ((‵ (flft κ q) ⊛ ‵ ftrue) ∷ ‵ (fsep (MutRef (named 0) κ R .own (refTo h b o γ) (vptr b o ∷ [])) rest) ∷ []) ∵
           split ! $ move ! (2 ∷ []) $ fsplit ! $ fsplit3 ! $ drop ! $ move ! (0 ∷ 1 ∷ 3 ∷ []) $
           -- [obs; the borrow; the token; what the other parameters own; true]
           enter ! C Λ (changes B ks N f) (vptr b o ∷ machines ks a) _ $
           alloc1 ! (λ l₀. alloc1 ! (λ l₁. alloc-all ! ks (λ bs. alloc1 ! (λ l₂. alloc1 ! (λ l₃. alloc0 ! $ params1 ! $ pass1 ! (init ! 5 refl (tt, tt)) $
-          move ! (4 ∷ []) $ pass-all ! ks bs a ok ((layout (shape (pair B)), l₂) ∷ (layout (shape (B .the)), l₃) ∷ []) $ move ! (9 ∷ 10 ∷ 11 ∷ []) $ opens ! tt (row (B .the)) {h = h} b o
-          (λ vs. spelt ! (row (B .the)) (Is (row (B .the))) (shows 𝓤 H A (row (B .the))) (LL.vals (B .the) (B .laws)) (LL.tells (B .the) (B .laws)) fullShare h vs b o $
-          move ! (1 ∷ []) $ peeks ! (row (B .the)) (Is (row (B .the))) (shows 𝓤 H A (row (B .the))) h (machine B h ∷ []) (λ is-h. move ! (1 ∷ 0 ∷ []) $
-          -- [the struct's cell; what it owns; the open borrow; obs; auth; the arguments; room for the copy; …; room for made; …; the reference; …; room for the result; …]
+          move ! (4 ∷ []) $ pass-all ! ks bs a ok ((layout (shape P), l₂) ∷ (τ, l₃) ∷ []) $ move ! (9 ∷ 10 ∷ 11 ∷ []) $ opens ! tt R {h = h} b o
+          (λ vs. spelt ! R (Is R) (shows 𝓤 H A R) (LL.vals (B .the) (B .laws)) (LL.tells (B .the) (B .laws)) fullShare h vs b o $
+          move ! (1 ∷ []) $ peeks ! R (Is R) (shows 𝓤 H A R) h (machine B h ∷ []) (λ is-h. move ! (1 ∷ 0 ∷ []) $
+          -- [the struct's cell; what it owns; the open borrow; obs; auth; the arguments; room for the copy; …; room for made; …; the reference; …;
+          -- room for the result; …]
           assigns ! (of-opd ! (load ! (from ! (hop ! (look ! 10 refl) (stop !))) (look-raw ! 0 refl))) (from-at ! (N .at₁ _ _ bs _ _ []) (stop !))
           (init ! 6 refl (kind B .typed 𝓤 H A W h is-h)) $
-          use0 W (raw (ByValue B ks answer 𝓤 H A .pre to)) (asked is-h) $
-          calls-at ! fm (ByValue B ks answer 𝓤 H A) known to
+          use0 W (raw (Method .pre to)) (asked is-h) $
+          calls-at ! fm Method known to
           (operands ! (ap (λ (us : List Val). machine B h ∷ us) (flat-given 0 tt ks a))
-          (and-then ! (load ! (from-at ! (N .at₁ _ _ bs _ _ []) (stop !)) (look ! 7 refl)) (read-all ! ks bs a (N .args) (N .lie _ _ bs _) (λ τ b′ v back p. look-in ! 6 p)))) (λ u.
-          use1 W (later (some (λ (r : B .Pair). (‵ ftrue ⊛ ‵ (row (pair B) .own r (u ∷ []))) ⊛
+          (and-then ! (load ! (from-at ! (N .at₁ _ _ bs _ _ []) (stop !)) (look ! 7 refl))
+          (read-all ! ks bs a (N .args) (N .lie _ _ bs _) (λ σ p v back part. look-in ! 6 part)))) (λ u.
+          use1 W (later (some (λ (r : B .Pair). (‵ ftrue ⊛ ‵ (row P .own r (u ∷ []))) ⊛
           raw (ensured 𝓤 H A (by-value B ks) (value-clauses B ks answer 𝓤) tt (h, given 0 tt ks a) tt r)))) (id⊢ 𝓤 _) $ await ! tt $ pick ! (λ r.
           split ! $ move ! (1 ∷ []) $ use1 W (raw (fact 𝓤 (r ≡ answer h (taken 0 tt ks (given 0 tt ks a))))) (said r) $
           heard ! (r ≡ answer h (taken 0 tt ks (given 0 tt ks a))) (λ e. split ! $ drop ! $
-          facts ! (row (pair B)) (Is (row (pair B))) (shows 𝓤 H A (row (pair B))) r (u ∷ []) (λ is.
-          spelled-as ! (ap only (LL.tells (pair B) (pair-laws B) r (u ∷ []) is)) $
-          land ! (from-at ! (N .at₀ _ _ bs _ _) (stop !)) (init ! 8 refl (LL.lawful (pair B) (pair-laws B) 𝓤 H A W .typed r _
-          (LL.owes (pair B) (pair-laws B) r (LL.owed (pair B) (pair-laws B) r _ is)) .0)) $
+          facts ! (row P) (Is (row P)) (shows 𝓤 H A (row P)) r (u ∷ []) (λ is.
+          spelled-as ! (ap only (LL.tells P (pair-laws B) r (u ∷ []) is)) $
+          land ! (from-at ! (N .at₀ _ _ bs _ _) (stop !)) (init ! 8 refl (LL.lawful P (pair-laws B) 𝓤 H A W .typed r _
+          (LL.owes P (pair-laws B) r (LL.owed P (pair-laws B) r _ is)) .0)) $
           assigns ! (of-opd ! (load ! (from-at ! (N .at₀ _ _ bs _ _) (fld ! refl (stop !))) (look-in ! 8 (sub ! 0 refl (whole !)))))
           (from ! (hop ! (look ! 10 refl) (stop !)))
-          (store-raw ! 0 refl (kind B .typed 𝓤 H A W (B .held r) (LL.owed (pair B) (pair-laws B) r _ is .0))) $
+          (store-raw ! 0 refl (kind B .typed 𝓤 H A W (B .held r) (LL.owed P (pair-laws B) r _ is .0))) $
           assigns ! (of-opd ! (load ! (from-at ! (N .at₀ _ _ bs _ _) (fld ! refl (stop !))) (look-in ! 8 (sub ! 1 refl (whole !))))) (from ! (stop !))
-          (init ! 12 refl (EL.lawful O.the-type O′.the-laws 𝓤 H A W tt .typed (B .told r) _ (LL.owed (pair B) (pair-laws B) r _ is .1 .0) .0)) $
-          move ! (1 ∷ []) $ drop ! $ owned ! (row (B .the)) (Is (row (B .the))) (kind B .makes 𝓤 H A W) (B .held r) _ (LL.owed (pair B) (pair-laws B) r _ is .0) $
-          move ! (1 ∷ 0 ∷ []) $ closes ! tt (row (B .the)) (B .held r) (machine B (B .held r) ∷ []) b o $
+          (init ! 12 refl (EL.lawful O.the-type O′.the-laws 𝓤 H A W tt .typed (B .told r) _ (LL.owed P (pair-laws B) r _ is .1 .0) .0)) $
+          move ! (1 ∷ []) $ drop ! $ owned ! R (Is R) (kind B .makes 𝓤 H A W) (B .held r) _ (LL.owed P (pair-laws B) r _ is .0) $
+          move ! (1 ∷ 0 ∷ []) $ closes ! tt R (B .held r) (machine B (B .held r) ∷ []) b o $
           -- [obs; the borrow; the token; the arguments; the copy; …; made; …; the reference; …; the result; …; what the other parameters own; true]
           returns ! (look ! 10 refl) $ forget ! 4 refl $ forget ! 6 refl $ forget ! 8 refl $ forget ! 10 refl $
           move ! (10 ∷ 11 ∷ []) $ free1 ! $ move ! (8 ∷ 9 ∷ []) $ free1 ! $ move ! (3 ∷ []) $ free-all ! ks bs a $
           move ! (5 ∷ 6 ∷ []) $ free1 ! $ move ! (3 ∷ 4 ∷ []) $ free1 ! $ free0 ! $
-          keep ! (0 ∷ 1 ∷ 2 ∷ 3 ∷ []) $ by ! (exits r (LL.owed (pair B) (pair-laws B) r _ is .1 .0) (e ∙ ap (answer h) (taken-given 0 tt ks a))))))))))))))
+          keep ! (0 ∷ 1 ∷ 2 ∷ 3 ∷ []) $ by ! (exits r (LL.owed P (pair-laws B) r _ is .1 .0) (e ∙ ap (answer h) (taken-given 0 tt ks a))))))))))))))
 
   -- at the contract's own binders: what the function has at exit is what the contract asks
   module _ (κ : Lft) (q : Share) (x : RefT (B .the .D)) (a : Denots (rows 1 (κ, tt) ks)) where
@@ -143,24 +160,24 @@ module _ (B : Held) (ks : List Kind) (answer : B .the .D → Values ks → B .Pa
     others = owns (rows 1 (κ, tt) ks) a (spelled 1 (κ, tt) ks a)
 
     exits : (r : B .Pair) → Is O.the-row (B .told r) (spell-told (B .told r) ∷ []) → r ≡ answer (x .now) (taken 1 (κ, tt) ks a)
-        → ent 𝓤 (sep 𝓤 (A .obs (x .name) (row (B .the) .coded .code (B .held r)))
-          (sep 𝓤 (A .bor κ (Body (mem (row (B .the))) (x .ptr .0) (x .ptr .1) (x .name))) (sep 𝓤 (A .lft κ q) (sem 𝓤 H A others))))
+        → ent 𝓤 (sep 𝓤 (A .obs (x .name) (R .coded .code (B .held r)))
+          (sep 𝓤 (A .bor κ (Body (mem R) (x .ptr .0) (x .ptr .1) (x .name))) (sep 𝓤 (A .lft κ q) (sem 𝓤 H A others))))
         (Ends (spell-told (B .told r)))
     exits r is-t e =
-        qed W (‵ (fobs (x .name) (row (B .the) .coded .code (B .held r))) ∷ ‵ (fbor κ (Body (mem (row (B .the))) (x .ptr .0) (x .ptr .1) (x .name))) ∷
+        qed W (‵ (fobs (x .name) (R .coded .code (B .held r))) ∷ ‵ (fbor κ (Body (mem R) (x .ptr .0) (x .ptr .1) (x .name))) ∷
         ‵ (flft κ q) ∷ ‵ others ∷ []) ∵
         suffices ! _ (ends-at 𝓤 H A (by-reference B ks) (stayed B ks) (reference-clauses B ks answer 𝓤) W bound (spell-told (B .told r)) (B .told r)
         (B .held r, lasts 1 (κ, tt) ks a) (tt, fits 1 (κ, tt) ks a)) $ says ! (B .left-again r ∙ e) $
-        use0 W (‵ ftrue) (id⊢ 𝓤 (emp 𝓤)) $ move ! (3 ∷ 0 ∷ []) $ join ! $ frame ! $
+        nothing ! $ move ! (3 ∷ 0 ∷ []) $ join ! $ frame ! $
         feqI ! (List Val) (vptr (x .ptr .0) (x .ptr .1) ∷ []) (vptr (x .ptr .0) (x .ptr .1) ∷ []) refl $ fjoin3 ! $
         rewrite ! 1 (λ (P : Fml). ‵ P) (still-had 1 (κ, tt) ks a (spelled 1 (κ, tt) ks a)) refl $ fjoin ! $
         owned ! O.the-row (Is O.the-row) ((EL.makes O.the-type O′.the-plain) 𝓤 H A) (B .told r) _ is-t $ move ! (1 ∷ 0 ∷ []) $ done !
 
   module _ (N : Numbers ks) (f : Name) where
-    walks : (C : Calls 𝓤 H) (Λ : Loops 𝓤 H) → FmC 𝓤 H (W .laws) C → Triple 𝓤 (C f) (ByValue B ks answer 𝓤 H A)
+    walks : (C : Calls 𝓤 H) (Λ : Loops 𝓤 H) → FmC 𝓤 H (W .laws) C → Triple 𝓤 (C f) Method
         → Walks 𝓤 H A (by-reference B ks) (stayed B ks) (WpFn 𝓤 H C Λ (changes B ks N f)) (reference-clauses B ks answer 𝓤)
     walks C Λ fm known = walked 𝓤 H A (by-reference B ks) (stayed B ks) (reference-clauses B ks answer 𝓤) (WpFn 𝓤 H C Λ (changes B ks N f))
-        (λ κs. (ptr-vals, spells 1 κs ks)) (λ κs. (mut-tells (named 0) (κs .0) (row (B .the)), tell 1 κs ks))
+        (λ κs. (ptr-vals, spells 1 κs ks)) (λ κs. (mut-tells (named 0) (κs .0) R, tell 1 κs ks))
         (λ κs qs bounds a g are. via 𝓤 _ (fst∗ 𝓤 _ (emp 𝓤)) (subst (λ (us : List Val).
         ent 𝓤 (onEntry 𝓤 H A (by-reference B ks .signature) κs qs a (ptr-vals (a .0), spelled 1 κs ks (a .1)))
         (WpFn 𝓤 H C Λ (changes B ks N f) (vptr (a .0 .ptr .0) (a .0 .ptr .1) ∷ us) (Ends (κs .0) (qs .0) (a .0) (a .1))))
@@ -168,7 +185,7 @@ module _ (B : Held) (ks : List Kind) (answer : B .the .D → Values ks → B .Pa
         (walk (a .0 .now) (taken 1 κs ks (a .1)) (goods 1 κs ks (a .1) (are .1)) N f (κs .0) (qs .0) (a .0 .ptr .0) (a .0 .ptr .1) (a .0 .name)
         (others (κs .0) (qs .0) (a .0) (a .1)) (Ends (κs .0) (qs .0) (a .0) (a .1)) (exits (κs .0) (qs .0) (a .0) (a .1)) C Λ fm known)))
 
-    meets : (𝓣 : Tables 𝓤 H) → Triple 𝓤 (𝓣 .C f) (ByValue B ks answer 𝓤 H A)
+    meets : (𝓣 : Tables 𝓤 H) → Triple 𝓤 (𝓣 .C f) Method
         → Triple 𝓤 (WpFn 𝓤 H (𝓣 .C) (𝓣 .Λ) (changes B ks N f)) (ByReference B ks answer 𝓤 H A)
     meets 𝓣 known =
         walk-meets 𝓤 H A (by-reference B ks) (stayed B ks) W (goes-ref 𝓤 H A W 1 0 tt (plain (λ _. row (B .the))), go 1 𝓤 H A W ks)

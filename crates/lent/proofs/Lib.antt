@@ -1,4 +1,4 @@
--- What the walks share, and what a refusal leaves.
+-- What the walks share: the types and locals that they are over, the contracts that they join and the two walks; and what a refusal leaves.
 pub mod Values
 pub mod Locals
 pub mod Contracts

@@ -12,7 +12,8 @@ use base.Logic.{SProp, sep, emp, wand, all, allE, apply∗, id⊢}
 use base.Fml.{fat, froom, fdies}
 use prog.Wp.{Heap, Env, Spot}
 use ghost.Atoms.{Atoms}
-use types.Kit.{Given, Item, Goal, allocs, passes, frees, Seq, Step, step, ‵, raw, mean, _⊛_, _$_, _∵_, !, qed, move, drop, use0, use1, use2, use3, split, assume, frame, each, done}
+use types.Kit.{Given, Item, Goal, allocs, passes, frees, Seq, Step, step, ‵, raw, mean, _⊛_, _$_, _∵_, !, qed}
+use types.Kit.{move, drop, use0, use1, use2, use3, split, assume, frame, each, done}
 use types.Part.{Part}
 use types.Run.{Reads, Walks, Finds, Opds, init, forget, stop, from, load, and-then, no-more, alloc1, pass1, pass0, free1}
 use Rattle.lent.proofs.Values.{Kind, Values, machines, Goods}
@@ -144,7 +145,8 @@ module _ {M : Type 1} {𝓤 : URA M} {H : Heap 𝓤} {A : Atoms 𝓤} {K : Type 
   operands {Γ} {E} {xs} t e o = subst (λ (ws : List Val). Opds K W Γ E xs ws) (sym e) o
 
   -- each of the cells can be taken out, and put back
-  first : (k : Kind) (ks : List Kind) (bs : Blocks (k ∷ ks)) (a : Values (k ∷ ks)) → Part K W (raw (cells 𝓤 H (k ∷ ks) bs a)) fullShare (k .ty) (bs .0) zero (k .val (a .0))
+  first : (k : Kind) (ks : List Kind) (bs : Blocks (k ∷ ks)) (a : Values (k ∷ ks))
+      → Part K W (raw (cells 𝓤 H (k ∷ ks) bs a)) fullShare (k .ty) (bs .0) zero (k .val (a .0))
       (λ u. raw (sep 𝓤 (cells 𝓤 H ks (bs .1) (a .1)) (sep 𝓤 (H .at fullShare (k .ty) (bs .0) zero u) (H .dies (k .ty) (bs .0)))))
   first k ks bs a = record {
     out =
@@ -165,8 +167,8 @@ module _ {M : Type 1} {𝓤 : URA M} {H : Heap 𝓤} {A : Atoms 𝓤} {K : Type 
       qed W ((raw (cells 𝓤 H ks (bs .1) (a .1)) ⊛ raw own) ∷ []) ∵ split ! $
       use1 W (‵ (fat fullShare τ b zero v) ⊛ raw (all 𝓤 way)) (p .out) $ split ! $ frame ! $
       each ! (λ (u : Val). wand 𝓤 (H .at fullShare τ b zero u) (sep 𝓤 (mean 𝓤 H A (back u)) own))
-      (λ u. assume {P = sep 𝓤 (mean 𝓤 H A (back u)) own} ! (‵ (fat fullShare τ b zero u)) $ move ! (1 ∷ []) $ use1 W (raw (way u)) (allE 𝓤 way u) $ move ! (1 ∷ 0 ∷ []) $
-      use2 W (back u) (apply∗ 𝓤 (H .at fullShare τ b zero u) (mean 𝓤 H A (back u))) $ done !);
+      (λ u. assume {P = sep 𝓤 (mean 𝓤 H A (back u)) own} ! (‵ (fat fullShare τ b zero u)) $ move ! (1 ∷ []) $ use1 W (raw (way u)) (allE 𝓤 way u) $
+      move ! (1 ∷ 0 ∷ []) $ use2 W (back u) (apply∗ 𝓤 (H .at fullShare τ b zero u) (mean 𝓤 H A (back u))) $ done !);
     same = ap (λ (i : Item 𝓤). raw (sep 𝓤 (mean 𝓤 H A i) own)) (p .same);
   }
     where
@@ -184,4 +186,5 @@ module _ {M : Type 1} {𝓤 : URA M} {H : Heap 𝓤} {A : Atoms 𝓤} {K : Type 
   read-all t [] bs a (i ∷ is) lie see = absurd lie
   read-all t (k ∷ ks) bs a [] lie see = absurd lie
   read-all t (k ∷ ks) bs a (i ∷ is) lie see =
-      and-then t (load t (from-at t (lie .0) (stop t)) (see _ _ _ _ (first k ks bs a))) (read-all t ks (bs .1) (a .1) is (lie .1) (λ τ b v back p. see τ b v _ (later-one k ks bs a p)))
+      and-then t (load t (from-at t (lie .0) (stop t)) (see _ _ _ _ (first k ks bs a)))
+      (read-all t ks (bs .1) (a .1) is (lie .1) (λ τ b v back p. see τ b v _ (later-one k ks bs a p)))

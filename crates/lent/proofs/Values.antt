@@ -226,7 +226,8 @@ module _ (B : Held) where
   abbrev pub paired : B .the .D → Told → Val
   paired h t = vstruct (ofList (machine h ∷ spell-told t ∷ []))
 
-  pub pair-is : (h : B .the .D) (t : Told) → Is (row (B .the)) h (machine h ∷ []) → Is O.the-row t (spell-told t ∷ []) → Is (row pair) (B .left h t) (paired h t ∷ [])
+  pub pair-is : (h : B .the .D) (t : Told) → Is (row (B .the)) h (machine h ∷ []) → Is O.the-row t (spell-told t ∷ [])
+      → Is (row pair) (B .left h t) (paired h t ∷ [])
   pair-is h t is-h is-t = (
     (machine h ∷ [], (spell-told t ∷ [], tt)),
     (

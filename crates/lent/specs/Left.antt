@@ -1,4 +1,5 @@
--- What a call on a lent bitfield leaves, as the answer that the method by value gives: the bitfield behind the reference, and what is told. Assumes nothing: these are definitions.
+-- What a call on a lent bitfield leaves, as the answer that the method by value gives: the bitfield behind the reference, and what is told.
+-- Assumes nothing: these are definitions.
 use Rattle.standard.specs.declared.Told.{Told}
 use Rattle.bitfield.specs.declared.BitList.{BitList}
 use Rattle.bitfield.specs.declared.BitVector.{BitVector}

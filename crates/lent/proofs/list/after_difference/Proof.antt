@@ -1,4 +1,4 @@
--- `lent::list::after_difference` meets its contract: the walk of `After.antt` at a bit list and another one. Assumes nothing.
+-- `lent::list::after_difference` meets its contract: the walk of `After.antt` at a bit list, with another one. Assumes nothing.
 use mathlib.Core.List.{[], _∷_}
 use Rattle.bitfield.specs.Lists.{listDifference}
 use Rattle.lent.proofs.Values.{lists, kind}
@@ -13,5 +13,5 @@ use Rattle.lent.proofs.list.after_difference.Code as code
 pub after-difference-spec : {M : Type 1} → statement M
 unfolding code.routine
 after-difference-spec 𝓤 H 𝓜 𝓖 𝓡 =
-    after lists (kind lists ∷ []) (one (kind lists)) (λ h a. listDifference h (a .0)) 𝓤 H 𝓜 𝓖 𝓡 code.env Key.name called.name called.routine (code.unfolded 𝓤 H 𝓜 𝓡)
-    code.calls-lent·list·difference-inplace (met 𝓤 H 𝓜 𝓖 𝓡)
+    after lists (kind lists ∷ []) (one (kind lists)) (λ h a. listDifference h (a .0))
+    𝓤 H 𝓜 𝓖 𝓡 code.env Key.name called.name called.routine (code.unfolded 𝓤 H 𝓜 𝓡) code.calls-lent·list·difference-inplace (met 𝓤 H 𝓜 𝓖 𝓡)

@@ -1,4 +1,4 @@
--- `lent::list::after_not` meets its contract: the walk of `After.antt` at a bit list and no more. Assumes nothing.
+-- `lent::list::after_not` meets its contract: the walk of `After.antt` at a bit list, with no argument. Assumes nothing.
 use mathlib.Core.List.{[]}
 use Rattle.bitfield.specs.Lists.{listNot}
 use Rattle.lent.proofs.Values.{lists}
@@ -13,5 +13,5 @@ use Rattle.lent.proofs.list.after_not.Code as code
 pub after-not-spec : {M : Type 1} → statement M
 unfolding code.routine
 after-not-spec 𝓤 H 𝓜 𝓖 𝓡 =
-    after lists [] none (λ h a. listNot h) 𝓤 H 𝓜 𝓖 𝓡 code.env Key.name called.name called.routine (code.unfolded 𝓤 H 𝓜 𝓡)
-    code.calls-lent·list·not-inplace (met 𝓤 H 𝓜 𝓖 𝓡)
+    after lists [] none (λ h a. listNot h)
+    𝓤 H 𝓜 𝓖 𝓡 code.env Key.name called.name called.routine (code.unfolded 𝓤 H 𝓜 𝓡) code.calls-lent·list·not-inplace (met 𝓤 H 𝓜 𝓖 𝓡)

@@ -1,4 +1,4 @@
--- `lent::list::set` meets its contract: the walk of `Inplace.antt` at a bit list and an index and a bool. Assumes nothing.
+-- `lent::list::set` meets its contract: the walk of `Inplace.antt` at a bit list, with an index and a bool. Assumes nothing.
 use mathlib.Core.List.{[], _∷_}
 use Rattle.bitfield.specs.Lists.{listSet}
 use Rattle.bitfield.proofs.BitList.set.Symbol as called
@@ -13,5 +13,5 @@ use Rattle.lent.proofs.list.set.Code as code
 pub set-spec : {M : Type 1} → statement M
 unfolding code.routine
 set-spec 𝓤 H 𝓜 𝓖 𝓡 =
-    inplace lists (number ∷ truth ∷ []) (two number truth) (λ h a. listSet h (a .0) (a .1 .0)) 𝓤 H 𝓜 𝓖 𝓡 code.env Key.name called.name called.routine (code.unfolded 𝓤 H 𝓜 𝓡)
-    code.calls-bitfield·BitList·set (met 𝓤 H 𝓜 𝓖 𝓡)
+    inplace lists (number ∷ truth ∷ []) (two number truth) (λ h a. listSet h (a .0) (a .1 .0))
+    𝓤 H 𝓜 𝓖 𝓡 code.env Key.name called.name called.routine (code.unfolded 𝓤 H 𝓜 𝓡) code.calls-bitfield·BitList·set (met 𝓤 H 𝓜 𝓖 𝓡)

@@ -1,4 +1,4 @@
--- `lent::vector::after_set` meets its contract: the walk of `After.antt` at a bit vector and an index and a bool. Assumes nothing.
+-- `lent::vector::after_set` meets its contract: the walk of `After.antt` at a bit vector, with an index and a bool. Assumes nothing.
 use mathlib.Core.List.{[], _∷_}
 use Rattle.bitfield.specs.Vectors.{vectorSet}
 use Rattle.lent.proofs.Values.{number, truth, vectors}
@@ -13,5 +13,5 @@ use Rattle.lent.proofs.vector.after_set.Code as code
 pub after-set-spec : {M : Type 1} → statement M
 unfolding code.routine
 after-set-spec 𝓤 H 𝓜 𝓖 𝓡 =
-    after vectors (number ∷ truth ∷ []) (two number truth) (λ h a. vectorSet h (a .0) (a .1 .0)) 𝓤 H 𝓜 𝓖 𝓡 code.env Key.name called.name called.routine (code.unfolded 𝓤 H 𝓜 𝓡)
-    code.calls-lent·vector·set (met 𝓤 H 𝓜 𝓖 𝓡)
+    after vectors (number ∷ truth ∷ []) (two number truth) (λ h a. vectorSet h (a .0) (a .1 .0))
+    𝓤 H 𝓜 𝓖 𝓡 code.env Key.name called.name called.routine (code.unfolded 𝓤 H 𝓜 𝓡) code.calls-lent·vector·set (met 𝓤 H 𝓜 𝓖 𝓡)

@@ -1,4 +1,4 @@
--- `lent::vector::not_inplace` meets its contract: the walk of `Inplace.antt` at a bit vector and no more. Assumes nothing.
+-- `lent::vector::not_inplace` meets its contract: the walk of `Inplace.antt` at a bit vector, with no argument. Assumes nothing.
 use mathlib.Core.List.{[]}
 use Rattle.bitfield.specs.Vectors.{vectorNot}
 use Rattle.bitfield.proofs.BitVector.not.Symbol as called
@@ -13,5 +13,5 @@ use Rattle.lent.proofs.vector.not_inplace.Code as code
 pub not-inplace-spec : {M : Type 1} → statement M
 unfolding code.routine
 not-inplace-spec 𝓤 H 𝓜 𝓖 𝓡 =
-    inplace vectors [] none (λ h a. vectorNot h) 𝓤 H 𝓜 𝓖 𝓡 code.env Key.name called.name called.routine (code.unfolded 𝓤 H 𝓜 𝓡)
-    code.calls-bitfield·BitVector·not (met 𝓤 H 𝓜 𝓖 𝓡)
+    inplace vectors [] none (λ h a. vectorNot h)
+    𝓤 H 𝓜 𝓖 𝓡 code.env Key.name called.name called.routine (code.unfolded 𝓤 H 𝓜 𝓡) code.calls-bitfield·BitVector·not (met 𝓤 H 𝓜 𝓖 𝓡)
