@@ -26,9 +26,9 @@ ghost use mathlib.Core.Bool.{false};
 ghost use Prim.Native.Nat.{_≤_};
 ghost use lib.ListN.{getD, set};
 ghost use Rattle.bitfield.specs.Body.{highest};
-ghost use Rattle.bitfield.specs.Bools.{noBits, moved, widened, count, noneSet, subset};
+ghost use Rattle.bitfield.specs.Bools.{noBits, flipped, moved, widened, count, noneSet, subset};
 ghost use Rattle.bitfield.specs.Facts.{Kept};
-ghost use Rattle.bitfield.specs.Held.{bitsIn, held, opBits, limited, inside, upTo, notBelow, andThen, outcome, bitAnswer, countAnswer, topAnswer};
+ghost use Rattle.bitfield.specs.Held.{bitsIn, held, limited, inside, upTo, notBelow, andThen, outcome, bitAnswer, countAnswer, topAnswer};
 
 pub(crate) fn refused(told: Told) -> Outcome
     ensures { λ r. ⌜ r ≡ record { field = held []; told = told } ⌝ }
@@ -48,20 +48,13 @@ pub(crate) fn made(field: Field) -> Outcome
     }
 }
 
-// The complement, and any other operation by bytes.
-pub(crate) fn merge<'a>(
-    told: Told,
-    op: Op,
-    a: &'a [u8; 256],
-    la: usize,
-    b: &'a [u8; 256],
-    lb: usize,
-) -> Outcome
-    requires { ⌜ (told ≡ Told.Fine → Kept (now a) la × Kept (now b) lb) ⌝ }
-    ensures { λ r. ⌜ r ≡ outcome told (held (opBits op (bitsIn (now (a .entry)) la) (bitsIn (now (b .entry)) lb))) ⌝ }
+// The complement.
+pub(crate) fn complement(told: Told, a: &[u8; 256], len: usize) -> Outcome
+    requires { ⌜ (told ≡ Told.Fine → Kept (now a) len) ⌝ }
+    ensures { λ r. ⌜ r ≡ outcome told (held (flipped (bitsIn (now (a .entry)) len))) ⌝ }
 {
     match told {
-        Told::Fine => made(merged(op, a, la, b, lb)),
+        Told::Fine => made(merged(Op::Not, a, len, a, len)),
         Told::Refused(_) => refused(told),
     }
 }

@@ -1,5 +1,7 @@
--- `reader::decode_next` meets its contract: a walk of its MIR, by hand. The struct is taken apart; `step_after` is called on the ranges and the numbers, and `SszDecoder::item` on the ranges, the number and the slice.
--- All that the proof knows of the two is that each meets its contract. The struct is Copy: what it owns is had twice, one copy is kept whole for the exit, and of the other what bytes owns is had twice, for the callee and for the reader that comes after.
+-- `reader::decode_next` meets its contract: a walk of its MIR, by hand. The struct is taken apart; `step_after` is called on the ranges and the numbers, and
+-- `SszDecoder::item` on the ranges, the number and the slice.
+-- All that the proof knows of the two is that each meets its contract. The struct is Copy: what it owns is had twice, one copy is kept whole for the exit, and
+-- of the other what bytes owns is had twice, for the callee and for the reader that comes after.
 -- Assumes nothing.
 use mathlib.Core.Path.{_≡_, refl, ap}
 use Prim.Native.Nat.{ℕ, _<_, _^_}
@@ -16,9 +18,11 @@ use prog.Wp.{Heap, Calls, Loops, WpFn, Tables}
 use ghost.Atoms.{Atoms, sem}
 use contract.Monad.{Fun, fact}
 use contract.Running.{givenOf, tables, tablesOf}
-use types.Kit.{Given, ‵, raw, _⊛_, given, ⋆, some, later, _$_, _∵_, !, qed, by, move, drop, use1, use2, rewrite, split, join, learn, pick, fsplit, fjoin, suffices, frame, await, done}
+use types.Kit.{Given, ‵, raw, _⊛_, given, ⋆, some, later, _$_, _∵_, !, qed, by, move, drop, use1, use2, rewrite, split, join, learn, pick, fsplit}
+use types.Kit.{fjoin, suffices, frame, await, done}
 use types.Part.{whole, sub, look-in, agg}
-use types.Run.{look, init, forget, stop, fld, from, load, of-opd, and-then, no-more, assigns, land, returns, enter, alloc1, alloc0, params1, pass1, pass0, free1, free0}
+use types.Run.{look, init, forget, stop, fld, from, load, of-opd, and-then, no-more, assigns, land, returns, enter, alloc1, alloc0, params1, pass1}
+use types.Run.{pass0, free1, free0}
 use sound.WpLaws.{FmC, fmOf, WpFn-mono}
 use denote.RattleType.{RattleType, owns}
 use denote.Laws.{Is, shows}
@@ -219,7 +223,8 @@ module _ {M : Type 1} (𝓤 : URA M) (H : Heap 𝓤) (A : Atoms 𝓤) (W : Given
       walk : ent 𝓤 (onEntry 𝓤 H A next.signature (κ, tt) (q, tt) (d, tt) (mach ∷ [], tt)) (WpFn 𝓤 H C Λ code.function (mach ∷ []) Post)
       walk =
           qed W (raw (onEntry 𝓤 H A next.signature (κ, tt) (q, tt) (d, tt) (mach ∷ [], tt)) ∷ []) ∵ enter ! C Λ code.function (mach ∷ []) _ $
-          alloc1 ! (λ l₀. alloc1 ! (λ l₁. alloc1 ! (λ l₂. alloc1 ! (λ l₃. alloc1 ! (λ l₄. alloc1 ! (λ l₅. alloc1 ! (λ l₆. alloc1 ! (λ l₇. alloc1 ! (λ l₈. alloc0 ! $ params1 ! $
+          alloc1 ! (λ l₀. alloc1 ! (λ l₁. alloc1 ! (λ l₂. alloc1 ! (λ l₃. alloc1 ! (λ l₄.
+          alloc1 ! (λ l₅. alloc1 ! (λ l₆. alloc1 ! (λ l₇. alloc1 ! (λ l₈. alloc0 ! $ params1 ! $
           pass1 ! (init ! 14 refl (LL.lawful D L 𝓤 H A W .typed d _ (LL.owes D L d (is-s, (is-d, ((refl, ok), tt)))) .0)) $ pass0 ! $
           assigns ! (of-opd ! (load ! (from ! (fld ! refl (stop !))) (look-in ! 14 (sub ! 0 refl (whole !))))) (from ! (stop !))
           (init ! 12 refl (tt, shr-slice-lawful 𝓤 H A W (named 0) κ u8 .typed (d .bytes) (v ∷ []) is-s .0 .1)) $
@@ -233,7 +238,8 @@ module _ {M : Type 1} (𝓤 : URA M) (H : Heap 𝓤) (A : Atoms 𝓤) (W : Given
           calls-at ! fm (StepAfter 𝓤 H A mem run) known-step to-step
           (and-then ! (load ! (from ! (stop !)) (look ! 11 refl))
           (and-then ! (load ! (from ! (stop !)) (look ! 9 refl)) (and-then ! (load ! (from ! (stop !)) (look ! 3 refl)) (no-more !)))) (λ u.
-          use1 W (later (some (λ (r : ReaderStep). (‵ ftrue ⊛ ‵ (P.the-row .own r (u ∷ []))) ⊛ raw (ensured 𝓤 H A step.ended (step.clauses 𝓤 H A mem run) tt (d .ranges, (d .next, (len, tt))) tt r)))) (id⊢ 𝓤 _) $ await ! tt $ pick ! (λ r.
+          use1 W (later (some (λ (r : ReaderStep). (‵ ftrue ⊛ ‵ (P.the-row .own r (u ∷ []))) ⊛ raw
+              (ensured 𝓤 H A step.ended (step.clauses 𝓤 H A mem run) tt (d .ranges, (d .next, (len, tt))) tt r)))) (id⊢ 𝓤 _) $ await ! tt $ pick ! (λ r.
           split ! $ move ! (1 ∷ []) $ use1 W (raw (fact 𝓤 (r ≡ stepAfter (d .ranges) (d .next) len))) (step-said r) $ heard !
           (r ≡ stepAfter (d .ranges) (d .next) len) (λ e. split ! $ drop ! $
           facts ! P.the-row (Is P.the-row) (shows 𝓤 H A P.the-row) r (u ∷ []) (λ is.
@@ -245,7 +251,9 @@ module _ {M : Type 1} (𝓤 : URA M) (H : Heap 𝓤) (A : Atoms 𝓤) (W : Given
           calls-at ! fm (ItemOf 𝓤 H A mem run) known-item to-item
           (and-then ! (load ! (from ! (stop !)) (look ! 12 refl))
           (and-then ! (load ! (from ! (stop !)) (look ! 10 refl)) (and-then ! (load ! (from ! (stop !)) (look ! 14 refl)) (no-more !)))) (λ u′.
-          use1 W (later (some (λ (i : RefT (List ℕ)). ((‵ (flft κ q) ⊛ ‵ ftrue) ⊛ ‵ (ShrSlice (named 0) κ u8 .own i (u′ ∷ []))) ⊛ raw (ensured 𝓤 H A item.ended (item.clauses 𝓤 H A mem run) (κ, tt) (d .ranges, (d .next, (d .bytes, tt))) tt i)))) (id⊢ 𝓤 _) $ await ! tt $ pick ! (λ i.
+          use1 W (later (some (λ (i : RefT (List ℕ)). ((‵ (flft κ q) ⊛ ‵ ftrue) ⊛ ‵ (ShrSlice (named 0) κ u8 .own i (u′ ∷ []))) ⊛ raw
+              (ensured 𝓤 H A item.ended (item.clauses 𝓤 H A mem run) (κ, tt) (d .ranges, (d .next, (d .bytes, tt))) tt i)))) (id⊢ 𝓤 _) $ await ! tt $
+              pick ! (λ i.
           split ! $ move ! (1 ∷ []) $ use1 W (raw (fact 𝓤 (now i ≡ itemNext d))) (item-said i) $ heard ! (now i ≡ itemNext d) (λ e′. split ! $ move ! (1 ∷ []) $
           peeks ! (ShrSlice (named 0) κ u8) (Is (ShrSlice (named 0) κ u8)) (shows 𝓤 H A (ShrSlice (named 0) κ u8)) i (u′ ∷ []) (λ is′.
           rewrite ! 0 (λ (us : List Val). ‵ (ShrSlice (named 0) κ u8 .own i us)) (shr-slice-tells (named 0) κ u8 i (u′ ∷ []) is′) refl $
@@ -281,7 +289,8 @@ module _ {M : Type 1} (𝓤 : URA M) (H : Heap 𝓤) (A : Atoms 𝓤) (W : Given
       Triple 𝓤 (C #item) (ItemOf 𝓤 H A mem run)
       → Walks 𝓤 H A next.ended stayed (WpFn 𝓤 H C Λ code.function) (next.clauses 𝓤 H A mem run)
   next-walks C Λ fm known-step known-item = walked 𝓤 H A next.ended stayed (next.clauses 𝓤 H A mem run) (WpFn 𝓤 H C Λ code.function)
-      (λ κs. (LL.vals (T.the-type (namedLft 1 0 tt κs)) (T′.the-laws (namedLft 1 0 tt κs)), tt)) (λ κs. (LL.tells (T.the-type (namedLft 1 0 tt κs)) (T′.the-laws (namedLft 1 0 tt κs)), tt))
+      (λ κs. (LL.vals (T.the-type (namedLft 1 0 tt κs)) (T′.the-laws (namedLft 1 0 tt κs)), tt))
+      (λ κs. (LL.tells (T.the-type (namedLft 1 0 tt κs)) (T′.the-laws (namedLft 1 0 tt κs)), tt))
       (λ κs qs bounds a g are.
       let is = LL.owed (T.the-type (namedLft 1 0 tt κs)) (T′.the-laws (namedLft 1 0 tt κs)) (a .0) _ (are .0) in
       via 𝓤 _ (fst∗ 𝓤 _ (emp 𝓤)) (walk 𝓤 H A W mem run (κs .0) (qs .0) (a .0) (is .0) (is .1 .0) (is .1 .1 .0 .1)
@@ -291,7 +300,8 @@ next-meets : {M : Type 1} (𝓤 : URA M) (H : Heap 𝓤) (A : Atoms 𝓤) (W : G
     → Triple 𝓤 (𝓣 .C #reader·step-after) (StepAfter 𝓤 H A mem run) → Triple 𝓤 (𝓣 .C #item) (ItemOf 𝓤 H A mem run)
     → Meets 𝓤 H A next.signature (WpFn 𝓤 H (𝓣 .C) (𝓣 .Λ) code.function) (next.spec 𝓤 H A mem run)
 next-meets 𝓤 H A W mem run 𝓣 known-step known-item = walk-meets 𝓤 H A next.ended stayed W
-    (goes-none 𝓤 H A W 1 B yes (λ κs x f. refl), tt) (next.clauses 𝓤 H A mem run) (WpFn 𝓤 H (𝓣 .C) (𝓣 .Λ) code.function) (WpFn-mono 𝓤 H (W .laws) 𝓣 code.function)
+    (goes-none 𝓤 H A W 1 B yes (λ κs x f. refl), tt) (next.clauses 𝓤 H A mem run) (WpFn 𝓤 H (𝓣 .C) (𝓣 .Λ) code.function)
+    (WpFn-mono 𝓤 H (W .laws) 𝓣 code.function)
     (next-walks 𝓤 H A W mem run (𝓣 .C) (𝓣 .Λ) (fmOf 𝓤 H (W .laws) 𝓣) known-step known-item)
 
 pub decode-next-spec : {M : Type 1} → stated.statement M

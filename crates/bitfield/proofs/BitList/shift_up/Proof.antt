@@ -16,15 +16,13 @@ raw : (c : tie.Start) → Raw (c .args .t1 .bytes)
 raw c = raw-known _ (search needs) (λ (i : ℕ). search needs)
 
 first-told-requires : tie.Need-first-told-requires
-first-told-requires c κs =
-    let c2 = c .before .before in
-    raw (c2)
+first-told-requires c κs = raw (c .before .before)
 
 shift-requires : tie.Need-shift-requires
 shift-requires c κs =
     let c2 = c .before .before in
-    let c5 = c2 .before .before .before in
-    λ told. list-kept _ ((c5) .args .t1 .len) ((c5) .args .t1 .n) (raw (c5)) (sym (c2 .first-told .ensures) ∙ told) .0
+    let s = c2 .before .before .before in
+    λ told. list-kept _ (s .args .t1 .len) (s .args .t1 .n) (raw s) (sym (c2 .first-told .ensures) ∙ told) .0
 
 result-of-requires : tie.Need-result-of-requires
 result-of-requires c κs = search needs
@@ -33,11 +31,10 @@ returns : tie.Need-returns
 unfolding listShiftUp listTold
 returns c =
     let c4 = c .before .before .before .before in
-    let c7 = c4 .before .before .before in
-    let s = c7 in
+    let s = c4 .before .before .before in
     let a = s .args .t1 in
-    let made = rw (c4 .first-told .ensures) at (c .before .shift .ensures) in
-    list-done a _ (a .n) _ (andThen (listTold a) (upTo (s .args .k) (a .len))) (held (moved (s .args .k) (bits a))) (c .result-of .ensures) made
+    list-done a _ (a .n) _ (andThen (listTold a) (upTo (s .args .k) (a .len))) (held (moved (s .args .k) (bits a))) (c .result-of .ensures)
+    (rw (c4 .first-told .ensures) at (c .before .shift .ensures))
 
 pub shift-up-spec : {M : Type 1} → statement M
 shift-up-spec = tie.close (tie.spec first-told-requires shift-requires result-of-requires returns)
