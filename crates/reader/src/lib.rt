@@ -82,3 +82,13 @@ pub fn item_after<'a>(bytes: &'a [u8], ranges: SszDecoder, skip: usize) -> &'a [
     let taken = decode_next(new(bytes, ranges, skip));
     taken.item
 }
+
+// The item behind the one that is behind so many, by a reader that goes on: the second step is one of the reader that the first leaves.
+// Where the first is refused, that reader still stands at its item.
+pub fn item_then<'a>(bytes: &'a [u8], ranges: SszDecoder, skip: usize) -> &'a [u8]
+    ensures { λ r. ⌜ now r ≡ itemNext (readerAfter (readerAt (bytes .entry) ranges skip)) ⌝ }
+{
+    let first = decode_next(new(bytes, ranges, skip));
+    let second = decode_next(first.rest);
+    second.item
+}

@@ -24,11 +24,25 @@ pub(crate) struct Ran {
     built: Built,
 }
 
-pub(crate) fn register(state: SszDecoderBuilder, item: usize, bytes: &[u8]) -> Registered {
+fn register_apart(state: SszDecoderBuilder, item: usize, bytes: &[u8]) -> Registered {
     if item == ANY {
         state.register_variable(bytes)
     } else {
         state.register_fixed(item, bytes)
+    }
+}
+
+// By document 01's one name for either kind, or by the function of the kind. A variable item's length is of no account.
+pub(crate) fn register(
+    state: SszDecoderBuilder,
+    item: usize,
+    named: bool,
+    bytes: &[u8],
+) -> Registered {
+    if named {
+        state.register_type_parameterized(item != ANY, item, bytes)
+    } else {
+        register_apart(state, item, bytes)
     }
 }
 
@@ -47,12 +61,12 @@ fn stopped(accepted: usize, refusal: Refusal) -> Ran {
 }
 
 // The registrations in order up to the first refusal, then the end.
-fn register_all(bytes: &[u8], row: &[u8]) -> Ran {
+fn register_all(bytes: &[u8], row: &[u8], named: bool) -> Ran {
     let mut state = SszDecoderBuilder::new();
     let n = row.len() / 8;
     let mut i = 0;
     while i < n {
-        let next = register(state, number_at(row, i), bytes);
+        let next = register(state, number_at(row, i), named, bytes);
         let said = next.told;
         match said {
             Told::Fine => {
@@ -93,7 +107,20 @@ pub(crate) fn is_ranges(row: &[u8], decoder: SszDecoder) -> bool {
     true
 }
 
-// 50: bytes, registrations. How many were accepted, ranges.
+// Whether this is the expected answer.
+fn is_ran(b: &[u8], ran: Ran) -> bool {
+    if !is_number(part(b, 3), ran.accepted) {
+        return false;
+    }
+    let built = ran.built;
+    let said = built.told;
+    match said {
+        Told::Fine => is_fine(part(b, 2)) && is_ranges(part(b, 4), built.decoder),
+        Told::Refused(e) => is_refusal(part(b, 2), e) && is_empty(part(b, 4)),
+    }
+}
+
+// 50: bytes, registrations. How many were accepted, ranges. Both ways to register are asked.
 pub(crate) fn build(b: &[u8]) -> Verdict {
     if !is_formed(b, 2, 5) {
         return Verdict::Malformed;
@@ -102,16 +129,10 @@ pub(crate) fn build(b: &[u8]) -> Verdict {
     if row.len() % 8 != 0 {
         return Verdict::Malformed;
     }
-    let ran = register_all(part(b, 0), row);
-    if !is_number(part(b, 3), ran.accepted) {
-        return Verdict::Differs;
-    }
-    let built = ran.built;
-    let said = built.told;
-    match said {
-        Told::Fine => cases::told(is_fine(part(b, 2)) && is_ranges(part(b, 4), built.decoder)),
-        Told::Refused(e) => cases::told(is_refusal(part(b, 2), e) && is_empty(part(b, 4))),
-    }
+    let bytes = part(b, 0);
+    cases::told(
+        is_ran(b, register_all(bytes, row, true)) && is_ran(b, register_all(bytes, row, false)),
+    )
 }
 
 // The reader with these ranges.

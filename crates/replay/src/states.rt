@@ -84,14 +84,14 @@ fn is_builder(row: &[u8], state: SszDecoderBuilder) -> bool {
         && are_numbers(row, ENDS, ends)
 }
 
-// A registration gives a state, beside a refusal the old one.
-fn registered(b: &[u8], state: SszDecoderBuilder, item: usize) -> Verdict {
-    let next = register(state, item, part(b, 0));
+// Whether a registration gives the expected state, beside a refusal the old one.
+fn is_registered(b: &[u8], state: SszDecoderBuilder, item: usize, named: bool) -> bool {
+    let next = register(state, item, named, part(b, 0));
     let is_next = is_builder(part(b, 4), next.state) && is_empty(part(b, 5));
     let said = next.told;
     match said {
-        Told::Fine => cases::told(is_next && is_fine(part(b, 3))),
-        Told::Refused(e) => cases::told(is_next && is_refusal(part(b, 3), e)),
+        Told::Fine => is_next && is_fine(part(b, 3)),
+        Told::Refused(e) => is_next && is_refusal(part(b, 3), e),
     }
 }
 
@@ -111,7 +111,7 @@ fn built(b: &[u8], state: SszDecoderBuilder) -> Verdict {
     }
 }
 
-// 52: bytes, state, registration or nothing for the end. State, ranges.
+// 52: bytes, state, registration or nothing for the end. State, ranges. Both ways to register are asked.
 pub(crate) fn builder(b: &[u8]) -> Verdict {
     if !is_formed(b, 3, 6) {
         return Verdict::Malformed;
@@ -126,7 +126,9 @@ pub(crate) fn builder(b: &[u8]) -> Verdict {
     }
     let item = number(part(b, 2));
     match item {
-        Maybe::Just(n) => registered(b, state, n),
+        Maybe::Just(n) => {
+            cases::told(is_registered(b, state, n, true) && is_registered(b, state, n, false))
+        }
         Maybe::Nothing => Verdict::Malformed,
     }
 }

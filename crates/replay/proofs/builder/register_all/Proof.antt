@@ -5,10 +5,10 @@ use Rattle.replay.proofs.builder.register_all.Statement.{statement}
 use Rattle.replay.proofs.builder.register_all.Tie as tie
 
 abbrev Inv-loop : tie.InvT-loop
-Inv-loop bytes row state₀ n i₀ state i = i ≤ n
+Inv-loop bytes row named state₀ n i₀ state i = i ≤ n
 
 abbrev μ-loop : tie.MeasureT-loop
-μ-loop bytes row state₀ n i₀ state i = n - i
+μ-loop bytes row named state₀ n i₀ state i = n - i
 
 new-requires : tie.Need-new-requires Inv-loop μ-loop
 new-requires c κs = search needs
