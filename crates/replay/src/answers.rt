@@ -1,6 +1,8 @@
 // What the operations compare: heads of calls without type and start, results that are missing, lent buffers.
+use cases::Verdict;
 use cases::head_matches;
 use cases::refusal_matches;
+use cases::told;
 use standard::Refusal;
 ghost use Prim.Native.Nat.{_≤_};
 ghost use Rattle.io.specs.Counts.{Counts};
@@ -15,6 +17,16 @@ pub(crate) fn is_refusal(head: &[u8], refusal: Refusal) -> bool {
 
 pub(crate) fn is_empty(part: &[u8]) -> bool {
     part.len() == 0
+}
+
+// The verdict on a call that is fine, beside its results.
+pub(crate) fn fine(head: &[u8], is_result: bool) -> Verdict {
+    told(is_fine(head) && is_result)
+}
+
+// The verdict on a call that refuses and gives no result.
+pub(crate) fn refused(head: &[u8], refusal: Refusal, result: &[u8]) -> Verdict {
+    told(is_refusal(head, refusal) && is_empty(result))
 }
 
 pub(crate) fn least(a: usize, b: usize) -> usize

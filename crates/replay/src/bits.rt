@@ -1,10 +1,9 @@
 // What the operations on bit lists and on bit vectors share: held bitfields in parts, and the answers.
 //
 // A held bitfield is its 256 bytes, its length and its N.
-use crate::answers::is_empty;
-use crate::answers::is_fine;
-use crate::answers::is_refusal;
+use crate::answers::fine;
 use crate::answers::least;
+use crate::answers::refused;
 use crate::answers::room_for;
 use bitfield::BitResult;
 use bitfield::CountResult;
@@ -12,7 +11,6 @@ use bitfield::HighestBit;
 use cases::Verdict;
 use cases::is_number;
 use cases::number_at;
-use cases::told;
 
 const HELD: usize = 272;
 
@@ -61,16 +59,16 @@ pub(crate) fn bit(head: &[u8], result: &[u8], answer: BitResult) -> Verdict {
     match answer {
         BitResult::Is(x) => {
             let expected = if x { 1 } else { 0 };
-            told(is_fine(head) && is_number(result, expected))
+            fine(head, is_number(result, expected))
         }
-        BitResult::Refused(e) => told(is_refusal(head, e) && is_empty(result)),
+        BitResult::Refused(e) => refused(head, e, result),
     }
 }
 
 pub(crate) fn count(head: &[u8], result: &[u8], answer: CountResult) -> Verdict {
     match answer {
-        CountResult::Count(n) => told(is_fine(head) && is_number(result, n)),
-        CountResult::Refused(e) => told(is_refusal(head, e) && is_empty(result)),
+        CountResult::Count(n) => fine(head, is_number(result, n)),
+        CountResult::Refused(e) => refused(head, e, result),
     }
 }
 
@@ -81,8 +79,8 @@ fn is_place(result: &[u8], i: usize) -> bool {
 
 pub(crate) fn highest(head: &[u8], result: &[u8], answer: HighestBit) -> Verdict {
     match answer {
-        HighestBit::At(i) => told(is_fine(head) && is_place(result, i)),
-        HighestBit::Nothing => told(is_fine(head) && is_number(result, 0)),
-        HighestBit::Refused(e) => told(is_refusal(head, e) && is_empty(result)),
+        HighestBit::At(i) => fine(head, is_place(result, i)),
+        HighestBit::Nothing => fine(head, is_number(result, 0)),
+        HighestBit::Refused(e) => refused(head, e, result),
     }
 }

@@ -1,7 +1,9 @@
 // Operations 50 and 51: the builder and the reader.
+use crate::answers::fine;
 use crate::answers::is_empty;
 use crate::answers::is_fine;
 use crate::answers::is_refusal;
+use crate::answers::refused;
 use crate::walked;
 use cases::ANY;
 use cases::Verdict;
@@ -152,12 +154,33 @@ fn decoder_of(row: &[u8]) -> SszDecoder {
     }
 }
 
+fn item_asked(b: &[u8], decoder: SszDecoder, index: usize) -> Verdict {
+    let bytes = part(b, 0);
+    let said = decoder.item_told(index, bytes.len());
+    match said {
+        Told::Fine => {
+            if !walked::hands_out(decoder, index, bytes, part(b, 4)) {
+                return Verdict::Differs;
+            }
+            fine(
+                part(b, 3),
+                check::same(decoder.item(index, bytes), part(b, 4)),
+            )
+        }
+        Told::Refused(e) => {
+            if !walked::refuses(decoder, index, bytes, part(b, 3)) {
+                return Verdict::Differs;
+            }
+            refused(part(b, 3), e, part(b, 4))
+        }
+    }
+}
+
 // 51: bytes, ranges, item number. The item.
 pub(crate) fn item(b: &[u8]) -> Verdict {
     if !is_formed(b, 3, 5) {
         return Verdict::Malformed;
     }
-    let bytes = part(b, 0);
     let row = part(b, 1);
     if row.len() % 16 != 0 || row.len() > 1024 {
         return Verdict::Malformed;
@@ -165,18 +188,5 @@ pub(crate) fn item(b: &[u8]) -> Verdict {
     let Maybe::Just(index) = number(part(b, 2)) else {
         return Verdict::Malformed;
     };
-    let decoder = decoder_of(row);
-    let said = decoder.item_told(index, bytes.len());
-    match said {
-        Told::Fine => cases::told(
-            is_fine(part(b, 3))
-                && check::same(decoder.item(index, bytes), part(b, 4))
-                && walked::hands_out(decoder, index, bytes, part(b, 4)),
-        ),
-        Told::Refused(e) => cases::told(
-            is_refusal(part(b, 3), e)
-                && is_empty(part(b, 4))
-                && walked::refuses(decoder, index, bytes, part(b, 3)),
-        ),
-    }
+    item_asked(b, decoder_of(row), index)
 }

@@ -1,8 +1,7 @@
 // Operation 60: the encoder.
-use crate::answers::is_empty;
-use crate::answers::is_fine;
-use crate::answers::is_refusal;
+use crate::answers::fine;
 use crate::answers::lend;
+use crate::answers::refused;
 use crate::answers::room_for;
 use cases::Extent;
 use cases::Verdict;
@@ -11,6 +10,7 @@ use cases::is_number;
 use cases::number;
 use cases::part;
 use cases::part_end;
+use cases::told;
 use encode::encoder::Appended;
 use encode::encoder::Finalized;
 use encode::encoder::SszEncoder;
@@ -69,23 +69,31 @@ fn append_all(size: usize, items: &[u8], fixed: &mut [u8], variable: &mut [u8]) 
     end(state, accepted, fixed, variable)
 }
 
-// Whether the answer is expected: how many items were accepted, the whole length, both buffers.
-fn is_expected(b: &[u8], encoding: Encoding, fixed: &[u8], variable: &[u8]) -> Verdict {
-    let are_lent = check::same(fixed, part(b, 7)) && check::same(variable, part(b, 8));
+// Whether the answer is expected: how many items were accepted, the whole length.
+fn is_expected(b: &[u8], encoding: Encoding) -> Verdict {
     match encoding {
-        Encoding::Whole(accepted, n) => cases::told(
-            are_lent
-                && is_fine(part(b, 4))
-                && is_number(part(b, 5), accepted)
-                && is_number(part(b, 6), n),
-        ),
-        Encoding::Stopped(accepted, e) => cases::told(
-            are_lent
-                && is_refusal(part(b, 4), e)
-                && is_number(part(b, 5), accepted)
-                && is_empty(part(b, 6)),
-        ),
+        Encoding::Whole(accepted, n) => {
+            if !is_number(part(b, 5), accepted) {
+                return Verdict::Differs;
+            }
+            fine(part(b, 4), is_number(part(b, 6), n))
+        }
+        Encoding::Stopped(accepted, e) => {
+            if !is_number(part(b, 5), accepted) {
+                return Verdict::Differs;
+            }
+            refused(part(b, 4), e, part(b, 6))
+        }
         Encoding::Malformed => Verdict::Malformed,
+    }
+}
+
+// The verdict on an expected answer, with both buffers.
+pub(crate) fn with_lent(b: &[u8], verdict: Verdict, fixed: &[u8], variable: &[u8]) -> Verdict {
+    if let Verdict::Same = verdict {
+        told(check::same(fixed, part(b, 7)) && check::same(variable, part(b, 8)))
+    } else {
+        verdict
     }
 }
 
@@ -93,7 +101,7 @@ fn encode_in(b: &[u8], size: usize, fixed: &mut [u8], variable: &mut [u8]) -> Ve
     lend(fixed, part(b, 2));
     lend(variable, part(b, 3));
     let encoding = append_all(size, part(b, 1), fixed, variable);
-    is_expected(b, encoding, fixed, variable)
+    with_lent(b, is_expected(b, encoding), fixed, variable)
 }
 
 // 60: fixed size, items, fixed buffer, variable buffer. How many items were accepted, whole length, fixed buffer, variable

@@ -1,11 +1,12 @@
 // Operations 73 and 74: the unfolding and the value writer.
 //
 // Contents are words in a record and are lent as `u32`. No record has more of them than there is room for.
+use crate::answers::fine;
 use crate::answers::is_empty;
 use crate::answers::is_fine;
-use crate::answers::is_refusal;
 use crate::answers::least;
 use crate::answers::lend;
+use crate::answers::refused;
 use crate::answers::room_for;
 use crate::messages::is_refusal_at;
 use cases::Verdict;
@@ -58,16 +59,19 @@ fn has_words(row: &[u8], words: &[u32]) -> bool {
 
 // Whether the answer is expected: contents words, body bytes, both buffers.
 fn is_unfolded(b: &[u8], answer: Unfolded, contents: &[u32], bodies: &[u8]) -> bool {
-    let are_lent = has_words(part(b, 7), contents) && check::same(bodies, part(b, 8));
+    if !has_words(part(b, 7), contents) {
+        return false;
+    }
+    if !check::same(bodies, part(b, 8)) {
+        return false;
+    }
     let head = part(b, 4);
     let words = part(b, 5);
     let bytes = part(b, 6);
     match answer {
-        Unfolded::Sizes(n, m) => {
-            are_lent && is_fine(head) && is_number(words, n) && is_number(bytes, m)
-        }
+        Unfolded::Sizes(n, m) => { is_fine(head) && is_number(words, n) && is_number(bytes, m) }
         Unfolded::Refused(e, kind, start) => {
-            are_lent && is_refusal_at(head, e, kind, start) && is_empty(words) && is_empty(bytes)
+            is_refusal_at(head, e, kind, start) && is_empty(words) && is_empty(bytes)
         }
     }
 }
@@ -90,13 +94,13 @@ pub(crate) fn unfolding(b: &[u8], bodies: &mut [u8], contents: &mut [u32]) -> Ve
 }
 
 // Whether the answer is expected: the length, the buffer.
-fn is_written(b: &[u8], answer: Written, room: &[u8]) -> bool {
-    let is_lent = check::same(room, part(b, 6));
-    let head = part(b, 4);
-    let length = part(b, 5);
+fn is_written(b: &[u8], answer: Written, room: &[u8]) -> Verdict {
+    if !check::same(room, part(b, 6)) {
+        return Verdict::Differs;
+    }
     match answer {
-        Written::Length(n) => is_lent && is_fine(head) && is_number(length, n),
-        Written::Refused(e) => is_lent && is_refusal(head, e) && is_empty(length),
+        Written::Length(n) => fine(part(b, 4), is_number(part(b, 5), n)),
+        Written::Refused(e) => refused(part(b, 4), e, part(b, 5)),
     }
 }
 
@@ -104,7 +108,7 @@ fn write(b: &[u8], room: &mut [u8], contents: &mut [u32]) -> Verdict {
     lend_words(contents, part(b, 1));
     lend(room, part(b, 3));
     let answer = value::write(part(b, 0), contents, part(b, 2), room);
-    told(is_written(b, answer, room))
+    is_written(b, answer, room)
 }
 
 // 74: layout, contents, bodies, buffer. Length, buffer.

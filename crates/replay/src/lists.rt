@@ -1,8 +1,7 @@
 // Operations 10 to 25: bit lists.
-use crate::answers::is_empty;
-use crate::answers::is_fine;
-use crate::answers::is_refusal;
+use crate::answers::fine;
 use crate::answers::lend;
+use crate::answers::refused;
 use crate::answers::room_for;
 use crate::bits::bit;
 use crate::bits::bytes_of;
@@ -21,7 +20,6 @@ use cases::is_formed;
 use cases::is_number;
 use cases::number;
 use cases::part;
-use cases::told;
 use standard::Maybe;
 use standard::Told;
 
@@ -38,8 +36,8 @@ fn made(head: &[u8], result: &[u8], answer: ListResult) -> Verdict {
     let bytes = field.bytes;
     let said = answer.told;
     match said {
-        Told::Fine => told(is_fine(head) && has(result, bytes, field.len, field.n)),
-        Told::Refused(e) => told(is_refusal(head, e) && is_empty(result)),
+        Told::Fine => fine(head, has(result, bytes, field.len, field.n)),
+        Told::Refused(e) => refused(head, e, result),
     }
 }
 
@@ -49,10 +47,13 @@ fn left(question: &[u8], head: &[u8], result: &[u8], answer: ListResult) -> Verd
     let bytes = field.bytes;
     let said = answer.told;
     match said {
-        Told::Fine => told(is_fine(head) && has(result, bytes, field.len, field.n)),
-        Told::Refused(e) => told(
-            is_refusal(head, e) && is_empty(result) && has(question, bytes, field.len, field.n),
-        ),
+        Told::Fine => fine(head, has(result, bytes, field.len, field.n)),
+        Told::Refused(e) => {
+            if !has(question, bytes, field.len, field.n) {
+                return Verdict::Differs;
+            }
+            refused(head, e, result)
+        }
     }
 }
 
@@ -100,12 +101,14 @@ pub(crate) fn from_bytes(b: &[u8]) -> Verdict {
 fn write(b: &[u8], room: &mut [u8]) -> Verdict {
     lend(room, part(b, 1));
     let answer = field_of(part(b, 0)).into_bytes(room);
-    let is_lent = check::same(room, part(b, 4));
+    if !check::same(room, part(b, 4)) {
+        return Verdict::Differs;
+    }
     let head = part(b, 2);
     let result = part(b, 3);
     match answer {
-        CountResult::Count(n) => told(is_lent && is_fine(head) && is_number(result, n)),
-        CountResult::Refused(e) => told(is_lent && is_refusal(head, e) && is_empty(result)),
+        CountResult::Count(n) => fine(head, is_number(result, n)),
+        CountResult::Refused(e) => refused(head, e, result),
     }
 }
 

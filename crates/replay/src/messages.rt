@@ -1,4 +1,5 @@
 // Operations 70 to 72: the layout check, the message check and the listing.
+use crate::answers::fine;
 use crate::answers::is_empty;
 use crate::answers::is_fine;
 use crate::answers::is_refusal;
@@ -51,7 +52,7 @@ pub(crate) fn check(b: &[u8]) -> Verdict {
     }
     let answer = message::check(part(b, 0), part(b, 1));
     match answer {
-        Answer::Accepted(counts) => told(is_fine(part(b, 2)) && has_counts(b, counts)),
+        Answer::Accepted(counts) => fine(part(b, 2), has_counts(b, counts)),
         Answer::Refused(e, kind, start) => told(
             is_refusal_at(part(b, 2), e, kind, start) && has_none(b),
         ),
@@ -61,13 +62,15 @@ pub(crate) fn check(b: &[u8]) -> Verdict {
 fn list(b: &[u8], room: &mut [u8]) -> Verdict {
     lend(room, part(b, 2));
     let answer = message::list(part(b, 0), part(b, 1), room);
-    let is_lent = check::same(room, part(b, 5));
+    if !check::same(room, part(b, 5)) {
+        return Verdict::Differs;
+    }
     let head = part(b, 3);
     let result = part(b, 4);
     match answer {
-        Listed::Records(n) => told(is_lent && is_fine(head) && is_number(result, n)),
+        Listed::Records(n) => fine(head, is_number(result, n)),
         Listed::Refused(e, kind, start) => {
-            told(is_lent && is_refusal_at(head, e, kind, start) && is_empty(result))
+            told(is_refusal_at(head, e, kind, start) && is_empty(result))
         }
     }
 }

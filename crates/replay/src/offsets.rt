@@ -1,23 +1,21 @@
 // Operations 1 to 4: offsets, lengths and the split of a union.
+use crate::answers::fine;
 use crate::answers::is_empty;
-use crate::answers::is_fine;
-use crate::answers::is_refusal;
+use crate::answers::refused;
 use cases::Verdict;
 use cases::is_formed;
 use cases::is_number;
 use cases::number;
 use cases::part;
-use cases::told;
 use decode::OffsetResult;
 use decode::union_selector::SelectorResult;
 use standard::Maybe;
 use standard::Told;
 
-// Whether the expected answer is this offset or refusal.
-fn is_offset(head: &[u8], result: &[u8], answer: OffsetResult) -> bool {
+fn offset_told(head: &[u8], result: &[u8], answer: OffsetResult) -> Verdict {
     match answer {
-        OffsetResult::Offset(n) => is_fine(head) && is_number(result, n),
-        OffsetResult::Refused(e) => is_refusal(head, e) && is_empty(result),
+        OffsetResult::Offset(n) => fine(head, is_number(result, n)),
+        OffsetResult::Refused(e) => refused(head, e, result),
     }
 }
 
@@ -26,7 +24,7 @@ pub(crate) fn read_offset(b: &[u8]) -> Verdict {
     if !is_formed(b, 1, 3) {
         return Verdict::Malformed;
     }
-    told(is_offset(part(b, 1), part(b, 2), decode::read_offset(part(b, 0))))
+    offset_told(part(b, 1), part(b, 2), decode::read_offset(part(b, 0)))
 }
 
 // 2: length. Four bytes.
@@ -42,8 +40,8 @@ pub(crate) fn encode_length(b: &[u8]) -> Verdict {
     let said = answer.told;
     let result = part(b, 2);
     match said {
-        Told::Fine => told(is_fine(part(b, 1)) && check::same(&bytes, result)),
-        Told::Refused(e) => told(is_refusal(part(b, 1), e) && is_empty(result)),
+        Told::Fine => fine(part(b, 1), check::same(&bytes, result)),
+        Told::Refused(e) => refused(part(b, 1), e, result),
     }
 }
 
@@ -71,11 +69,8 @@ pub(crate) fn sanitize_offset(b: &[u8]) -> Verdict {
     }
     let previous = number(part(b, 1));
     let fixed = number(part(b, 3));
-    told(is_offset(
-        part(b, 4),
-        part(b, 5),
-        decode::sanitize_offset(offset, previous, bytes, fixed),
-    ))
+    let answer = decode::sanitize_offset(offset, previous, bytes, fixed);
+    offset_told(part(b, 4), part(b, 5), answer)
 }
 
 // 4: bytes. Selector, body.
@@ -86,13 +81,17 @@ pub(crate) fn split_union_bytes(b: &[u8]) -> Verdict {
     let question = part(b, 0);
     let answer = decode::split_union_bytes(question);
     match answer {
-        SelectorResult::Selector(s) => told(
-            is_fine(part(b, 1))
-                && is_number(part(b, 2), s.get() as usize)
-                && check::same(decode::union_body(question), part(b, 3)),
-        ),
-        SelectorResult::Refused(e) => told(
-            is_refusal(part(b, 1), e) && is_empty(part(b, 2)) && is_empty(part(b, 3)),
-        ),
+        SelectorResult::Selector(s) => {
+            if !check::same(decode::union_body(question), part(b, 3)) {
+                return Verdict::Differs;
+            }
+            fine(part(b, 1), is_number(part(b, 2), s.get() as usize))
+        }
+        SelectorResult::Refused(e) => {
+            if !is_empty(part(b, 3)) {
+                return Verdict::Differs;
+            }
+            refused(part(b, 1), e, part(b, 2))
+        }
     }
 }

@@ -1,13 +1,16 @@
 // Operations 52 and 61: one call of a builder or of an encoder, in a state as given. Operations 50 and 60 begin with a fresh
 // state, so no state of theirs is a bad one.
+use crate::answers::fine;
 use crate::answers::is_empty;
 use crate::answers::is_fine;
 use crate::answers::is_refusal;
 use crate::answers::lend;
+use crate::answers::refused;
 use crate::answers::room_for;
 use crate::builder::is_ranges;
 use crate::builder::register;
 use crate::encoder::item_end;
+use crate::encoder::with_lent;
 use cases::Extent;
 use cases::Verdict;
 use cases::is_formed;
@@ -87,27 +90,30 @@ fn is_builder(row: &[u8], state: SszDecoderBuilder) -> bool {
 // Whether a registration gives the expected state, beside a refusal the old one.
 fn is_registered(b: &[u8], state: SszDecoderBuilder, item: usize, named: bool) -> bool {
     let next = register(state, item, named, part(b, 0));
-    let is_next = is_builder(part(b, 4), next.state) && is_empty(part(b, 5));
+    let after = next.state;
+    if !is_builder(part(b, 4), after) {
+        return false;
+    }
+    if !is_empty(part(b, 5)) {
+        return false;
+    }
     let said = next.told;
     match said {
-        Told::Fine => is_next && is_fine(part(b, 3)),
-        Told::Refused(e) => is_next && is_refusal(part(b, 3), e),
+        Told::Fine => is_fine(part(b, 3)),
+        Told::Refused(e) => is_refusal(part(b, 3), e),
     }
 }
 
 // The end gives ranges, and no state.
 fn built(b: &[u8], state: SszDecoderBuilder) -> Verdict {
     let ended = state.build(part(b, 0));
-    let is_over = is_empty(part(b, 4));
+    if !is_empty(part(b, 4)) {
+        return Verdict::Differs;
+    }
     let said = ended.told;
     match said {
-        Told::Fine => {
-            let is_built = is_ranges(part(b, 5), ended.decoder);
-            cases::told(is_over && is_fine(part(b, 3)) && is_built)
-        }
-        Told::Refused(e) => {
-            cases::told(is_over && is_refusal(part(b, 3), e) && is_empty(part(b, 5)))
-        }
+        Told::Fine => fine(part(b, 3), is_ranges(part(b, 5), ended.decoder)),
+        Told::Refused(e) => refused(part(b, 3), e, part(b, 5)),
     }
 }
 
@@ -192,20 +198,28 @@ fn is_encoder(row: &[u8], state: SszEncoder) -> bool {
         && number_at(row, 2) == state.variable_used
 }
 
-// Whether the answer is expected: the state after an append, the whole length at the end, both buffers.
-fn is_expected(b: &[u8], after: After, fixed: &[u8], variable: &[u8]) -> Verdict {
-    let are_lent = check::same(fixed, part(b, 7)) && check::same(variable, part(b, 8));
+// Whether the answer is expected: the state after an append, the whole length at the end.
+fn is_expected(b: &[u8], after: After) -> Verdict {
     let head = part(b, 4);
     match after {
-        After::Next(state) => cases::told(
-            are_lent && is_fine(head) && is_encoder(part(b, 5), state) && is_empty(part(b, 6)),
-        ),
-        After::Whole(n) => cases::told(
-            are_lent && is_fine(head) && is_empty(part(b, 5)) && is_number(part(b, 6), n),
-        ),
-        After::Refused(e) => cases::told(
-            are_lent && is_refusal(head, e) && is_empty(part(b, 5)) && is_empty(part(b, 6)),
-        ),
+        After::Next(state) => {
+            if !is_empty(part(b, 6)) {
+                return Verdict::Differs;
+            }
+            fine(head, is_encoder(part(b, 5), state))
+        }
+        After::Whole(n) => {
+            if !is_empty(part(b, 5)) {
+                return Verdict::Differs;
+            }
+            fine(head, is_number(part(b, 6), n))
+        }
+        After::Refused(e) => {
+            if !is_empty(part(b, 6)) {
+                return Verdict::Differs;
+            }
+            refused(head, e, part(b, 5))
+        }
         After::Malformed => Verdict::Malformed,
     }
 }
@@ -214,7 +228,7 @@ fn encode_in(b: &[u8], state: SszEncoder, fixed: &mut [u8], variable: &mut [u8])
     lend(fixed, part(b, 2));
     lend(variable, part(b, 3));
     let after = called(state, part(b, 1), fixed, variable);
-    is_expected(b, after, fixed, variable)
+    with_lent(b, is_expected(b, after), fixed, variable)
 }
 
 // 61: state, item or nothing for the end, fixed buffer, variable buffer. State, whole length, fixed buffer, variable buffer.
