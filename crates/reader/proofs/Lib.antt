@@ -1,4 +1,5 @@
 -- What the walks share, and how a reader goes on.
 pub mod Land
+pub mod Steps
 pub mod Readers
 pub mod Only

@@ -7,5 +7,6 @@ pub mod Laws
 pub mod Pieces
 pub mod Published
 pub mod Kept
+pub mod Numbered
 pub mod Only
 pub mod OnlyWords
