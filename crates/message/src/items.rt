@@ -10,6 +10,7 @@ use bitfield::body::bitlist_body;
 use bitfield::body::bitvector_body;
 use decode::split_union_bytes;
 use decode::union_selector::SelectorResult;
+use decode::union_selector::UnionSelector;
 use layout::NO_BODY;
 use layout::Node;
 use standard::Refusal;
@@ -24,7 +25,8 @@ ghost use Rattle.layout.specs.Tree.{nodeOf, leafOf, treeOf};
 ghost use Rattle.message.specs.Read.{rawBytes, one, plus, andThen, readExact, readItem, readFields};
 ghost use Rattle.message.specs.declared.Counts.{Counts};
 ghost use Rattle.message.specs.declared.Answer.the-variants.{Accepted};
-ghost use Rattle.message.specs.Steps.{Under, Row, rowOf, headsOf, optionAt, choose, isPlain, Small};
+ghost use Rattle.decode.specs.declared.union_selector.SelectorResult.{SelectorResult};
+ghost use Rattle.message.specs.Steps.{Under, Row, rowOf, headsOf, optionAt, choiceOf, choose, isPlain, Small};
 
 // What a union's selector chooses: an option without body, the type of a body, or a refusal.
 pub(crate) enum Choice {
@@ -159,6 +161,21 @@ fn option_at(w: usize, len: usize) -> Choice
     Choice::Wrong(Refusal::InvalidByteLength(left, 0))
 }
 
+// The option that the selector names among the n whose words stand from a on. Nowhere else is a selector a place in the table.
+fn option_of(layout: &[u8], a: usize, n: usize, selector: UnionSelector, len: usize) -> Choice
+    requires { ⌜ (a < 2 ^ 34) × (1 ≤ len) ⌝ }
+    ensures { λ r. ⌜ r ≡ choiceOf (SelectorResult.Selector selector) (now (layout .entry)) a n len ⌝ }
+{
+    let byte = selector.get();
+    let k = byte as usize;
+    if k >= n {
+        return Choice::Wrong(Refusal::UnionSelectorInvalid(byte));
+    }
+    let place = a + k;
+    let w = word_at(layout, place);
+    option_at(w, len)
+}
+
 // What the selector of a union chooses among the n options that the words from a on name.
 pub(crate) fn select(layout: &[u8], a: usize, n: usize, b: &[u8]) -> Choice
     requires { ⌜ a < 2 ^ 34 ⌝ }
@@ -167,16 +184,7 @@ pub(crate) fn select(layout: &[u8], a: usize, n: usize, b: &[u8]) -> Choice
     let s = split_union_bytes(b);
     match s {
         SelectorResult::Refused(r) => Choice::Wrong(r),
-        SelectorResult::Selector(selector) => {
-            let byte = selector.get();
-            let k = byte as usize;
-            if k >= n {
-                return Choice::Wrong(Refusal::UnionSelectorInvalid(byte));
-            }
-            let place = a + k;
-            let w = word_at(layout, place);
-            option_at(w, b.len())
-        }
+        SelectorResult::Selector(selector) => option_of(layout, a, n, selector, b.len()),
     }
 }
 
