@@ -1,5 +1,6 @@
 -- What the proofs of several functions use, and the theorems on writing.
 pub mod Walks
+pub mod Selectors
 pub mod Unions
 pub mod Rows
 pub mod Leaves

@@ -39,10 +39,13 @@ extra Variable = 4
 abbrev pub chosenAt : ℕ → Choice
 chosenAt w = pick (eqb w 4294967295) Choice.Bare (Choice.Body w)
 
+abbrev pub choiceOf : List ℕ → ℕ → ℕ → ℕ → ℕ → Choice
+choiceOf l a n k i = pick (ltb k n) (chosenAt (wordAt l (a + k))) (Choice.Wrong (BadValue 0 i))
+
 unfoldable pub choose : List ℕ → ℕ → ℕ → List ℕ → ℕ → Choice
 choose l a n c i =
     pick (ltb i (length c))
-    (pick (ltb (getD c i 0) n) (chosenAt (wordAt l (a + getD c i 0))) (Choice.Wrong (BadValue 0 i)))
+    (choiceOf l a n (getD c i 0) i)
     (Choice.Wrong (BadValue 0 (length c)))
 
 -- A walk without fault

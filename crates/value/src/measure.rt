@@ -1,6 +1,8 @@
 // The form of a value measured: its first fault, or how far it goes and how long what it says is. Nothing is written.
 use crate::words::look_in;
 use crate::words::word_in;
+use decode::union_selector::SelectorResult;
+use decode::union_selector::UnionSelector;
 use layout::NO_BODY;
 use layout::Node;
 use standard::Refusal;
@@ -18,7 +20,7 @@ ghost use Rattle.message.specs.Read.{rawBytes};
 ghost use Rattle.message.specs.Steps.{Under, Row, rowOf, isPlain};
 ghost use Rattle.value.specs.Walk.{upto, wrong, withBody, walkBits, walkItem, walkFields};
 ghost use Rattle.value.specs.Write.{writeItem, partsFrom};
-ghost use Rattle.value.specs.Steps.{cap, measured, selected, extra, choose, chosenAt};
+ghost use Rattle.value.specs.Steps.{cap, measured, selected, extra, choose, choiceOf, chosenAt};
 ghost use Rattle.value.specs.declared.measure.Mark.{Mark};
 ghost use Rattle.value.specs.declared.measure.Measured.{Measured};
 
@@ -216,22 +218,40 @@ fn option_at(w: usize) -> Choice
     }
 }
 
-// What the contents word at i chooses among the n options that the words from a on name.
-pub(crate) fn select(layout: &[u8], a: usize, n: usize, contents: &[u32], i: usize) -> Choice
+// The option that the selector names among the n whose words stand from a on. Its contents word is the one at i.
+fn option_of(layout: &[u8], a: usize, n: usize, selector: UnionSelector, i: usize) -> Choice
     requires { ⌜ a < 2 ^ 34 ⌝ }
-    ensures { λ r. ⌜ r ≡ choose (now (layout .entry)) a n (now (contents .entry)) i ⌝ }
+    ensures { λ r. ⌜ r ≡ choiceOf (now (layout .entry)) a n (selector .0) i ⌝ }
 {
-    let words = contents.len();
-    if i >= words {
-        return Choice::Wrong(Refusal::BadValue(0, words));
-    }
-    let k = contents[i] as usize;
+    let byte = selector.get();
+    let k = byte as usize;
     if k >= n {
         return Choice::Wrong(Refusal::BadValue(0, i));
     }
     let place = a + k;
     let w = word_at(layout, place);
     option_at(w)
+}
+
+// What the contents word at i chooses among the n options that the words from a on name. No table has more than 128 options.
+pub(crate) fn select(layout: &[u8], a: usize, n: usize, contents: &[u32], i: usize) -> Choice
+    requires { ⌜ (a < 2 ^ 34) × (n ≤ 128) ⌝ }
+    ensures { λ r. ⌜ r ≡ choose (now (layout .entry)) a n (now (contents .entry)) i ⌝ }
+{
+    let words = contents.len();
+    if i >= words {
+        return Choice::Wrong(Refusal::BadValue(0, words));
+    }
+    let k = contents[i];
+    if k > 127 {
+        return Choice::Wrong(Refusal::BadValue(0, i));
+    }
+    let byte = k as u8;
+    let s = UnionSelector::new(byte);
+    match s {
+        SelectorResult::Selector(selector) => option_of(layout, a, n, selector, i),
+        SelectorResult::Refused(_) => Choice::Wrong(Refusal::BadValue(0, i)),
+    }
 }
 
 // A union's selector byte, with what its body has.

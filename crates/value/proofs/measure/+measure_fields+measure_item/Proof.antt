@@ -332,7 +332,8 @@ measure-item-select-requires : (t : ℕ) → measure-item-lts.Need-select-requir
 measure-item-select-requires t c κs =
     let c5 = c .before .before .before .before .before in
     let c9 = c5 .before .before .before .before in
-    omega (arith, node-ok _ _ _ _ (c5 .look-in .ensures) (c9 .pre .1) .near)
+    let z = node-ok _ _ _ _ (c5 .look-in .ensures) (c9 .pre .1) in
+    (omega (arith, z .near), z .most (c .if2 .taken))
 
 measure-item-enum-told : (t : ℕ) → measure-item-lts.Need-enum-told (measure-item-calls t) (measure-item-at t) measure-item.Post
 measure-item-enum-told t c = search needs

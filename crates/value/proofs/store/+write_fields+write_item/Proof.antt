@@ -403,7 +403,8 @@ write-item-select-requires : (t : ℕ) → write-item-lts.Need-select-requires (
 write-item-select-requires t c κs =
     let c5 = c .before .before .before .before .before in
     let c10 = c5 .before .before .before .before .before in
-    omega (arith, node-ok _ _ _ _ (c5 .look-in .ensures) (c10 .pre .1 .0) .near)
+    let z = node-ok _ _ _ _ (c5 .look-in .ensures) (c10 .pre .1 .0) in
+    (omega (arith, z .near), z .most (c .if2 .taken))
 
 write-item-enum-told : (t : ℕ) → write-item-lts.Need-enum-told (write-item-calls t) (write-item-at t) write-item.Post
 write-item-enum-told t c = search needs
