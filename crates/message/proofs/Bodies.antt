@@ -36,7 +36,7 @@ use Rattle.message.specs.declared.Answer.the-variants.{Accepted, Refused
 use Rattle.message.specs.declared.items.Choice.{Choice}
 use Rattle.message.proofs.Answers.{then-assoc}
 use Rattle.message.proofs.Bounds.{counts-small}
-use Rattle.message.proofs.Rows.{under-below, row-below, row-under, row-next, first-fits, span-ok, span-length}
+use Rattle.message.proofs.Rows.{Lies, under-below, row-below, row-under, row-next, first-fits, span-ok, span-lies}
 
 plus-zero : (a : Counts) → plus a (record { records = 0; words = 0; bytes = 0 }) ≡ a
 plus-zero a = simp add-zero
@@ -115,10 +115,8 @@ module _ (lens l : List ℕ) (t a₀ n : ℕ) (b : List ℕ) (s : ℕ) (sum : Co
   reading-first = rw (fields-read lens l t a left f b p (g .row) z e w q s) at (g .same)
 
   -- where the first field lies, and what it counts
-  pub reading-span : (w .from ≤ w .to) × (w .to ≤ length b) × (length (part b w) ≡ w .to - w .from)
-  reading-span =
-      let k = span-ok lens l t a left f b p (g .row) z e (g .ranges) w q in
-      (k .0, k .1, span-length lens l t a left f b p (g .row) z e (g .ranges) w q)
+  pub reading-span : Lies b w
+  reading-span = span-lies lens l t a left f b p (g .row) z e (g .ranges) w q
 
   pub reading-item : (c : Counts) → s + length b < 2 ^ 32 → Accepted c ≡ readItem (treeOf l f) (part b w) (s + w .from) → Small c (2 ^ 40)
   reading-item c h i =

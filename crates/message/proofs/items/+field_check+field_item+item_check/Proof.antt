@@ -7,8 +7,9 @@ use lib.ListN.{length-take, length-drop}
 use Rattle.decode.proofs.Register.{layout-ranges}
 use Rattle.layout.proofs.Facts.{as-leaf, as-container}
 use Rattle.message.specs.Read.{one, andThen}
-use Rattle.message.proofs.Rows.{row-there, row-below, row-few, row-small, row-under, row-legal, under-below}
-use Rattle.message.proofs.Bodies.{Reading, reading-small, reading-span, reading-item, plain-fits, plain-next, reading-next, reading-stop, free-next, free-stop, reading-end}
+use Rattle.message.proofs.Rows.{Lies, row-there, row-below, row-few, row-small, row-under, row-legal, under-below}
+use Rattle.message.proofs.Bodies.{Reading, reading-small, reading-span, reading-item, reading-next, reading-stop, reading-end}
+use Rattle.message.proofs.Bodies.{plain-fits, plain-next, free-next, free-stop}
 use Rattle.message.proofs.Bodies.{item-small, small-more, node-ok, container-row, container-on, container-stop}
 use Rattle.message.proofs.Bodies.{bare-read, wrong-read, body-below, body-read}
 use Prim.Native.Nat.{ℕ, _<_}
@@ -124,6 +125,16 @@ item-check-calls t = (
   leaf-check-reads.Learnt,
 )
 
+-- where the field lies that was located
+field-check-lies : (t : ℕ)
+    (c : field-check-lts.After-locate (field-check-calls t) (field-check-at t) field-check.Post field-check-Inv-loop field-check-μ-loop) →
+    Lies (c .before .before .before .before .before .before .before .before .before .before .args .b .now) (c .locate .result)
+field-check-lies t c =
+    let c4 = c .before .before .before .before in
+    let c5 = c4 .before in
+    let c6 = c5 .before in
+    reading-span _ _ _ _ _ _ _ _ _ _ _ _ (c6 .loop .inv) (c5 .loop-test .taken) (c4 .word-in .ensures .0) _ (c .locate .ensures)
+
 field-check-own-record-requires : (t : ℕ) → field-check-lts.Need-own-record-requires (field-check-calls t) (field-check-at t) field-check.Post
     field-check-Inv-loop field-check-μ-loop
 field-check-own-record-requires t c κs = search needs
@@ -187,7 +198,8 @@ field-check-one-more-requires t c κs =
     let c5 = c4 .before in
     let c6 = c5 .before in
     let c10 = c6 .before .before .before .before in
-    (reading-small _ _ _ _ _ _ _ _ _ _ _ (c10 .pre .1 .1) (c6 .loop .inv), omega arith, row-small _ _ _ _ _ _ (c6 .loop .inv .row) (c5 .loop-test .taken) (c4 .word-in .ensures .0))
+    (reading-small _ _ _ _ _ _ _ _ _ _ _ (c10 .pre .1 .1) (c6 .loop .inv), omega arith, row-small _ _ _ _ _ _ (c6 .loop .inv .row)
+    (c5 .loop-test .taken) (c4 .word-in .ensures .0))
 
 field-check-add-p : (t : ℕ) → field-check-lts.Need-add-p (field-check-calls t) (field-check-at t) field-check.Post field-check-Inv-loop field-check-μ-loop
 field-check-add-p t c =
@@ -236,7 +248,8 @@ field-check-locate-requires t c κs =
     let c5 = c4 .before in
     (c5 .loop .inv .row, c4 .loop-test .taken, c3 .word-in .ensures .0, c5 .loop .inv .ranges)
 
-field-check-add-a-2 : (t : ℕ) → field-check-lts.Need-add-a-2 (field-check-calls t) (field-check-at t) field-check.Post field-check-Inv-loop field-check-μ-loop
+field-check-add-a-2 : (t : ℕ) → field-check-lts.Need-add-a-2 (field-check-calls t)
+    (field-check-at t) field-check.Post field-check-Inv-loop field-check-μ-loop
 field-check-add-a-2 t c =
     let c6 = c .before .before .before .before .before .before in
     omega (arith, c6 .loop .inv .row .near)
@@ -247,21 +260,17 @@ field-check-sub-left-2 t c = omega arith
 
 field-check-add-at : (t : ℕ) → field-check-lts.Need-add-at (field-check-calls t) (field-check-at t) field-check.Post field-check-Inv-loop field-check-μ-loop
 field-check-add-at t c =
-    let c4 = c .before .before .before .before in
-    let c5 = c4 .before in
-    let c6 = c5 .before in
-    let c10 = c6 .before .before .before .before in
-    omega (arith, reading-span _ _ _ _ _ _ _ _ _ _ _ _ (c6 .loop .inv) (c5 .loop-test .taken) (c4 .word-in .ensures .0) _ (c .locate .ensures), c10 .pre .1 .2)
+    let c10 = c .before .before .before .before .before .before .before .before .before .before in
+    omega (arith, field-check-lies t c, c10 .pre .1 .2)
 
-field-check-sub-len : (t : ℕ) → field-check-lts.Need-sub-len (field-check-calls t) (field-check-at t) field-check.Post field-check-Inv-loop field-check-μ-loop
+field-check-sub-len : (t : ℕ) → field-check-lts.Need-sub-len (field-check-calls t)
+    (field-check-at t) field-check.Post field-check-Inv-loop field-check-μ-loop
 field-check-sub-len t c =
     let c2 = c .before .before in
-    let c6 = c2 .before .before .before .before in
-    let c7 = c6 .before in
-    let c8 = c7 .before in
-    reading-span _ _ _ _ _ _ _ _ _ _ _ _ (c8 .loop .inv) (c7 .loop-test .taken) (c6 .word-in .ensures .0) _ (c2 .locate .ensures) .0
+    field-check-lies t c2 .0
 
-field-check-returns : (t : ℕ) → field-check-lts.Need-returns (field-check-calls t) (field-check-at t) field-check.Post field-check-Inv-loop field-check-μ-loop
+field-check-returns : (t : ℕ) → field-check-lts.Need-returns (field-check-calls t)
+    (field-check-at t) field-check.Post field-check-Inv-loop field-check-μ-loop
 field-check-returns t c =
     let c2 = c .before .before in
     let c4 = c2 .before .before in
@@ -269,18 +278,16 @@ field-check-returns t c =
     let c8 = c7 .before in
     let c9 = c8 .before in
     let c10 = c9 .before in
-    free-stop _ _ _ _ _ _ _ _ _ _ _ _ (c10 .loop .inv) (c9 .loop-test .taken) (c8 .word-in .ensures .0) _ (c4 .locate .ensures) _ (c7 .look-in .ensures) (c2 .if2 .taken) (c .if3 .taken)
+    free-stop _ _ _ _ _ _ _ _ _ _ _ _ (c10 .loop .inv) (c9 .loop-test .taken) (c8 .word-in .ensures .0) _ (c4 .locate .ensures) _
+    (c7 .look-in .ensures) (c2 .if2 .taken) (c .if3 .taken)
 
 field-check-one-more-requires-2 : (t : ℕ) → field-check-lts.Need-one-more-requires-2 (field-check-calls t) (field-check-at t) field-check.Post
     field-check-Inv-loop field-check-μ-loop
 field-check-one-more-requires-2 t c κs =
     let c4 = c .before .before .before .before in
-    let c8 = c4 .before .before .before .before in
-    let c9 = c8 .before in
-    let c10 = c9 .before in
+    let c10 = c4 .before .before .before .before .before .before in
     let c14 = c10 .before .before .before .before in
-    let lies = reading-span _ _ _ _ _ _ _ _ _ _ _ _ (c10 .loop .inv) (c9 .loop-test .taken) (c8 .word-in .ensures .0) _ (c4 .locate .ensures) in
-    (reading-small _ _ _ _ _ _ _ _ _ _ _ (c14 .pre .1 .1) (c10 .loop .inv), omega arith, omega (arith, lies, c14 .pre .1 .2))
+    (reading-small _ _ _ _ _ _ _ _ _ _ _ (c14 .pre .1 .1) (c10 .loop .inv), omega arith, omega (arith, field-check-lies t c4, c14 .pre .1 .2))
 
 field-check-loop-less-2 : (t : ℕ) → field-check-lts.Need-loop-less-2 (field-check-calls t) (field-check-at t) field-check.Post
     field-check-Inv-loop field-check-μ-loop
@@ -297,34 +304,26 @@ field-check-loop-again-2 t c =
     let c10 = c9 .before in
     let c11 = c10 .before in
     let c15 = c11 .before .before .before .before in
-    rw (c .one-more2 .ensures) (free-next _ _ _ _ _ _ _ _ _ _ _ _ (c11 .loop .inv) (c10 .loop-test .taken) (c9 .word-in .ensures .0) _ (c5 .locate .ensures) _ (c8 .look-in .ensures) (c3 .if2 .taken) (c1 .if3 .left) (c15 .pre .1 .2))
+    rw (c .one-more2 .ensures) (free-next _ _ _ _ _ _ _ _ _ _ _ _ (c11 .loop .inv) (c10 .loop-test .taken) (c9 .word-in .ensures .0) _
+    (c5 .locate .ensures) _ (c8 .look-in .ensures) (c3 .if2 .taken) (c1 .if3 .left) (c15 .pre .1 .2))
 
 field-check-sub-field-item : (t : ℕ) → field-check-lts.Need-sub-field-item (field-check-calls t) (field-check-at t) field-check.Post
     field-check-Inv-loop field-check-μ-loop
 field-check-sub-field-item t c =
     let c2 = c .before .before in
-    let c6 = c2 .before .before .before .before in
-    let c7 = c6 .before in
-    let c8 = c7 .before in
-    reading-span _ _ _ _ _ _ _ _ _ _ _ _ (c8 .loop .inv) (c7 .loop-test .taken) (c6 .word-in .ensures .0) _ (c2 .locate .ensures) .0
+    field-check-lies t c2 .0
 
 field-check-part-field-item-start : (t : ℕ) → field-check-lts.Need-part-field-item-start (field-check-calls t) (field-check-at t) field-check.Post
     field-check-Inv-loop field-check-μ-loop
 field-check-part-field-item-start t c =
     let c2 = c .before .before in
-    let c6 = c2 .before .before .before .before in
-    let c7 = c6 .before in
-    let c8 = c7 .before in
-    reading-span _ _ _ _ _ _ _ _ _ _ _ _ (c8 .loop .inv) (c7 .loop-test .taken) (c6 .word-in .ensures .0) _ (c2 .locate .ensures) .0
+    field-check-lies t c2 .0
 
 field-check-part-field-item-end : (t : ℕ) → field-check-lts.Need-part-field-item-end (field-check-calls t) (field-check-at t) field-check.Post
     field-check-Inv-loop field-check-μ-loop
 field-check-part-field-item-end t c =
     let c2 = c .before .before in
-    let c6 = c2 .before .before .before .before in
-    let c7 = c6 .before in
-    let c8 = c7 .before in
-    reading-span _ _ _ _ _ _ _ _ _ _ _ _ (c8 .loop .inv) (c7 .loop-test .taken) (c6 .word-in .ensures .0) _ (c2 .locate .ensures) .1
+    field-check-lies t c2 .1
 
 field-check-field-item-requires : (t : ℕ) → field-check-lts.Need-field-item-requires (field-check-calls t) (field-check-at t) field-check.Post
     field-check-Inv-loop field-check-μ-loop
@@ -335,10 +334,9 @@ field-check-field-item-requires t c κs =
     let c8 = c7 .before in
     let c9 = c8 .before in
     let c13 = c9 .before .before .before .before in
-    let lies = reading-span _ _ _ _ _ _ _ _ _ _ _ _ (c9 .loop .inv) (c8 .loop-test .taken) (c7 .word-in .ensures .0) _ (c3 .locate .ensures) in
     let lower = row-below _ _ _ _ _ _ (c9 .loop .inv .row) (c8 .loop-test .taken) (c7 .word-in .ensures .0) in
     let under = row-under _ _ _ _ _ _ (c9 .loop .inv .row) (c8 .loop-test .taken) (c7 .word-in .ensures .0) in
-    (omega (arith, lower, c13 .pre .0), (under, omega (arith, lies, c13 .pre .1 .2), c6 .look-in .ensures))
+    (omega (arith, lower, c13 .pre .0), (under, omega (arith, field-check-lies t c3, c13 .pre .1 .2), c6 .look-in .ensures))
 
 field-check-enum-known-r : (t : ℕ) → field-check-lts.Need-enum-known-r (field-check-calls t) (field-check-at t) field-check.Post
     field-check-Inv-loop field-check-μ-loop
@@ -355,7 +353,8 @@ field-check-add-requires t c κs =
     let c13 = c12 .before in
     let c17 = c13 .before .before .before .before in
     let told = sym (c1 .r .given .1) ∙ c3 .field-item .ensures in
-    let counts = reading-item _ _ _ _ _ _ _ _ _ _ _ _ (c13 .loop .inv) (c12 .loop-test .taken) (c11 .word-in .ensures .0) _ (c7 .locate .ensures) _ (c17 .pre .1 .2) told in
+    let counts = reading-item _ _ _ _ _ _ _ _ _ _ _ _ (c13 .loop .inv) (c12 .loop-test .taken) (c11 .word-in .ensures .0) _ (c7 .locate .ensures) _
+    (c17 .pre .1 .2) told in
     (reading-small _ _ _ _ _ _ _ _ _ _ _ (c17 .pre .1 .1) (c13 .loop .inv), small-more _ counts)
 
 field-check-loop-less-3 : (t : ℕ) → field-check-lts.Need-loop-less-3 (field-check-calls t) (field-check-at t) field-check.Post
@@ -373,7 +372,8 @@ field-check-loop-again-3 t c =
     let c14 = c13 .before in
     let c18 = c14 .before .before .before .before in
     let told = sym (c2 .r .given .1) ∙ c4 .field-item .ensures in
-    rw (c .add .ensures) (reading-next _ _ _ _ _ _ _ _ _ _ _ _ (c14 .loop .inv) (c13 .loop-test .taken) (c12 .word-in .ensures .0) _ (c8 .locate .ensures) _ (c18 .pre .1 .2) told)
+    rw (c .add .ensures) (reading-next _ _ _ _ _ _ _ _ _ _ _ _ (c14 .loop .inv) (c13 .loop-test .taken) (c12 .word-in .ensures .0) _
+    (c8 .locate .ensures) _ (c18 .pre .1 .2) told)
 
 field-check-enum-known-r-2 : (t : ℕ) → field-check-lts.Need-enum-known-r-2 (field-check-calls t) (field-check-at t) field-check.Post
     field-check-Inv-loop field-check-μ-loop
