@@ -28,7 +28,6 @@ use Rattle.bitfield.specs.Held.{bitsIn, opLength, rawBytes, roomFor, and
 use Rattle.bitfield.specs.Lists.{listTold, listsTold, listMade, listMerge, listOutcome, listRoom, listIntoBytes, listBuffer}
 use Rattle.bitfield.specs.Vectors.{vectorTold, vectorsTold, vectorMade, vectorMerge, vectorOutcome, vectorRoom, vectorIntoBytes, vectorBuffer}
 use Rattle.bitfield.proofs.Tops.{bytes-known}
-use Rattle.bitfield.proofs.Tolds.{lists-kept, vectors-kept}
 use Rattle.bitfield.proofs.Ties.{Whole, bits-length, bits-number, take-number}
 
 -- What an array of 256 bytes is known to be
@@ -47,20 +46,12 @@ vector-done old o n r Fine f p q = rw q at p
 vector-done old o n r (Refused x) f p q = rw q at p
 
 -- Two fields put together, or refused
-pub lists-fine : (a b : BitList) → Raw (a .bytes) × Raw (b .bytes) → listsTold a b ≡ Fine → Kept (a .bytes) (a .len) × Kept (b .bytes) (b .len)
-unfolding listsTold
-lists-fine a b r t = lists-kept _ _ (a .len) (a .n) (b .len) (b .n) (r .0) (r .1) t
-
-pub vectors-fine : (a b : BitVector) → Raw (a .bytes) × Raw (b .bytes) → vectorsTold a b ≡ Fine → Kept (a .bytes) (a .len) × Kept (b .bytes) (b .len)
-unfolding vectorsTold
-vectors-fine a b r t = vectors-kept _ _ (a .len) (a .n) (b .len) (b .n) (r .0) (r .1) t
-
-pub list-merged : (op : Op) → Whole op → (a b : BitList) → Raw (a .bytes) × Raw (b .bytes) → listsTold a b ≡ Fine → (l : List ℕ) (len : ℕ)
+pub list-merged : (op : Op) → Whole op → (a b : BitList) → Kept (a .bytes) (a .len) × Kept (b .bytes) (b .len)
+    → listsTold a b ≡ Fine → (l : List ℕ) (len : ℕ)
     → l ≡ firsts (opOf op) 256 (a .bytes) (b .bytes) → len ≡ opLength op (a .len) (b .len)
     → record { field = record { bytes = l; len = len; n = a .n }; told = Fine } ≡ listMerge op a b
 unfolding listMerge
-list-merged op w a b r t l len e f =
-    let k = lists-fine a b r t in
+list-merged op w a b k t l len e f =
     let h = w (a .bytes) (a .len) (b .bytes) (b .len) (k .0) (k .1) l len e f in
     rw t (ap (λ (g : Field). listMade Fine a g (a .n)) h)
 
@@ -68,12 +59,12 @@ pub list-unmerged : (op : Op) (a b : BitList) (x : Refusal) → listsTold a b �
 unfolding listMerge
 list-unmerged op a b x e = rw e
 
-pub vector-merged : (op : Op) → Whole op → (a b : BitVector) → Raw (a .bytes) × Raw (b .bytes) → vectorsTold a b ≡ Fine → (l : List ℕ) (len : ℕ)
+pub vector-merged : (op : Op) → Whole op → (a b : BitVector) → Kept (a .bytes) (a .len) × Kept (b .bytes) (b .len)
+    → vectorsTold a b ≡ Fine → (l : List ℕ) (len : ℕ)
     → l ≡ firsts (opOf op) 256 (a .bytes) (b .bytes) → len ≡ opLength op (a .len) (b .len)
     → record { field = record { bytes = l; len = len; n = a .n }; told = Fine } ≡ vectorMerge op a b
 unfolding vectorMerge
-vector-merged op w a b r t l len e f =
-    let k = vectors-fine a b r t in
+vector-merged op w a b k t l len e f =
     let h = w (a .bytes) (a .len) (b .bytes) (b .len) (k .0) (k .1) l len e f in
     rw t (ap (λ (g : Field). vectorMade Fine a g (a .n)) h)
 

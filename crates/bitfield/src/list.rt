@@ -38,6 +38,7 @@ ghost use lib.ListN.{length};
 ghost use Rattle.standard.specs.Choice.{andAlso};
 ghost use Rattle.bitfield.specs.Held.{oneTold, twoTold, listGood};
 ghost use Rattle.bitfield.specs.Raw.{Raw};
+ghost use Rattle.bitfield.specs.Facts.{Kept};
 ghost use Rattle.bitfield.specs.Lists.{noList, listOutcome, listWithCapacity, listFromBytes, listIntoBytes, listBuffer};
 ghost use Rattle.bitfield.specs.Lists.{listIntersection, listUnion, listDifference, listIsSubset, listResize, listCloneZeroed};
 ghost use Rattle.bitfield.specs.Lists.{listSet, listGet, listHighestSetBit, listIsZero, listNumSetBits, listNot, listShiftUp};
@@ -49,6 +50,7 @@ fn first_told(bytes: &[u8; 256], len: usize, n: usize) -> Told
     one_told(is_list(bytes, len, n), n)
 }
 
+// Both first tests; two fields that they leave are well formed.
 fn pair_told<'a>(
     a: &'a [u8; 256],
     la: usize,
@@ -58,7 +60,10 @@ fn pair_told<'a>(
     m: usize,
 ) -> Told
     requires { ⌜ Raw (now a) × Raw (now b) ⌝ }
-    ensures { λ r. ⌜ r ≡ twoTold (andAlso (listGood (now (a .entry)) la n) (listGood (now (b .entry)) lb m)) n m ⌝ }
+    ensures { λ r. ⌜
+        (r ≡ twoTold (andAlso (listGood (now (a .entry)) la n) (listGood (now (b .entry)) lb m)) n m) ×
+        (r ≡ Told.Fine → Kept (now (a .entry)) la × Kept (now (b .entry)) lb)
+    ⌝ }
 {
     two_told(is_list(a, la, n), is_list(b, lb, m), n, m)
 }
