@@ -15,7 +15,8 @@ use Rattle.standard.specs.Choice.{pick}
 use Rattle.standard.specs.declared.Refusal.{Refusal}
 use Rattle.standard.specs.declared.Refusal.the-variants.{OutOfBounds, ExcessBits, InvalidByteCount}
 use Rattle.standard.proofs.Bytes.{num-bound}
-use Rattle.standard.proofs.Bits.{bitsOf, length-bitsOf, bitNum-bound, marked-bits, marked-injective, num-marked, length-marked, pack-bits, pack-injective, num-pack, length-pack, pow-bytes}
+use Rattle.standard.proofs.Bits.{bitsOf, length-bitsOf, bitNum-bound, marked-bits, marked-injective, num-marked, length-marked, pack-bits}
+use Rattle.standard.proofs.Bits.{pack-injective, num-pack, length-pack, pow-bytes}
 use Rattle.bitfield.specs.Body.{highest, allBits, markedAt, bitListBody, bitVectorBody, bytesFor}
 use Rattle.bitfield.specs.declared.Top.{Top}
 use Rattle.bitfield.specs.declared.Top.the-variants.{At, Nothing}

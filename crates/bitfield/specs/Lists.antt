@@ -8,7 +8,8 @@ use Rattle.standard.specs.Bytes.{num}
 use Rattle.standard.specs.Choice.{andAlso}
 use Rattle.bitfield.specs.Body.{highest, bitListBody}
 use Rattle.bitfield.specs.Bools.{both, either, without, flipped, noBits, moved, widened, count, noneSet, subset}
-use Rattle.bitfield.specs.Held.{bitsIn, held, opBits, limited, oneTold, twoTold, listGood, inside, upTo, notBelow, roomFor, andThen, bitAnswer, countAnswer, topAnswer, written}
+use Rattle.bitfield.specs.Held.{bitsIn, held, opBits, limited, oneTold, twoTold, listGood, inside, upTo, notBelow, roomFor, andThen, bitAnswer}
+use Rattle.bitfield.specs.Held.{countAnswer, topAnswer, written}
 use Rattle.bitfield.specs.declared.BodyBits.{BodyBits}
 use Rattle.bitfield.specs.declared.BodyBits.the-variants.{Bits, Refused as NoBody}
 use Rattle.standard.specs.declared.Told.{Told}

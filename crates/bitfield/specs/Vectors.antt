@@ -8,7 +8,8 @@ use Rattle.standard.specs.Choice.{andAlso}
 use Rattle.standard.specs.Bits.{bitsOf}
 use Rattle.bitfield.specs.Body.{highest, bitVectorBody}
 use Rattle.bitfield.specs.Bools.{both, either, without, flipped, noBits, moved, count, noneSet, subset}
-use Rattle.bitfield.specs.Held.{bitsIn, held, opBits, rawBytes, limited, oneTold, twoTold, vectorGood, inside, upTo, roomFor, andThen, bitAnswer, countAnswer, topAnswer, written}
+use Rattle.bitfield.specs.Held.{bitsIn, held, opBits, rawBytes, limited, oneTold, twoTold, vectorGood, inside, upTo, roomFor, andThen}
+use Rattle.bitfield.specs.Held.{bitAnswer, countAnswer, topAnswer, written}
 use Rattle.standard.specs.declared.Told.{Told}
 use Rattle.standard.specs.declared.Told.the-variants.{Fine, Refused}
 use Rattle.bitfield.specs.declared.BitResult.{BitResult}

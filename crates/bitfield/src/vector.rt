@@ -62,8 +62,7 @@ fn pair_told<'a>(
     requires { ⌜ Raw (now a) × Raw (now b) ⌝ }
     ensures { λ r. ⌜
         (r ≡ twoTold (andAlso (vectorGood (now (a .entry)) la n) (vectorGood (now (b .entry)) lb m)) n m) ×
-        (r ≡ Told.Fine → Kept (now (a .entry)) la × Kept (now (b .entry)) lb)
-    ⌝ }
+        (r ≡ Told.Fine → Kept (now (a .entry)) la × Kept (now (b .entry)) lb) ⌝ }
 {
     two_told(is_vector(a, la, n), is_vector(b, lb, m), n, m)
 }

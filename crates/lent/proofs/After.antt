@@ -105,7 +105,7 @@ module _ (B : Held) (ks : List Kind) (answer : B .the .D → Values ks → B .Pa
 
     module _ (N : Numbers ks) (f : Name) (mine : Fml) (Post : Val → SProp 𝓤)
         (exits : (z : B .the .D) (t : Told) → Is R z (machine B z ∷ []) → Is O.the-row t (spell-told t ∷ []) → B .left z t ≡ answer h a
-          → ent 𝓤 (sem 𝓤 H A mine) (Post (paired B z t)))
+        → ent 𝓤 (sem 𝓤 H A mine) (Post (paired B z t)))
         (C : Calls 𝓤 H) (Λ : Loops 𝓤 H) (fm : FmC 𝓤 H (W .laws) C) (known : Triple 𝓤 (C f) Call) where
       walk : ent 𝓤 (sep 𝓤 (emp 𝓤) (sem 𝓤 H A mine)) (WpFn 𝓤 H C Λ (lends-own B ks N f) (machine B h ∷ machines ks a) Post)
       walk =

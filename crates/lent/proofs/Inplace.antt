@@ -104,8 +104,8 @@ module _ (B : Held) (ks : List Kind) (answer : B .the .D → Values ks → B .Pa
 
     module _ (N : Numbers ks) (f : Name) (κ : Lft) (q : Share) (b o : ℕ) (γ : GName) (rest : Fml) (Post : Val → SProp 𝓤)
         (exits : (r : B .Pair) → Is O.the-row (B .told r) (spell-told (B .told r) ∷ []) → r ≡ answer h a
-          → ent 𝓤 (sep 𝓤 (A .obs γ (R .coded .code (B .held r))) (sep 𝓤 (A .bor κ (Body (mem R) b o γ)) (sep 𝓤 (A .lft κ q) (sem 𝓤 H A rest))))
-          (Post (spell-told (B .told r))))
+        → ent 𝓤 (sep 𝓤 (A .obs γ (R .coded .code (B .held r))) (sep 𝓤 (A .bor κ (Body (mem R) b o γ)) (sep 𝓤 (A .lft κ q) (sem 𝓤 H A rest))))
+        (Post (spell-told (B .told r))))
         (C : Calls 𝓤 H) (Λ : Loops 𝓤 H) (fm : FmC 𝓤 H (W .laws) C) (known : Triple 𝓤 (C f) Method) where
       walk : ent 𝓤 (sep 𝓤 (sep 𝓤 (A .lft κ q) (emp 𝓤)) (sem 𝓤 H A (fsep (MutRef (named 0) κ R .own (refTo h b o γ) (vptr b o ∷ [])) rest)))
           (WpFn 𝓤 H C Λ (changes B ks N f) (vptr b o ∷ machines ks a) Post)
@@ -161,7 +161,7 @@ module _ (B : Held) (ks : List Kind) (answer : B .the .D → Values ks → B .Pa
 
     exits : (r : B .Pair) → Is O.the-row (B .told r) (spell-told (B .told r) ∷ []) → r ≡ answer (x .now) (taken 1 (κ, tt) ks a)
         → ent 𝓤 (sep 𝓤 (A .obs (x .name) (R .coded .code (B .held r)))
-          (sep 𝓤 (A .bor κ (Body (mem R) (x .ptr .0) (x .ptr .1) (x .name))) (sep 𝓤 (A .lft κ q) (sem 𝓤 H A others))))
+        (sep 𝓤 (A .bor κ (Body (mem R) (x .ptr .0) (x .ptr .1) (x .name))) (sep 𝓤 (A .lft κ q) (sem 𝓤 H A others))))
         (Ends (spell-told (B .told r)))
     exits r is-t e =
         qed W (‵ (fobs (x .name) (R .coded .code (B .held r))) ∷ ‵ (fbor κ (Body (mem R) (x .ptr .0) (x .ptr .1) (x .name))) ∷

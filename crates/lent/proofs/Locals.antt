@@ -150,11 +150,11 @@ module _ {M : Type 1} {𝓤 : URA M} {H : Heap 𝓤} {A : Atoms 𝓤} {K : Type 
       (λ u. raw (sep 𝓤 (cells 𝓤 H ks (bs .1) (a .1)) (sep 𝓤 (H .at fullShare (k .ty) (bs .0) zero u) (H .dies (k .ty) (bs .0)))))
   first k ks bs a = record {
     out =
-      qed W ((raw (cells 𝓤 H ks (bs .1) (a .1)) ⊛ (‵ (fat fullShare (k .ty) (bs .0) zero (k .val (a .0))) ⊛ ‵ (fdies (k .ty) (bs .0)))) ∷ []) ∵
-      split ! $ move ! (1 ∷ []) $ split ! $ frame ! $
-      each ! (λ (u : Val). wand 𝓤 (H .at fullShare (k .ty) (bs .0) zero u)
+        qed W ((raw (cells 𝓤 H ks (bs .1) (a .1)) ⊛ (‵ (fat fullShare (k .ty) (bs .0) zero (k .val (a .0))) ⊛ ‵ (fdies (k .ty) (bs .0)))) ∷ []) ∵
+        split ! $ move ! (1 ∷ []) $ split ! $ frame ! $
+        each ! (λ (u : Val). wand 𝓤 (H .at fullShare (k .ty) (bs .0) zero u)
         (sep 𝓤 (cells 𝓤 H ks (bs .1) (a .1)) (sep 𝓤 (H .at fullShare (k .ty) (bs .0) zero u) (H .dies (k .ty) (bs .0)))))
-      (λ u. assume ! (‵ (fat fullShare (k .ty) (bs .0) zero u)) $ move ! (2 ∷ 0 ∷ 1 ∷ []) $ done !);
+        (λ u. assume ! (‵ (fat fullShare (k .ty) (bs .0) zero u)) $ move ! (2 ∷ 0 ∷ 1 ∷ []) $ done !);
     same = refl;
   }
 
@@ -164,11 +164,11 @@ module _ {M : Type 1} {𝓤 : URA M} {H : Heap 𝓤} {A : Atoms 𝓤} {K : Type 
       (λ u. raw (sep 𝓤 (mean 𝓤 H A (back u)) (sep 𝓤 (H .at fullShare (k .ty) (bs .0) zero (k .val (a .0))) (H .dies (k .ty) (bs .0)))))
   later-one k ks bs a {τ} {b} {v} {back} p = record {
     out =
-      qed W ((raw (cells 𝓤 H ks (bs .1) (a .1)) ⊛ raw own) ∷ []) ∵ split ! $
-      use1 W (‵ (fat fullShare τ b zero v) ⊛ raw (all 𝓤 way)) (p .out) $ split ! $ frame ! $
-      each ! (λ (u : Val). wand 𝓤 (H .at fullShare τ b zero u) (sep 𝓤 (mean 𝓤 H A (back u)) own))
-      (λ u. assume {P = sep 𝓤 (mean 𝓤 H A (back u)) own} ! (‵ (fat fullShare τ b zero u)) $ move ! (1 ∷ []) $ use1 W (raw (way u)) (allE 𝓤 way u) $
-      move ! (1 ∷ 0 ∷ []) $ use2 W (back u) (apply∗ 𝓤 (H .at fullShare τ b zero u) (mean 𝓤 H A (back u))) $ done !);
+        qed W ((raw (cells 𝓤 H ks (bs .1) (a .1)) ⊛ raw own) ∷ []) ∵ split ! $
+        use1 W (‵ (fat fullShare τ b zero v) ⊛ raw (all 𝓤 way)) (p .out) $ split ! $ frame ! $
+        each ! (λ (u : Val). wand 𝓤 (H .at fullShare τ b zero u) (sep 𝓤 (mean 𝓤 H A (back u)) own))
+        (λ u. assume {P = sep 𝓤 (mean 𝓤 H A (back u)) own} ! (‵ (fat fullShare τ b zero u)) $ move ! (1 ∷ []) $ use1 W (raw (way u)) (allE 𝓤 way u) $
+        move ! (1 ∷ 0 ∷ []) $ use2 W (back u) (apply∗ 𝓤 (H .at fullShare τ b zero u) (mean 𝓤 H A (back u))) $ done !);
     same = ap (λ (i : Item 𝓤). raw (sep 𝓤 (mean 𝓤 H A i) own)) (p .same);
   }
     where

@@ -17,7 +17,7 @@ use Rattle.standard.proofs.Bits.{bitsOf}
 use Rattle.decode.specs.Builder.{step, register, build, layOut}
 use Rattle.bitfield.specs.Body.{highest, bitListBody}
 use Rattle.layout.specs.Tree.{nodeOf, leafOf, fromNode, fields, options, trees, treeOf}
-use Rattle.layout.specs.Table.{count, refs, many, containerEnd, leafEnd, bodyEnd, typesEnd, typesOf, tableOf}
+use Rattle.layout.specs.Table.{count, refs, counted, many, containerEnd, leafEnd, bodyEnd, typesEnd, typesOf, tableOf}
 use Rattle.message.specs.Read.{readItem}
 use Rattle.message.specs.Listing.{entry, listItem}
 use Rattle.message.specs.Check.{messageType, checkMessage}
@@ -73,7 +73,7 @@ Holds (x ∷ xs) = (checkMessage (x .layout) (x .message) ≡ x .answer) × Hold
 
 cases-hold : Holds cases
 unfolding Holds cases messageP offsets layoutL bits4 bytesOf le num numAt wordAt head heads joined width portion next nodeOf leafOf fromNode fields
-    options trees treeOf step register build layOut bitsOf highest bitListBody readItem count refs many containerEnd leafEnd bodyEnd typesEnd typesOf tableOf
+    options trees treeOf step register build layOut bitsOf highest bitListBody readItem count refs counted many containerEnd leafEnd bodyEnd typesEnd typesOf tableOf
     checkMessage
 cases-hold = (refl, (refl, (refl, (refl, (refl, (refl, (refl, (refl, (refl, (refl, (refl, (refl, tt))))))))))))
 

@@ -34,27 +34,6 @@ stored-length o at x r o′ g = ap length (g .list) ∙ length-sets o at x
 pub stored-one : (o : List ℕ) (at x : ℕ) → Stored o at (x ∷ []) (at + 1) (set o at x)
 stored-one o at x = record { list = refl; ends = refl }
 
--- The loop of `copy_into`.
-pub record Copying (o : List ℕ) (at : ℕ) (s o′ : List ℕ) (i : ℕ) : Type 0 where
-  pub within : i ≤ length s
-  pub stored : Stored o at (take i s) (at + i) o′
-
-pub copying-first : (o : List ℕ) (at : ℕ) (s : List ℕ) → Copying o at s o 0
-copying-first o at s = record { within = omega arith; stored = rw (add-zero at) (stored-none o at [] refl) }
-
-pub copying-next : (o : List ℕ) (at : ℕ) (s o′ : List ℕ) (i : ℕ) → Copying o at s o′ i → i < length s → Copying o at s (set o′ (at + i) (getD s i 0)) (i + 1)
-copying-next o at s o′ i g h =
-    let e : at + i + 1 ≡ at + (i + 1) = omega arith in
-    let q : take (i + 1) s ≡ take i s ++ (getD s i 0 ∷ []) = rw (add-one i, take-suc s i 0) in
-    record {
-      within = omega arith;
-      stored = stored-then o at (take i s) (at + i) o′ (getD s i 0 ∷ []) (at + (i + 1)) _ (take (i + 1) s) (g .stored)
-          (rw e at (stored-one o′ (at + i) (getD s i 0))) q;
-    }
-
-pub copying-end : (o : List ℕ) (at : ℕ) (s o′ : List ℕ) (i : ℕ) → Copying o at s o′ i → length s ≤ i → Stored o at s (at + i) o′
-copying-end o at s o′ i g h = rw (take-all i s h) at (g .stored)
-
 -- Raw bytes: what they are in numbers
 pub length-raw : (b : List ℕ) (k : ℕ) → length (rawOf b k) ≡ max 1 ((k + 7) / 8)
 unfolding rawOf

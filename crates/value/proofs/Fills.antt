@@ -39,28 +39,6 @@ use Rattle.value.proofs.Leaves.{number-form, fixed-form, boolean-form, 
 use Rattle.value.proofs.Unions.{leaf-walk, leaf-write}
 use Rattle.value.proofs.Rows.{fields-walk, fields-parts, none-walk, none-parts, container-walk, container-write}
 
--- The loop of a copy: the first i elements of s are stored in o, which gives o′.
-pub record Copying (o : List ℕ) (at : ℕ) (s o′ : List ℕ) (i : ℕ) : Type 0 where
-  pub within : i ≤ length s
-  pub long : length o′ ≡ length o
-  pub rest : sets o′ (at + i) (drop i s) ≡ sets o at s
-
-module _ (o : List ℕ) (at : ℕ) (s : List ℕ) where
-  pub copying-none : Copying o at s o 0
-  copying-none = record { within = omega arith; long = refl; rest = ap (λ (k : ℕ). sets o k s) (add-zero at) }
-
-  pub copying-more : (o′ : List ℕ) (i : ℕ) → Copying o at s o′ i → i < length s → Copying o at s (set o′ (at + i) (getD s i 0)) (i + 1)
-  copying-more o′ i g h =
-      let e : at + (i + 1) ≡ suc (at + i) = omega arith in
-      record {
-        within = omega arith;
-        long = length-set o′ (at + i) (getD s i 0) ∙ g .long;
-        rest = rw (e, add-one) (sym (ap (sets o′ (at + i)) (drop-cons s i 0 h)) ∙ g .rest);
-      }
-
-  pub copying-all : (o′ : List ℕ) (i : ℕ) → Copying o at s o′ i → length s ≤ i → o′ ≡ sets o at s
-  copying-all o′ i g h = sym (ap (sets o′ (at + i)) (drop-of-length-le s h)) ∙ g .rest
-
 -- n bytes of the bodies.
 pub part-stored : (o : List ℕ) (at : ℕ) (b : List ℕ) (i j n : ℕ) (o′ : List ℕ) → j + n ≤ length b → o′ ≡ sets o at (take (j + n - j) (drop j b)) →
     Put o at (bytesAt b j n) (upto i (j + n)) (record { word = i; byte = j + n; to = at + n }) o′

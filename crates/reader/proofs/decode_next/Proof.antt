@@ -239,7 +239,7 @@ module _ {M : Type 1} (𝓤 : URA M) (H : Heap 𝓤) (A : Atoms 𝓤) (W : Given
           (and-then ! (load ! (from ! (stop !)) (look ! 11 refl))
           (and-then ! (load ! (from ! (stop !)) (look ! 9 refl)) (and-then ! (load ! (from ! (stop !)) (look ! 3 refl)) (no-more !)))) (λ u.
           use1 W (later (some (λ (r : ReaderStep). (‵ ftrue ⊛ ‵ (P.the-row .own r (u ∷ []))) ⊛ raw
-              (ensured 𝓤 H A step.ended (step.clauses 𝓤 H A mem run) tt (d .ranges, (d .next, (len, tt))) tt r)))) (id⊢ 𝓤 _) $ await ! tt $ pick ! (λ r.
+          (ensured 𝓤 H A step.ended (step.clauses 𝓤 H A mem run) tt (d .ranges, (d .next, (len, tt))) tt r)))) (id⊢ 𝓤 _) $ await ! tt $ pick ! (λ r.
           split ! $ move ! (1 ∷ []) $ use1 W (raw (fact 𝓤 (r ≡ stepAfter (d .ranges) (d .next) len))) (step-said r) $ heard !
           (r ≡ stepAfter (d .ranges) (d .next) len) (λ e. split ! $ drop ! $
           facts ! P.the-row (Is P.the-row) (shows 𝓤 H A P.the-row) r (u ∷ []) (λ is.
@@ -252,8 +252,8 @@ module _ {M : Type 1} (𝓤 : URA M) (H : Heap 𝓤) (A : Atoms 𝓤) (W : Given
           (and-then ! (load ! (from ! (stop !)) (look ! 12 refl))
           (and-then ! (load ! (from ! (stop !)) (look ! 10 refl)) (and-then ! (load ! (from ! (stop !)) (look ! 14 refl)) (no-more !)))) (λ u′.
           use1 W (later (some (λ (i : RefT (List ℕ)). ((‵ (flft κ q) ⊛ ‵ ftrue) ⊛ ‵ (ShrSlice (named 0) κ u8 .own i (u′ ∷ []))) ⊛ raw
-              (ensured 𝓤 H A item.ended (item.clauses 𝓤 H A mem run) (κ, tt) (d .ranges, (d .next, (d .bytes, tt))) tt i)))) (id⊢ 𝓤 _) $ await ! tt $
-              pick ! (λ i.
+          (ensured 𝓤 H A item.ended (item.clauses 𝓤 H A mem run) (κ, tt) (d .ranges, (d .next, (d .bytes, tt))) tt i)))) (id⊢ 𝓤 _) $ await ! tt $
+          pick ! (λ i.
           split ! $ move ! (1 ∷ []) $ use1 W (raw (fact 𝓤 (now i ≡ itemNext d))) (item-said i) $ heard ! (now i ≡ itemNext d) (λ e′. split ! $ move ! (1 ∷ []) $
           peeks ! (ShrSlice (named 0) κ u8) (Is (ShrSlice (named 0) κ u8)) (shows 𝓤 H A (ShrSlice (named 0) κ u8)) i (u′ ∷ []) (λ is′.
           rewrite ! 0 (λ (us : List Val). ‵ (ShrSlice (named 0) κ u8 .own i us)) (shr-slice-tells (named 0) κ u8 i (u′ ∷ []) is′) refl $

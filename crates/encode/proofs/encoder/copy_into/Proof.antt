@@ -2,7 +2,7 @@
 use Prim.Native.Nat.{_-_}
 use native.Mathlib.Omega.{arith}
 use lib.ListN.{length}
-use Rattle.encode.proofs.Copy.{Copying, copying-none, copying-more, copying-all}
+use Rattle.standard.proofs.Store.{Copying, copying-none, copying-more, copying-all}
 use Rattle.encode.proofs.encoder.copy_into.Statement.{statement}
 use Rattle.encode.proofs.encoder.copy_into.Tie as tie
 

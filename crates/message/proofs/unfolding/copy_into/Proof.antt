@@ -2,7 +2,7 @@
 use native.Mathlib.Omega.{arith}
 use Prim.Native.Nat.{_-_}
 use lib.ListN.{length}
-use Rattle.message.proofs.UnfoldLeaves.{Copying, copying-first, copying-next, copying-end, stored-length}
+use Rattle.standard.proofs.Store.{Copying, copying-none, copying-more, copying-stored}
 use Rattle.message.proofs.unfolding.copy_into.Statement.{statement}
 use Rattle.message.proofs.unfolding.copy_into.Tie as tie
 
@@ -13,7 +13,7 @@ abbrev μ-loop : tie.MeasureT-loop
 μ-loop out₀ at src i₀ out i = length src - i
 
 loop-holds : tie.Need-loop-holds Inv-loop μ-loop
-loop-holds c = copying-first _ _ _
+loop-holds c = copying-none _ _ _
 
 add-to : tie.Need-add-to Inv-loop μ-loop
 add-to c =
@@ -27,7 +27,7 @@ slice-write-out : tie.Need-slice-write-out Inv-loop μ-loop
 slice-write-out c =
     let c2 = c .before .before in
     let c3 = c2 .before in
-    omega (arith, c3 .pre .room, stored-length _ _ _ _ _ (c2 .loop .inv .stored))
+    omega (arith, c3 .pre .room, c2 .loop .inv .long)
 
 add-i : tie.Need-add-i Inv-loop μ-loop
 add-i c = omega arith
@@ -38,7 +38,7 @@ loop-less c = omega arith
 loop-again : tie.Need-loop-again Inv-loop μ-loop
 loop-again c =
     let c2 = c .before .before in
-    copying-next _ _ _ _ _ (c2 .loop .inv) (c .before .loop-test .taken)
+    copying-more _ _ _ _ _ (c2 .loop .inv) (c .before .loop-test .taken)
 
 add-result : tie.Need-add-result Inv-loop μ-loop
 add-result c =
@@ -46,10 +46,10 @@ add-result c =
     omega (arith, c2 .pre .room, c .before .loop .inv .within)
 
 same-length : tie.Need-same-length Inv-loop μ-loop
-same-length c = stored-length _ _ _ _ _ (c .before .loop .inv .stored)
+same-length c = c .before .loop .inv .long
 
 returns : tie.Need-returns Inv-loop μ-loop
-returns c = copying-end _ _ _ _ _ (c .before .loop .inv) (c .loop-test .left)
+returns c = copying-stored _ _ _ _ _ (c .before .loop .inv) (c .loop-test .left)
 
 pub copy-into-spec : {M : Type 1} → statement M
 copy-into-spec =

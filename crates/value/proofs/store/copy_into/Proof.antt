@@ -2,7 +2,7 @@
 use native.Mathlib.Omega.{arith}
 use Prim.Native.Nat.{_-_}
 use lib.ListN.{length}
-use Rattle.value.proofs.Fills.{Copying, copying-none, copying-more, copying-all}
+use Rattle.standard.proofs.Store.{Copying, copying-none, copying-more, copying-all}
 use Rattle.value.proofs.store.copy_into.Statement.{statement}
 use Rattle.value.proofs.store.copy_into.Tie as tie
 
