@@ -106,7 +106,8 @@ toldFrom n = pick (eqb (n .number) 0) Told.Fine (Told.Refused (refusalOf n))
 pub told-back : (t : Told) → toldFrom (toldNumbers t) ≡ t
 told-back Told.Fine = refl
 told-back (Told.Refused r) =
-    ap (λ c. pick c Told.Fine (Told.Refused (refusalOf (numbersOf r)))) (ne-eqb (numbersOf r .number) 0 (λ (e : numbersOf r .number ≡ 0). omega (arith, number-some r)))
+    ap (λ c. pick c Told.Fine (Told.Refused (refusalOf (numbersOf r))))
+    (ne-eqb (numbersOf r .number) 0 (λ (e : numbersOf r .number ≡ 0). omega (arith, number-some r)))
     ∙ ap Told.Refused (refusal-back r)
 
 -- Two calls that tell the same numbers tell the same.
