@@ -1,14 +1,12 @@
 -- From what the private calls make to the answers of the public ones. Assumes nothing.
-use mathlib.Core.Path.{_≡_, refl, sym, ap, _∙_}
-use mathlib.Core.List.{List, [], _++_}
-use mathlib.Core.Bool.{Bool}
+use mathlib.Core.Path.{_≡_, sym, ap, _∙_}
+use mathlib.Core.List.{List, _++_}
 use Prim.Native.Nat.{ℕ, _+_, _/_, _≤_, max}
 use native.Mathlib.Omega.{arith}
 use mir.Syntax.{w8}
 use mir.Val.{Fits}
 use lib.ListN.{length, getD, take, drop}
-use Rattle.standard.specs.Bits.{marked, packs}
-use Rattle.standard.specs.Bytes.{num}
+use Rattle.standard.specs.Bits.{marked}
 use Rattle.standard.proofs.Bits.{length-marked, length-packs, packs-le}
 use Rattle.standard.specs.declared.Refusal.{Refusal}
 use Rattle.standard.specs.declared.Told.{Told}

@@ -3,7 +3,6 @@ use super::BitList;
 use super::BitResult;
 use super::BodyBits;
 use super::CountResult;
-use super::Field;
 use super::HighestBit;
 use super::ListResult;
 use super::Outcome;

@@ -2,7 +2,6 @@
 use super::BitResult;
 use super::BitVector;
 use super::CountResult;
-use super::Field;
 use super::HighestBit;
 use super::Outcome;
 use super::VectorResult;

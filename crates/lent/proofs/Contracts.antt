@@ -10,11 +10,11 @@ use contract.Monad.{fact}
 use denote.Exit.{yes}
 use denote.Builtin.{RefMutOf}
 use denote.Ref.{now}
-use denote.Signature.{Signature, plain}
+use denote.Signature.{plain}
 use denote.Struct.Declared.{row}
 use denote.Triple.Clauses.{Ended, Clauses, closing}
 use denote.Triple.End.{all}
-use denote.Triple.Spec.{Spec, tripleOf}
+use denote.Triple.Spec.{tripleOf}
 use denote.Triple.Statement.{Contract}
 use Rattle.standard.proofs.Told as O
 use Rattle.lent.proofs.Values.{Kind, Values, slots, taken, Held, kind, pair}

@@ -40,7 +40,7 @@ use denote.Triple.Clauses.{ensured}
 use denote.Triple.Clauses as Clauses
 use denote.Triple.Entry.{onEntry}
 use denote.Triple.Table.{entered, cited}
-use denote.Triple.Walked.{says, Stays, stay-ref, walkOf, AllGo, goes-ref, Walks, ends-at, walked, walk-meets}
+use denote.Triple.Walked.{says, Stays, stay-ref, walkOf, goes-ref, Walks, ends-at, walked, walk-meets}
 use Rattle.standard.proofs.Told as O
 use Rattle.standard.proofs.Told.Laws as O′
 use Rattle.lent.proofs.Values.{Kind, Values, machines, Goods, stays, rows, taken, given, taken-given, spells, spelled, tell}

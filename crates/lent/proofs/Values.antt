@@ -8,7 +8,7 @@ use lib.Dec.{T}
 use mir.Syntax.{Sym, Ty, tyInt, tyBool, w64}
 use mir.Val.{Val, vint, vbool, vstruct, ofList, WT, hasTy}
 use base.Logic.{ent, emp}
-use base.Fml.{Fml, ftrue, fsep}
+use base.Fml.{ftrue, fsep}
 use prog.Wp.{Heap}
 use ghost.Atoms.{Atoms, sem}
 use types.Kit.{Given}

@@ -81,8 +81,7 @@ leaf-end-requires c κs =
     let c1 = c .before in
     let c4 = c1 .before .before .before in
     let c6 = c4 .before .before in
-    let c9 = c6 .before .before .before in
-    (
+    let c9 = c6 .before .before .before in (
       record {
         known = c9 .pre .0;
         few = c9 .pre .1;

@@ -1,5 +1,5 @@
 -- `bitfield::BitList::from_bytes` meets its contract: the limit, the body's tests, then its bits without the mark. Assumes nothing.
-use mathlib.Core.Path.{sym, ap, _∙_}
+use mathlib.Core.Path.{sym, _∙_}
 use native.Mathlib.Omega.{arith}
 use borrow.Author.Needs.{needs}
 use Rattle.bitfield.specs.Lists.{listFromBytes}

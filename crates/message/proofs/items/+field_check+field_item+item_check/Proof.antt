@@ -197,9 +197,12 @@ field-check-one-more-requires t c κs =
     let c4 = c .before .before .before .before in
     let c5 = c4 .before in
     let c6 = c5 .before in
-    let c10 = c6 .before .before .before .before in
-    (reading-small _ _ _ _ _ _ _ _ _ _ _ (c10 .pre .1 .1) (c6 .loop .inv), omega arith, row-small _ _ _ _ _ _ (c6 .loop .inv .row)
-    (c5 .loop-test .taken) (c4 .word-in .ensures .0))
+    let c10 = c6 .before .before .before .before in (
+      reading-small _ _ _ _ _ _ _ _ _ _ _ (c10 .pre .1 .1) (c6 .loop .inv),
+      omega arith,
+      row-small _ _ _ _ _ _ (c6 .loop .inv .row)
+          (c5 .loop-test .taken) (c4 .word-in .ensures .0),
+    )
 
 field-check-add-p : (t : ℕ) → field-check-lts.Need-add-p (field-check-calls t) (field-check-at t) field-check.Post field-check-Inv-loop field-check-μ-loop
 field-check-add-p t c =
@@ -210,8 +213,12 @@ field-check-add-p t c =
     let c6 = c5 .before in
     let c7 = c6 .before in
     let c11 = c7 .before .before .before .before in
-    omega (arith, plain-fits _ _ _ _ _ _ _ _ _ _ _ _ (c7 .loop .inv) (c6 .loop-test .taken) (c5 .word-in .ensures .0) _ (c4 .look-in .ensures)
-    (sym (c3 .is-plain .ensures) ∙ c2 .if1 .taken) _ refl, c11 .pre .1 .2)
+    omega (
+      arith,
+      plain-fits _ _ _ _ _ _ _ _ _ _ _ _ (c7 .loop .inv) (c6 .loop-test .taken) (c5 .word-in .ensures .0) _ (c4 .look-in .ensures)
+          (sym (c3 .is-plain .ensures) ∙ c2 .if1 .taken) _ refl,
+      c11 .pre .1 .2,
+    )
 
 field-check-add-a : (t : ℕ) → field-check-lts.Need-add-a (field-check-calls t) (field-check-at t) field-check.Post field-check-Inv-loop field-check-μ-loop
 field-check-add-a t c =

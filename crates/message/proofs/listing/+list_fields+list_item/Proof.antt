@@ -227,8 +227,12 @@ list-fields-list-item-requires t c κs =
     let lower = row-below _ _ _ _ _ _ (c8 .loop .inv .row) (c7 .loop-test .taken) (c6 .word-in .ensures .0) in
     let under = row-under _ _ _ _ _ _ (c8 .loop .inv .row) (c7 .loop-test .taken) (c6 .word-in .ensures .0) in (
       omega (arith, lower, c12 .pre .0),
-      (under, omega (arith, list-fields-lies t c5, c12 .pre .1 .1), storing-accepted _ _ _ _ _ _ _ _ _ _ _ _ _ _ _ (c8 .loop .inv) (c7 .loop-test .taken) (c6 .word-in .ensures .0) _ (c5 .locate .ensures),
-        storing-room _ _ _ _ _ _ _ _ _ _ _ _ _ _ _ (c8 .loop .inv) (c7 .loop-test .taken) (c6 .word-in .ensures .0) _ (c5 .locate .ensures)),
+      (
+        under,
+        omega (arith, list-fields-lies t c5, c12 .pre .1 .1),
+        storing-accepted _ _ _ _ _ _ _ _ _ _ _ _ _ _ _ (c8 .loop .inv) (c7 .loop-test .taken) (c6 .word-in .ensures .0) _ (c5 .locate .ensures),
+        storing-room _ _ _ _ _ _ _ _ _ _ _ _ _ _ _ (c8 .loop .inv) (c7 .loop-test .taken) (c6 .word-in .ensures .0) _ (c5 .locate .ensures),
+      ),
     )
 
 list-fields-loop-less-2 : (t : ℕ) → list-fields-lts.Need-loop-less-2 (list-fields-calls t) (list-fields-at t) list-fields.Post

@@ -260,9 +260,12 @@ unfold-fields-unfold-item-requires t c κs =
     let lower = row-below _ _ _ _ _ _ (c11 .loop .inv .row) (c10 .loop-test .taken) (c9 .word-in .ensures .0) in
     let under = row-under _ _ _ _ _ _ (c11 .loop .inv .row) (c10 .loop-test .taken) (c9 .word-in .ensures .0) in (
       omega (arith, lower, c16 .pre .0),
-      (under, omega (arith, unfold-fields-lies t c8, c16 .pre .1 .1),
+      (
+        under,
+        omega (arith, unfold-fields-lies t c8, c16 .pre .1 .1),
         filling-accepts _ _ _ _ _ _ _ _ _ _ _ _ _ _ _ _ (c11 .loop .inv) (c10 .loop-test .taken) (c9 .word-in .ensures .0) _ (c8 .locate .ensures),
-        filling-rooms _ _ _ _ _ _ _ _ _ _ _ _ _ _ _ _ (c11 .loop .inv) (c10 .loop-test .taken) (c9 .word-in .ensures .0) _ (c8 .locate .ensures)),
+        filling-rooms _ _ _ _ _ _ _ _ _ _ _ _ _ _ _ _ (c11 .loop .inv) (c10 .loop-test .taken) (c9 .word-in .ensures .0) _ (c8 .locate .ensures),
+      ),
     )
 
 unfold-fields-loop-less-2 : (t : ℕ) → unfold-fields-lts.Need-loop-less-2 (unfold-fields-calls t) (unfold-fields-at t) unfold-fields.Post

@@ -255,8 +255,7 @@ measure-fields-measure-item-requires t c κs =
     let c6 = c .before .before .before .before .before .before in
     let c7 = c6 .before in
     let c8 = c7 .before in
-    let c12 = c8 .before .before .before .before in
-    (
+    let c12 = c8 .before .before .before .before in (
       omega (arith, row-below _ _ _ _ _ _ (c8 .loop .inv .row) (c7 .loop-test .taken) (c6 .word-in .ensures .0), c12 .pre .0),
       row-under _ _ _ _ _ _ (c8 .loop .inv .row) (c7 .loop-test .taken) (c6 .word-in .ensures .0),
     )

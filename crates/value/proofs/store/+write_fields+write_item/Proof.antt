@@ -310,8 +310,7 @@ write-fields-write-item-requires t c κs =
     let c11 = c5 .before .before .before .before .before .before in
     let c12 = c11 .before in
     let c13 = c12 .before in
-    let c19 = c13 .before .before .before .before .before .before in
-    (
+    let c19 = c13 .before .before .before .before .before .before in (
       omega (arith, row-below _ _ _ _ _ _ (c13 .loop .inv .row) (c12 .loop-test .taken) (c11 .word-in .ensures .0), c19 .pre .0),
       (
         row-under _ _ _ _ _ _ (c13 .loop .inv .row) (c12 .loop-test .taken) (c11 .word-in .ensures .0),
@@ -392,8 +391,7 @@ write-item-write-fields-requires : (t : ℕ) → write-item-lts.Need-write-field
 write-item-write-fields-requires t c κs =
     let c1 = c .before in
     let c4 = c1 .before .before .before in
-    let c9 = c4 .before .before .before .before .before in
-    (
+    let c9 = c4 .before .before .before .before .before in (
       omega (arith, c9 .pre .0),
       container-ready _ _ _ _ (c4 .look-in .ensures) (c9 .pre .1 .0) (c1 .if1 .taken) _ _ _ _ _ _ (c9 .pre .1 .1)
           (c9 .pre .1 .2),
