@@ -6,13 +6,13 @@ use mathlib.Core.Bool.{Bool, true, false}
 use Prim.Native.Nat.{ℕ, zero, suc, _+_, _-_, _*_, _≤_, _<_, _^_}
 use native.Mathlib.Nat.{eq-or-lt-of-le, add-zero}
 use native.Mathlib.Omega.{arith}
-use borrow.Author.Tests.{eq-eqb, ne-eqb, eqb-true, eqb-false}
+use borrow.Author.Tests.{eq-eqb, ne-eqb, eqb-true, eqb-false, ltb-true, ltb-false}
 use lib.ListN.{length, getD, set, replicate, length-append, length-replicate, List·getD-append}
 use lib.Seq.{getD-at, set-at}
-use lib.Dec.{eqb}
+use lib.Dec.{eqb, ltb}
 use Rattle.standard.specs.Choice.{pick}
 use Rattle.standard.specs.Bytes.{wordAt}
-use Rattle.standard.specs.Types.{Ty, Tys, Opts, boolean, container, union, end, field, over, bare, body, head, headAll, heads, joined, width, portion, LegalTy}
+use Rattle.standard.specs.Types.{Ty, Tys, Opts, boolean, container, union, list, vector, end, field, over, bare, body, head, headAll, heads, joined, width, portion, LegalTy}
 use Rattle.standard.specs.declared.Head.{Head}
 use Rattle.standard.specs.declared.Head.the-variants.{Fixed, Variable}
 use Rattle.standard.proofs.Laws.{fixed-some}
@@ -85,6 +85,22 @@ head-of-len Variable f = refl
 pub head-len : (t : Ty) → LegalTy t → headOf (lenOf (head t)) ≡ head t
 head-len t g = head-of-len (head t) (λ n e. fixed-some t n g e)
 
+-- What holds of leaves, of containers, of unions, of lists and of vectors holds of every kind.
+pub each-kind : (P : Type 0) (k : ℕ) → k ≤ 9 → (k < 6 → P) → (k ≡ 6 → P) → (k ≡ 7 → P) → (k ≡ 8 → P) → (k ≡ 9 → P) → P
+each-kind P k h leaf six seven eight nine = go (ltb k 6) (eqb k 6) (eqb k 7) (eqb k 8) refl refl refl refl
+  where
+    go : (a b c d : Bool) → ltb k 6 ≡ a → eqb k 6 ≡ b → eqb k 7 ≡ c → eqb k 8 ≡ d → P
+    go true b c d p q r s = leaf (ltb-true k 6 p)
+    go false true c d p q r s = six (eqb-true k 6 q)
+    go false false true d p q r s = seven (eqb-true k 7 r)
+    go false false false true p q r s = eight (eqb-true k 8 s)
+    go false false false false p q r s =
+        let x = ltb-false k 6 p in
+        let y = eqb-false k 6 q in
+        let z = eqb-false k 7 r in
+        let w = eqb-false k 8 s in
+        nine (omega arith)
+
 -- What the node says of the tree.
 module _ (l : List ℕ) (t : ℕ) (r : Node) (e : r ≡ nodeOf l t) where
   pub as-container : r .kind ≡ 6 → treeOf l t ≡ container t (fields l (trees l t) (r .at + 2) (r .second))
@@ -95,9 +111,31 @@ module _ (l : List ℕ) (t : ℕ) (r : Node) (e : r ≡ nodeOf l t) where
   unfolding treeOf fromNode
   as-union h = rw (← e, h)
 
-  pub as-leaf : (r .kind ≡ 6 → ⊥) → (r .kind ≡ 7 → ⊥) → treeOf l t ≡ leafOf t r
+  pub as-leaf : r .kind < 6 → treeOf l t ≡ leafOf t r
   unfolding treeOf fromNode
-  as-leaf c u = rw (← e, ne-eqb (r .kind) 6 c, ne-eqb (r .kind) 7 u)
+  as-leaf h =
+      rw (
+        ← e,
+        ne-eqb (r .kind) 6 (λ (q : r .kind ≡ 6). omega arith),
+        ne-eqb (r .kind) 7 (λ (q : r .kind ≡ 7). omega arith),
+        ne-eqb (r .kind) 8 (λ (q : r .kind ≡ 8). omega arith),
+        ne-eqb (r .kind) 9 (λ (q : r .kind ≡ 9). omega arith),
+      )
+
+  -- a list and a vector, over the lower types, and over the type of their elements
+  pub list-over : r .kind ≡ 8 → treeOf l t ≡ list t (getD (trees l t) (r .second) (boolean 0)) (wordAt l (r .at + 2))
+  unfolding treeOf fromNode
+  list-over h = rw (← e, h)
+
+  pub as-list : r .kind ≡ 8 → r .second < t → treeOf l t ≡ list t (treeOf l (r .second)) (wordAt l (r .at + 2))
+  as-list h k = list-over h ∙ ap (λ (x : Ty). list t x (wordAt l (r .at + 2))) (trees-get l t (r .second) (boolean 0) k)
+
+  pub vector-over : r .kind ≡ 9 → treeOf l t ≡ vector t (getD (trees l t) (r .second) (boolean 0)) (wordAt l (r .at + 2))
+  unfolding treeOf fromNode
+  vector-over h = rw (← e, h)
+
+  pub as-vector : r .kind ≡ 9 → r .second < t → treeOf l t ≡ vector t (treeOf l (r .second)) (wordAt l (r .at + 2))
+  as-vector h k = vector-over h ∙ ap (λ (x : Ty). vector t x (wordAt l (r .at + 2))) (trees-get l t (r .second) (boolean 0) k)
 
   pub legal-node : Legal l (t + 1) → LegalNode l t r
   unfolding Legal

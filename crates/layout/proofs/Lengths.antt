@@ -1,35 +1,43 @@
--- The loop of `fields_len`: what the fields so far take, and what is left of them, make the whole. Assumes nothing.
+-- Lengths as they are found: in the loop of `fields_len` what the fields so far take, and what is left of them, make the whole; a vector's is its
+-- count times its element's. Assumes nothing.
 use mathlib.Core.Path.{_≡_, refl, sym, ap, _∙_}
 use mathlib.Core.List.{List}
 use mathlib.Core.Bool.{Bool, true, false}
-use Prim.Native.Nat.{ℕ, zero, suc, _+_, _-_, _≤_, _<_, _^_}
+use Prim.Native.Nat.{ℕ, zero, suc, _+_, _-_, _*_, _≤_, _<_, _^_}
+use native.Mathlib.Nat.{mul-le-mul-left, mul-le-mul-right}
 use native.Mathlib.Numerals.{add-one}
 use native.Mathlib.Omega.{arith}
-use borrow.Author.Tests.{lt-ltb, le-ltb, ne-eqb}
-use lib.ListN.{set}
-use lib.Dec.{ltb}
-use Rattle.layout.specs.Table.{count, mayName, refs}
+use borrow.Author.Tests.{lt-ltb, le-ltb, lt-leb, le-leb, ne-eqb}
+use lib.ListN.{getD, set}
+use lib.Dec.{ltb, leb}
+use Rattle.layout.specs.Table.{count, mayName, refs, counted, vectorEnd}
 use Rattle.standard.specs.Choice.{pick}
 use Rattle.standard.specs.Bytes.{wordAt}
-use Rattle.standard.specs.Types.{Ty, Tys, end, field, head, headAll, heads, joined, width, portion, LegalTy}
+use Rattle.standard.specs.Types.{Ty, Tys, boolean, end, field, head, headAll, heads, joined, width, portion, LegalTy}
 use Rattle.standard.specs.declared.Head.{Head}
 use Rattle.standard.specs.declared.Head.the-variants.{Fixed, Variable}
 use Rattle.standard.proofs.Laws.{fixed-some}
 use Rattle.layout.specs.Tree.{nodeOf, fields, trees, treeOf, lenOf, headOf, filled}
 use Rattle.layout.specs.Legal.{LegalNode, Legal}
-use Rattle.layout.specs.Steps.{leafLen, sizesOf, Lengthened, Ended}
+use Rattle.layout.specs.Steps.{Known, leafLen, sizesOf, Lengthened, Ended}
 use Rattle.layout.specs.declared.Node.{Node}
 use Rattle.layout.specs.declared.Sizes.{Sizes}
 use Rattle.layout.specs.declared.Checked.{Checked}
 use Rattle.layout.specs.declared.Checked.the-variants.{Bad, Upto}
-use Rattle.layout.proofs.Facts.{fields-at, fields-none, filled-set, head-len, as-container}
+use Rattle.layout.proofs.Facts.{trees-get, fields-at, fields-none, filled-set, head-len, as-container, legal-node}
 use Rattle.layout.proofs.Tables.{Adding, adding-next, adding-end, bad-upto, may-lower, refs-missing, refs-wrong, refs-lower}
-use Rattle.layout.proofs.Trees.{legal-tree, len-small, leaf-length, all-portion}
+use Rattle.layout.proofs.Tables.{Counted, counted-says, element-lower, known-len, known-head, known-small}
+use Rattle.layout.proofs.Trees.{legal-tree, len-small, leaf-length, vector-len, all-portion}
 
 width-small : (m : ℕ) → m < 2 ^ 32 → width (headOf m) < 2 ^ 32
 unfolding width
 width-small zero h = omega arith
 width-small (suc m) h = rw (ne-eqb (suc m) 0 (λ (z : suc m ≡ 0). omega arith)) h
+
+len-width : (m : ℕ) → m ≤ width (headOf m)
+unfolding width
+len-width zero = omega arith
+len-width (suc m) = rw (ne-eqb (suc m) 0 (λ (z : suc m ≡ 0). omega arith)) (omega arith)
 
 joined-zero : (h : Head) → joined (Fixed 0) h ≡ h
 unfolding joined
@@ -168,7 +176,7 @@ sizes-len l t r s i e h q u = rw (as-container l t r e h) (sizes-length _ _ s i 
 
 -- Of a legal container the words are accepted.
 pub legal-refs : (l : List ℕ) (t : ℕ) (r : Node) → LegalNode l t r → r .kind ≡ 6 → refs l t false (r .at + 2) (r .second) ≡ Upto (r .at + 2 + r .second)
-legal-refs l t r g h = refs-lower l t (r .second) (r .at + 2) (g .lower h) (g .within (omega arith))
+legal-refs l t r g h = refs-lower l t (r .second) (r .at + 2) (g .lower h) (g .within (omega arith) (omega arith))
 
 -- A length that is found is remembered.
 pub lengthened : (l : List ℕ) (known t r : ℕ) (lens : List ℕ) → lens ≡ filled l known → t ≤ known → known ≤ t → t < 64 →
@@ -197,9 +205,75 @@ module _ (l : List ℕ) (t at : ℕ) (w : at ≡ wordAt l (1 + t)) where
       s .length ≡ lenOf (head (treeOf l t))
   container-len n s i k m q u = sizes-len l t (record { kind = wordAt l at; at = at; second = n }) s i (node-here _ n refl m) k q u
 
-  pub leaf-found : (k m v : ℕ) (lens : List ℕ) → k ≡ wordAt l at → m ≡ wordAt l (at + 1) → (k ≡ 6 → ⊥) →
+  pub leaf-found : (k m v : ℕ) (lens : List ℕ) → k ≡ wordAt l at → m ≡ wordAt l (at + 1) → k ≤ 8 → (k ≡ 6 → ⊥) →
       v ≡ leafLen (record { kind = k; at = at; second = m }) → lens ≡ filled l t → t < 64 → set lens t v ≡ filled l (t + 1)
-  leaf-found k m v lens p q z h f b = found-set l t v lens f b (h ∙ leaf-length l t _ (node-here k m p q) z)
+  leaf-found k m v lens p q i z h f b = found-set l t v lens f b (h ∙ leaf-length l t _ (node-here k m p q) i z)
+
+-- The vector t at the word at, whose element f is known: what n elements take of a fixed portion, and how long they are.
+module _ (lens l : List ℕ) (t at e n f : ℕ) (g : Known lens l t) (r : Upto e ≡ refs l t false (at + 1) 1) (k : Upto n ≡ counted l (at + 1) 4294967295)
+    (q : f ≡ wordAt l (at + 1)) where
+  pub element-below : f < t
+  element-below = rw q (element-lower l t (at + 1) e (sym r) .0)
+
+  pub element-small : getD lens f 0 < 2 ^ 32
+  element-small = known-small lens l t g f element-below
+
+  elements-count : Counted l (at + 1) 4294967295 n
+  elements-count = counted-says l (at + 1) 4294967295 n (sym k)
+
+  pub elements-len : at ≡ wordAt l (1 + t) → wordAt l at ≡ 9 → n * getD lens f 0 ≡ lenOf (head (treeOf l t))
+  elements-len b z =
+      let two : at + 1 + 1 ≡ at + 2 = omega arith in
+      let m = rw two at (elements-count .word) in
+      let len = vector-len l t (record { kind = 9; at = at; second = f }) (node-here l t at b 9 f (sym z) q) refl element-below in
+      rw (m, known-len lens l t g f element-below) (sym len)
+
+  module _ (w : ℕ) (v : w ≡ width (headOf (getD lens f 0))) where
+    element-width : w ≡ width (head (treeOf l f))
+    element-width = v ∙ ap width (known-head lens l t g f element-below)
+
+    pub elements-fit : n * w < 2 ^ 64
+    elements-fit =
+        let x = mul-le-mul-right w (elements-count .few) in
+        let y : w < 2 ^ 32 = rw v (width-small (getD lens f 0) element-small) in
+        omega arith
+
+    elements-less : n * getD lens f 0 ≤ n * w
+    elements-less = mul-le-mul-left n (rw v (len-width (getD lens f 0)))
+
+    pub elements-len-fits : n * getD lens f 0 < 2 ^ 64
+    elements-len-fits = omega (arith, elements-less, elements-fit)
+
+    pub elements-small : n * w ≤ 4294967295 → n * getD lens f 0 < 2 ^ 32
+    elements-small h = omega (arith, elements-less)
+
+    vector-tests : vectorEnd l t at ≡ pick (leb (n * w) 4294967295) (Upto (at + 3)) (Bad at)
+    unfolding vectorEnd
+    vector-tests = rw (← r, ← k, ← q, trees-get l t f (boolean 0) element-below, ← element-width)
+
+    pub vector-wide : 4294967295 < n * w → Bad at ≡ vectorEnd l t at
+    vector-wide h = rw (vector-tests, lt-leb _ _ h)
+
+    pub vector-ends : n * w ≤ 4294967295 → Upto (at + 3) ≡ vectorEnd l t at
+    vector-ends h = rw (vector-tests, le-leb _ _ h)
+
+-- A legal vector, whose element has the length k.
+module _ (l : List ℕ) (known t : ℕ) (r : Node) (e : r ≡ nodeOf l t) (g : Legal l (t + 1)) (h : r .kind ≡ 9) where
+  pub vector-lower : r .second < t
+  vector-lower = legal-node l t r e g .element (omega arith)
+
+  module _ (n k : ℕ) (q : n ≡ wordAt l (r .at + 2)) (m : k ≡ lenOf (head (treeOf l (r .second)))) where
+    vector-length : n * k ≡ lenOf (head (treeOf l t))
+    vector-length = rw (q, m) (sym (vector-len l t r e h vector-lower))
+
+    pub vector-small : n * k < 2 ^ 32
+    vector-small = rw vector-length (len-small l t (legal-node l t (nodeOf l t) refl g))
+
+    pub vector-found : (lens : List ℕ) → lens ≡ filled l (pick (ltb (r .second) known) known (known + 1)) → t ≤ known → known ≤ t → t < 64 →
+        Lengthened l known t (n * k) (set lens t (n * k))
+    vector-found lens f i j b =
+        let u : r .second < known = omega (arith, vector-lower) in
+        lengthened l known t (n * k) lens (rw (lt-ltb (r .second) known u) at f) i j b vector-length
 
 -- A body that does not end leaves nothing found.
 pub ended-bad : (l : List ℕ) (t w : ℕ) (x : Checked) (lens : List ℕ) → Bad w ≡ x → Ended l t x (Bad w) lens

@@ -10,17 +10,17 @@ use lib.ListN.{length, getD, replicate}
 use lib.Dec.{eqb, leb, ltb}
 use Rattle.standard.specs.Choice.{pick, andAlso, orElse}
 use Rattle.standard.specs.Bytes.{Bytes, wordAt}
-use Rattle.standard.specs.Types.{Ty, Tys, head, heads, width, portion, LegalTy}
+use Rattle.standard.specs.Types.{Ty, Tys, boolean, head, heads, width, portion, LegalTy}
 use Rattle.standard.specs.declared.Head.{Head}
 use Rattle.standard.proofs.Bytes.{word-bound}
 use Rattle.layout.specs.Tree.{nodeOf, fields, trees, treeOf, lenOf, headOf, lengths, filled}
-use Rattle.layout.specs.Table.{onward, count, mayName, refs, counted, many, containerEnd, leafWord, leafEnd, bodyEnd, typesEnd, typesOf, tableOf, lengthsOf}
+use Rattle.layout.specs.Table.{onward, count, mayName, refs, counted, many, containerEnd, listEnd, vectorEnd, leafWord, leafEnd, bodyEnd, typesEnd, typesOf, tableOf, lengthsOf}
 use Rattle.layout.specs.Legal.{Lower, LowerOrBare, LegalNode, Legal}
 use Rattle.layout.specs.Steps.{Known, Typed, Tabled}
 use Rattle.layout.specs.declared.Node.{Node}
 use Rattle.layout.specs.declared.Checked.{Checked}
 use Rattle.layout.specs.declared.Checked.the-variants.{Bad, Upto}
-use Rattle.layout.proofs.Facts.{fields-none, heads-at, lower-here, lower-rest, filled-get, length-filled, head-len, legal-below, legal-more}
+use Rattle.layout.proofs.Facts.{trees-get, each-kind, fields-none, heads-at, lower-here, lower-rest, filled-get, length-filled, head-len, legal-below, legal-more}
 use Rattle.layout.proofs.Trees.{legal-tree, len-small}
 
 -- A found length, as a head.
@@ -37,6 +37,13 @@ module _ (lens l : List ℕ) (k : ℕ) (g : Known lens l k) (f : ℕ) (h : f < k
 
 pub known-length : (lens l : List ℕ) (k : ℕ) → Known lens l k → length lens ≡ 64
 known-length lens l k g = ap length (g .found) ∙ length-filled l k (g .few)
+
+-- A leaf's kind is no list's and no vector's; a kind that is no vector's is at most a list's.
+pub leaf-kind : (k : ℕ) → k < 6 → (eqb k 8 ≡ false) × (eqb k 9 ≡ false)
+leaf-kind k h = (ne-eqb k 8 (λ (q : k ≡ 8). omega arith), ne-eqb k 9 (λ (q : k ≡ 9). omega arith))
+
+pub below-nine : (k : ℕ) → k ≤ 9 → (k ≡ 9 → ⊥) → k ≤ 8
+below-nine k h n = omega arith
 
 -- The loop of `refs_end`.
 pub refs-cons : (l : List ℕ) (t : ℕ) (none : Bool) (a left : ℕ) → 0 < left →
@@ -204,53 +211,122 @@ leaf-says l at e h =
     let q = upto-left (leafWord (wordAt l at) (wordAt l (at + 1))) (Upto (at + 2)) (at + 1) e (p .1) in
     (q .0, omega (arith, upto-inj (at + 2) e (q .1), ltb-true (at + 1) (count l) (p .0)))
 
+-- An accepted list or vector: its element's type is lower, and the number behind it is there and ends it.
+pub record Element (l : List ℕ) (t at e : ℕ) : Type 0 where
+  pub lower : wordAt l (at + 1) < t
+  pub third : at + 2 < count l
+  pub ends : e ≡ at + 3
+
+pub element-lower : (l : List ℕ) (t a e : ℕ) → refs l t false a 1 ≡ Upto e → (wordAt l a < t) × (e ≡ a + 1)
+unfolding refs
+element-lower l t a e h =
+    let p = upto-left (ltb a (count l)) _ (count l) e h in
+    let q = upto-left (mayName (wordAt l a) t false) (Upto (a + 1)) a e (p .1) in
+    (may-lower _ t false (q .0) refl, sym (upto-inj (a + 1) e (q .1)))
+
+list-says : (l : List ℕ) (t at e : ℕ) → listEnd l t at ≡ Upto e → Element l t at e
+unfolding listEnd
+list-says l t at e h =
+    let p = upto-onward (refs l t false (at + 1) 1) _ e h in
+    let x = element-lower l t (at + 1) (p .0) (p .1) in
+    let q = upto-left (ltb (p .0) (count l)) (Upto (p .0 + 1)) (count l) e (p .2) in
+    let i = ltb-true (p .0) (count l) (q .0) in
+    record { lower = x .0; third = omega (arith, x .1); ends = omega (arith, x .1, upto-inj (p .0 + 1) e (q .1)) }
+
+vector-says : (l : List ℕ) (t at e : ℕ) → vectorEnd l t at ≡ Upto e →
+    Element l t at e × (1 ≤ wordAt l (at + 2)) × (wordAt l (at + 2) * width (head (treeOf l (wordAt l (at + 1)))) < 2 ^ 32)
+unfolding vectorEnd
+vector-says l t at e h =
+    let p = upto-onward (refs l t false (at + 1) 1) _ e h in
+    let f = element-lower l t (at + 1) (p .0) (p .1) .0 in
+    let q = upto-onward (counted l (at + 1) 4294967295) _ e (p .2) in
+    let two : at + 1 + 1 ≡ at + 2 = omega arith in
+    let k = counted-says l (at + 1) 4294967295 (q .0) (q .1) in
+    let w = rw two at (k .word) in
+    let size = q .0 * width (head (getD (trees l t) (wordAt l (at + 1)) (boolean 0))) in
+    let r = upto-left (leb size 4294967295) (Upto (at + 3)) at e (q .2) in
+    let s : size ≤ 4294967295 = leb-true size 4294967295 (r .0) in (
+      record { lower = f; third = omega (arith, k .there); ends = sym (upto-inj (at + 3) e (r .1)) },
+      rw w at (k .some),
+      narrow (q .0) _ _ _ w (trees-get l t (wordAt l (at + 1)) (boolean 0) f) (omega arith),
+    )
+  where
+    narrow : (n m : ℕ) (x y : Ty) → n ≡ m → x ≡ y → n * width (head x) < 2 ^ 32 → m * width (head y) < 2 ^ 32
+    narrow n m x y e f h = rw (← e, ← f) h
+
 module _ (l : List ℕ) (t at e : ℕ) (h : bodyEnd l t at ≡ Upto e) where
   body-there : at < count l
   unfolding bodyEnd
   body-there = ltb-true _ _ (upto-left (ltb at (count l)) _ (count l) e h .0)
 
-  -- the answer of the kind
-  abbrev by-kind : Bool → Bool → Bool → Bool → Checked
-  by-kind c d f g = pick c (containerEnd l t at) (pick d (many l t at true 128) (pick f (Upto (at + 1)) (pick g (leafEnd l at) (Bad at))))
+  -- the answer of a leaf's kind, and of an unknown one
+  abbrev at-leaf : ℕ → Checked
+  at-leaf k = pick (eqb k 1) (Upto (at + 1)) (pick (ltb k 6) (leafEnd l at) (Bad at))
 
-  body-kind : (c d f g : Bool) → eqb (wordAt l at) 6 ≡ c → eqb (wordAt l at) 7 ≡ d → eqb (wordAt l at) 1 ≡ f → ltb (wordAt l at) 6 ≡ g →
-      by-kind c d f g ≡ Upto e
+  -- the answer of the kind
+  abbrev at-kind : ℕ → Checked
+  at-kind k =
+      pick (eqb k 6) (containerEnd l t at)
+      (pick (eqb k 7) (many l t at true 128) (pick (eqb k 8) (listEnd l t at) (pick (eqb k 9) (vectorEnd l t at) (at-leaf k))))
+
+  body-kind : (k : ℕ) → wordAt l at ≡ k → at-kind k ≡ Upto e
   unfolding bodyEnd
-  body-kind c d f g p q r s = rw (p, q, r, s) at (upto-left (ltb at (count l)) _ (count l) e h .1)
+  body-kind k q = rw q at (upto-left (ltb at (count l)) _ (count l) e h .1)
 
   six : wordAt l at ≡ 6 → containerEnd l t at ≡ Upto e
-  six k = body-kind true _ _ _ (eq-eqb _ _ k) refl refl refl
+  six k = body-kind 6 k
 
   seven : wordAt l at ≡ 7 → many l t at true 128 ≡ Upto e
-  seven k = body-kind false true _ _ (ne-eqb _ _ (λ (q : wordAt l at ≡ 6). omega arith)) (eq-eqb _ _ k) refl refl
+  seven k = body-kind 7 k
+
+  eight : wordAt l at ≡ 8 → listEnd l t at ≡ Upto e
+  eight k = body-kind 8 k
+
+  nine : wordAt l at ≡ 9 → vectorEnd l t at ≡ Upto e
+  nine k = body-kind 9 k
+
+  -- neither a container, a union, a list nor a vector
+  other : (6 ≤ wordAt l at → wordAt l at ≤ 9 → ⊥) → at-leaf (wordAt l at) ≡ Upto e
+  other k =
+      rw (
+        ne-eqb (wordAt l at) 6 (λ (q : wordAt l at ≡ 6). k (omega arith) (omega arith)),
+        ne-eqb (wordAt l at) 7 (λ (q : wordAt l at ≡ 7). k (omega arith) (omega arith)),
+        ne-eqb (wordAt l at) 8 (λ (q : wordAt l at ≡ 8). k (omega arith) (omega arith)),
+        ne-eqb (wordAt l at) 9 (λ (q : wordAt l at ≡ 9). k (omega arith) (omega arith)),
+      ) at (body-kind (wordAt l at) refl)
 
   leaf : wordAt l at < 6 → (wordAt l at ≡ 1 → ⊥) → leafEnd l at ≡ Upto e
-  leaf k n = body-kind false false false true (ne-eqb _ _
-      (λ (q : wordAt l at ≡ 6). omega arith)) (ne-eqb _ _ (λ (q : wordAt l at ≡ 7). omega arith)) (ne-eqb _ _ n) (lt-ltb _ _ k)
+  leaf k n = rw (ne-eqb _ _ n, lt-ltb _ _ k) at (other (λ (i : 6 ≤ wordAt l at) j. omega arith))
 
-  body-known : wordAt l at ≤ 7
-  body-known = go (eqb (wordAt l at) 6) (eqb (wordAt l at) 7) (eqb (wordAt l at) 1) (ltb (wordAt l at) 6) refl refl refl refl
+  body-known : wordAt l at ≤ 9
+  body-known = go (ltb 9 (wordAt l at)) refl
     where
-      go : (c d f g : Bool) → eqb (wordAt l at) 6 ≡ c → eqb (wordAt l at) 7 ≡ d → eqb (wordAt l at) 1 ≡ f → ltb (wordAt l at) 6 ≡ g → wordAt l at ≤ 7
-      go true d f g p q r s = omega (arith, eqb-true (wordAt l at) 6 p)
-      go false true f g p q r s = omega (arith, eqb-true (wordAt l at) 7 q)
-      go false false true g p q r s = omega (arith, eqb-true (wordAt l at) 1 r)
-      go false false false true p q r s = omega (arith, ltb-true (wordAt l at) 6 s)
-      go false false false false p q r s = bad-upto at e (body-kind false false false false p q r s)
+      go : (c : Bool) → ltb 9 (wordAt l at) ≡ c → wordAt l at ≤ 9
+      go true p =
+          let i = ltb-true 9 (wordAt l at) p in
+          let no = ne-eqb (wordAt l at) 1 (λ (q : wordAt l at ≡ 1). omega arith) in
+          bad-upto at e (rw (no, le-ltb (wordAt l at) 6 (omega arith)) at (other (λ x (j : wordAt l at ≤ 9). omega arith)))
+      go false p = ltb-false 9 (wordAt l at) p
+
+  body-leaf : wordAt l at < 6 → e ≤ count l
+  body-leaf k = go (eqb (wordAt l at) 1) refl
+    where
+      go : (c : Bool) → eqb (wordAt l at) 1 ≡ c → e ≤ count l
+      go true p = omega (arith, upto-inj (at + 1) e (body-kind 1 (eqb-true _ _ p)), body-there)
+      go false p = leaf-says l at e (leaf k (eqb-false _ _ p)) .1
 
   pub body-within : e ≤ count l
-  body-within = go (eqb (wordAt l at) 6) (eqb (wordAt l at) 7) (eqb (wordAt l at) 1) (ltb (wordAt l at) 6) refl refl refl refl
-    where
-      go : (c d f g : Bool) → eqb (wordAt l at) 6 ≡ c → eqb (wordAt l at) 7 ≡ d → eqb (wordAt l at) 1 ≡ f → ltb (wordAt l at) 6 ≡ g → e ≤ count l
-      go true d f g p q r s = container-says l t at e (body-kind true d f g p q r s) .0 .within
-      go false true f g p q r s = many-says l t at 128 true e (body-kind false true f g p q r s) .within
-      go false false true g p q r s = omega (arith, upto-inj (at + 1) e (body-kind false false true g p q r s), body-there)
-      go false false false true p q r s = leaf-says l at e (body-kind false false false true p q r s) .1
-      go false false false false p q r s = bad-upto at e (body-kind false false false false p q r s)
+  body-within =
+      each-kind (e ≤ count l) (wordAt l at) body-known
+      body-leaf
+      (λ k. container-says l t at e (six k) .0 .within)
+      (λ k. many-says l t at 128 true e (seven k) .within)
+      (λ k. let s = list-says l t at e (eight k) in omega (arith, s .third, s .ends))
+      (λ k. let s = vector-says l t at e (nine k) .0 in omega (arith, s .third, s .ends))
 
   -- A container or a union: a number of 1 on, and as many words.
-  some-within : 6 ≤ wordAt l at → (1 ≤ wordAt l (at + 1)) × (at + 2 + wordAt l (at + 1) ≤ count l)
-  some-within k = go (eqb (wordAt l at) 6) refl
+  some-within : 6 ≤ wordAt l at → wordAt l at ≤ 7 → (1 ≤ wordAt l (at + 1)) × (at + 2 + wordAt l (at + 1) ≤ count l)
+  some-within k m = go (eqb (wordAt l at) 6) refl
     where
       said : (most : ℕ) (none : Bool) → Many l t at most none e → (1 ≤ wordAt l (at + 1)) × (at + 2 + wordAt l (at + 1) ≤ count l)
       said most none m = (m .some, omega (arith, m .within, m .ends))
@@ -259,7 +335,17 @@ module _ (l : List ℕ) (t at e : ℕ) (h : bodyEnd l t at ≡ Upto e) where
       go true p = said 64 false (container-says l t at e (six (eqb-true _ _ p)) .0)
       go false p =
           let n : wordAt l at ≡ 6 → ⊥ = eqb-false _ _ p in
-          said 128 true (many-says l t at 128 true e (seven (omega (arith, body-known))))
+          said 128 true (many-says l t at 128 true e (seven (omega arith)))
+
+  -- A list or a vector: an element's type and a number.
+  body-element : 8 ≤ wordAt l at → Element l t at e
+  body-element k = go (eqb (wordAt l at) 8) refl
+    where
+      go : (c : Bool) → eqb (wordAt l at) 8 ≡ c → Element l t at e
+      go true p = list-says l t at e (eight (eqb-true _ _ p))
+      go false p =
+          let n : wordAt l at ≡ 8 → ⊥ = eqb-false _ _ p in
+          vector-says l t at e (nine (omega (arith, body-known))) .0
 
   pub body-legal : Bytes l → 1 + t < count l → wordAt l (1 + t) ≡ at → LegalNode l t (nodeOf l t)
   unfolding nodeOf
@@ -272,13 +358,17 @@ module _ (l : List ℕ) (t at e : ℕ) (h : bodyEnd l t at ≡ Upto e) where
         near = rw (← w) (word-bound l (1 + t) b);
         small = word-bound l (at + 1) b;
         leaf = λ k n. leaf-says l at e (leaf k n) .0;
-        some = λ k. some-within k .0;
+        some = λ k m. some-within k m .0;
         few = λ k. container-says l t at e (six k) .0 .few;
-        within = λ k. some-within k .1;
+        within = λ k m. some-within k m .1;
         lower = λ k. many-lower l t at 64 e (container-says l t at e (six k) .0);
         short = λ k. container-says l t at e (six k) .1;
         most = λ k. many-says l t at 128 true e (seven k) .few;
         optional = λ k. many-bare l t at 128 e (many-says l t at 128 true e (seven k));
+        element = λ k. body-element k .lower;
+        third = λ k. body-element k .third;
+        several = λ k. vector-says l t at e (nine k) .1;
+        narrow = λ k. vector-says l t at e (nine k) .2;
       })
 
 -- The loop of `types_end`: the types so far are legal and their lengths are found, and what is left gives the whole.

@@ -2,7 +2,7 @@
 use mathlib.Core.Path.{_≡_, refl, sym, ap, _∙_}
 use mathlib.Core.List.{List, [], _∷_}
 use mathlib.Core.Bool.{Bool, true, false}
-use Prim.Native.Nat.{ℕ, zero, suc, _+_, _-_, _/_, _≤_, _<_, _^_}
+use Prim.Native.Nat.{ℕ, zero, suc, _+_, _-_, _*_, _/_, _≤_, _<_, _^_}
 use native.Mathlib.Nat.{add-zero}
 use native.Mathlib.Omega.{arith}
 use borrow.Author.Tests.{eqb-true, eqb-false, ltb-true, ne-eqb}
@@ -10,7 +10,7 @@ use lib.ListN.{getD}
 use lib.Dec.{eqb, ltb}
 use Rattle.standard.specs.Choice.{pick, orElse}
 use Rattle.standard.specs.Bytes.{wordAt}
-use Rattle.standard.specs.Types.{Ty, Tys, Opts, number, boolean, fixedBytes, freeBytes, bitVector, bitList, container, union, end, field, over, bare, body, head, headAll, heads, joined, isWidth, width, portion, NoFields, NoOptions, Rising, LegalTy, LegalAll, LegalOptions}
+use Rattle.standard.specs.Types.{Ty, Tys, Opts, number, boolean, fixedBytes, freeBytes, bitVector, bitList, container, union, end, field, over, bare, body, head, headAll, heads, joined, times, isWidth, width, portion, NoFields, NoOptions, Rising, LegalTy, LegalAll, LegalOptions}
 use Rattle.standard.specs.declared.Head.{Head}
 use Rattle.standard.specs.declared.Head.the-variants.{Fixed, Variable}
 use Rattle.standard.proofs.Laws.{joined-fixed}
@@ -19,7 +19,7 @@ use Rattle.layout.specs.Table.{leafWord}
 use Rattle.layout.specs.Legal.{Lower, LowerOrBare, LegalNode, Legal}
 use Rattle.layout.specs.Steps.{leafLen}
 use Rattle.layout.specs.declared.Node.{Node}
-use Rattle.layout.proofs.Facts.{trees-get, as-container, as-union, as-leaf}
+use Rattle.layout.proofs.Facts.{trees-get, each-kind, as-container, as-union, as-leaf, as-list, as-vector, list-over}
 
 -- A leaf, by its kind.
 module _ (t : ℕ) (n : Node) where
@@ -112,20 +112,17 @@ module _ (l : List ℕ) (t : ℕ) (f : (u : ℕ) → u < t → LegalTy (treeOf l
 
   node-legal : LegalNode l t (nodeOf l t) → LegalTy (treeOf l t)
   unfolding LegalTy
-  node-legal g = go (eqb (nodeOf l t .kind) 6) (eqb (nodeOf l t .kind) 7) refl refl
-    where
-      go : (c d : Bool) → eqb (nodeOf l t .kind) 6 ≡ c → eqb (nodeOf l t .kind) 7 ≡ d → LegalTy (treeOf l t)
-      go true d p q =
-          let k = eqb-true _ _ p in
-          rw (as-container l t (nodeOf l t) refl k) (fields-some _ _ (g .some (omega arith)), fields-legal _ _ (g .lower k))
-      go false true p q =
-          let k = eqb-true _ _ q in
-          rw (as-union l t (nodeOf l t) refl k) (
-            options-some _ 0 _ (g .some (omega arith)),
-            options-rising _ 0 _ (omega (arith, g .most k)),
-            options-legal _ 0 _ (g .optional k),
-          )
-      go false false p q = rw (as-leaf l t (nodeOf l t) refl (eqb-false _ _ p) (eqb-false _ _ q)) (leaf-legal t (nodeOf l t) (g .leaf))
+  node-legal g =
+      each-kind (LegalTy (treeOf l t)) (nodeOf l t .kind) (g .known)
+      (λ k. rw (as-leaf l t (nodeOf l t) refl k) (leaf-legal t (nodeOf l t) (g .leaf)))
+      (λ k. rw (as-container l t (nodeOf l t) refl k) (fields-some _ _ (g .some (omega arith) (omega arith)), fields-legal _ _ (g .lower k)))
+      (λ k. rw (as-union l t (nodeOf l t) refl k) (
+        options-some _ 0 _ (g .some (omega arith) (omega arith)),
+        options-rising _ 0 _ (omega (arith, g .most k)),
+        options-legal _ 0 _ (g .optional k),
+      ))
+      (λ k. let i = g .element (omega arith) in rw (as-list l t (nodeOf l t) refl k i) (f _ i))
+      (λ k. let i = g .element (omega arith) in rw (as-vector l t (nodeOf l t) refl k i) (g .several k, f _ i))
 
 -- The types of a legal table are legal.
 pub legal-tree : (l : List ℕ) (n t : ℕ) → Legal l n → t < n → LegalTy (treeOf l t)
@@ -146,18 +143,35 @@ unfolding head heads portion
 all-portion end = omega arith
 all-portion (field t ts) = joined-len (head t) (headAll ts) (portion (heads ts)) (all-portion ts)
 
+-- The length of a vector is its count times that of an element, 0 if that is of variable size; and no more than its fixed portion.
+times-len : (n : ℕ) (h : Head) → lenOf (times n h) ≡ n * lenOf h
+unfolding times
+times-len n (Fixed k) = refl
+times-len n Variable = omega arith
+
+times-portion : (n : ℕ) (h : Head) → lenOf (times n h) ≤ n * width h
+unfolding times width
+times-portion n (Fixed k) = omega arith
+times-portion n Variable = omega arith
+
+pub vector-len : (l : List ℕ) (t : ℕ) (r : Node) → r ≡ nodeOf l t → r .kind ≡ 9 → r .second < t →
+    lenOf (head (treeOf l t)) ≡ wordAt l (r .at + 2) * lenOf (head (treeOf l (r .second)))
+unfolding head
+vector-len l t r e h i = rw (as-vector l t r e h i) (times-len (wordAt l (r .at + 2)) (head (treeOf l (r .second))))
+
 pub len-small : (l : List ℕ) (t : ℕ) → LegalNode l t (nodeOf l t) → lenOf (head (treeOf l t)) < 2 ^ 32
 unfolding head
-len-small l t g = go (eqb (nodeOf l t .kind) 6) (eqb (nodeOf l t .kind) 7) refl refl
-  where
-    go : (c d : Bool) → eqb (nodeOf l t .kind) 6 ≡ c → eqb (nodeOf l t .kind) 7 ≡ d → lenOf (head (treeOf l t)) < 2 ^ 32
-    go true d p q =
-        let k = eqb-true _ _ p in
-        rw (as-container l t (nodeOf l t) refl k) (omega (arith, g .short k, all-portion (fields l (trees l t) (nodeOf l t .at + 2) (nodeOf l t .second))))
-    go false true p q = rw (as-union l t (nodeOf l t) refl (eqb-true _ _ q)) (omega arith)
-    go false false p q = rw (as-leaf l t (nodeOf l t) refl (eqb-false _ _ p) (eqb-false _ _ q)) (leaf-small t (nodeOf l t) (g .small))
+len-small l t g =
+    let n = nodeOf l t in
+    each-kind (lenOf (head (treeOf l t)) < 2 ^ 32) (n .kind) (g .known)
+    (λ k. rw (as-leaf l t n refl k) (leaf-small t n (g .small)))
+    (λ k. rw (as-container l t n refl k) (omega (arith, g .short k, all-portion (fields l (trees l t) (n .at + 2) (n .second)))))
+    (λ k. rw (as-union l t n refl k) (omega arith))
+    (λ k. rw (as-list l t n refl k (g .element (omega arith))) (omega arith))
+    (λ k. rw (as-vector l t n refl k (g .element (omega arith)))
+    (omega (arith, g .narrow k, times-portion (wordAt l (n .at + 2)) (head (treeOf l (n .second))))))
 
--- The length of a type that is no container; its number is no matter.
+-- The length of a type that is no container and no vector; its number is no matter.
 leaf-number : (t : ℕ) (n : Node) → leafLen n ≡ lenOf (head (leafOf t n))
 unfolding leafOf head
 leaf-number t n = go (eqb (n .kind) 0) (eqb (n .kind) 1) (eqb (n .kind) 2) (eqb (n .kind) 3) (eqb (n .kind) 4)
@@ -174,14 +188,23 @@ leaf-number t n = go (eqb (n .kind) 0) (eqb (n .kind) 1) (eqb (n .kind) 2) (eqb 
     go false false false false true = refl
     go false false false false false = refl
 
-leaf-union : (n : Node) → n .kind ≡ 7 → leafLen n ≡ 0
+leaf-variable : (n : Node) → 6 ≤ n .kind → leafLen n ≡ 0
 unfolding leafOf head
-leaf-union n h = rw h
+leaf-variable n h =
+    rw (
+      ne-eqb (n .kind) 0 (λ (q : n .kind ≡ 0). omega arith),
+      ne-eqb (n .kind) 1 (λ (q : n .kind ≡ 1). omega arith),
+      ne-eqb (n .kind) 2 (λ (q : n .kind ≡ 2). omega arith),
+      ne-eqb (n .kind) 3 (λ (q : n .kind ≡ 3). omega arith),
+      ne-eqb (n .kind) 4 (λ (q : n .kind ≡ 4). omega arith),
+    )
 
-pub leaf-length : (l : List ℕ) (t : ℕ) (r : Node) → r ≡ nodeOf l t → (r .kind ≡ 6 → ⊥) → leafLen r ≡ lenOf (head (treeOf l t))
+pub leaf-length : (l : List ℕ) (t : ℕ) (r : Node) → r ≡ nodeOf l t → r .kind ≤ 8 → (r .kind ≡ 6 → ⊥) → leafLen r ≡ lenOf (head (treeOf l t))
 unfolding head
-leaf-length l t r e c = go (eqb (r .kind) 7) refl
-  where
-    go : (d : Bool) → eqb (r .kind) 7 ≡ d → leafLen r ≡ lenOf (head (treeOf l t))
-    go true q = rw (as-union l t r e (eqb-true _ _ q)) (leaf-union r (eqb-true _ _ q))
-    go false q = rw (as-leaf l t r e c (eqb-false _ _ q)) (leaf-number t r)
+leaf-length l t r e h c =
+    each-kind (leafLen r ≡ lenOf (head (treeOf l t))) (r .kind) (omega arith)
+    (λ k. rw (as-leaf l t r e k) (leaf-number t r))
+    (λ k. absurd (c k))
+    (λ k. rw (as-union l t r e k) (leaf-variable r (omega arith)))
+    (λ k. rw (list-over l t r e k) (leaf-variable r (omega arith)))
+    (λ (k : r .kind ≡ 9). absurd (omega arith))

@@ -30,7 +30,7 @@ pub record Begun (lens l : List ℕ) (t : ℕ) (n : Node) : Type 0 where
   pub second : n .second ≡ wordAt l (n .at + 1)
   pub small : n .second < 2 ^ 32
 
--- The fixed length of a type that holds no fields
+-- The fixed length of a type that is no container and no vector
 abbrev pub leafLen : Node → ℕ
 leafLen n = lenOf (head (leafOf 0 n))
 

@@ -1,12 +1,12 @@
 -- The check of a layout table: document 01, "Order of the check". Assumes nothing: these are definitions.
-use Prim.Native.Nat.{ℕ, zero, suc, _+_, _/_, _%_}
+use Prim.Native.Nat.{ℕ, zero, suc, _+_, _*_, _/_, _%_}
 use mathlib.Core.List.{List}
 use mathlib.Core.Bool.{Bool, true, false}
-use lib.ListN.{length, replicate}
+use lib.ListN.{length, getD, replicate}
 use lib.Dec.{eqb, ltb, leb}
 use Rattle.standard.specs.Choice.{pick, andAlso, orElse}
 use Rattle.standard.specs.Bytes.{wordAt}
-use Rattle.standard.specs.Types.{isWidth, portion, heads}
+use Rattle.standard.specs.Types.{boolean, isWidth, head, width, portion, heads}
 use Rattle.standard.specs.declared.Told.{Told}
 use Rattle.standard.specs.declared.Refusal.the-variants.{BadLayout}
 use Rattle.layout.specs.Tree.{fields, trees, filled}
@@ -50,6 +50,17 @@ containerEnd l t at =
     onward (many l t at false 64)
     (λ e. pick (leb (portion (heads (fields l (trees l t) (at + 2) (wordAt l (at + 1))))) 4294967295) (Upto e) (Bad at))
 
+-- Where a list ends: its element's type, and any greatest count
+unfoldable pub listEnd : List ℕ → ℕ → ℕ → Checked
+listEnd l t at = onward (refs l t false (at + 1) 1) (λ e. pick (ltb e (count l)) (Upto (e + 1)) (Bad (count l)))
+
+-- Where a vector ends: its element's type, and a count of at least 1. "Both vectors have the limit of a container's fixed portion"
+unfoldable pub vectorEnd : List ℕ → ℕ → ℕ → Checked
+vectorEnd l t at =
+    onward (refs l t false (at + 1) 1) (λ e.
+    onward (counted l (at + 1) 4294967295) (λ n.
+    pick (leb (n * width (head (getD (trees l t) (wordAt l (at + 1)) (boolean 0)))) 4294967295) (Upto (at + 3)) (Bad at)))
+
 -- What a leaf's word must be: a width; at least 1 for fixed bytes and bit vectors; any limit
 abbrev pub leafWord : ℕ → ℕ → Bool
 leafWord k w = pick (eqb k 0) (isWidth w) (pick (orElse (eqb k 2) (eqb k 4)) (ltb 0 w) true)
@@ -67,9 +78,11 @@ bodyEnd l t at =
     pick (ltb at (count l))
     (pick (eqb (wordAt l at) 6) (containerEnd l t at)
     (pick (eqb (wordAt l at) 7) (many l t at true 128)
+    (pick (eqb (wordAt l at) 8) (listEnd l t at)
+    (pick (eqb (wordAt l at) 9) (vectorEnd l t at)
     (pick (eqb (wordAt l at) 1) (Upto (at + 1))
     (pick (ltb (wordAt l at) 6) (leafEnd l at)
-    (Bad at)))))
+    (Bad at)))))))
     (Bad (count l))
 
 -- Where the k types from t on end, the first of which starts at the word at: "for each type its start word, kind, further words"

@@ -5,7 +5,7 @@ use lib.ListN.{getD, replicate}
 use lib.Dec.{eqb}
 use Rattle.standard.specs.Choice.{pick}
 use Rattle.standard.specs.Bytes.{wordAt}
-use Rattle.standard.specs.Types.{Ty, Tys, Opts, number, boolean, fixedBytes, freeBytes, bitVector, bitList, container, union, end, field, over, bare, body, head}
+use Rattle.standard.specs.Types.{Ty, Tys, Opts, number, boolean, fixedBytes, freeBytes, bitVector, bitList, container, union, list, vector, end, field, over, bare, body, head}
 use Rattle.standard.specs.declared.Head.{Head}
 use Rattle.standard.specs.declared.Head.the-variants.{Fixed, Variable}
 use Rattle.layout.specs.declared.Node.{Node}
@@ -37,12 +37,15 @@ leafOf t n =
     (pick (eqb (n .kind) 4) (bitVector t (n .second))
     (bitList t (n .second))))))
 
--- The type t of which the table says n, over the lower types: kind 6 is a container, kind 7 a union
+-- The type t of which the table says n, over the lower types: kind 6 is a container, kind 7 a union; "kind 8, list (element type, greatest count), and
+-- kind 9, vector (element type, count of at least 1)"
 unfoldable pub fromNode : List ℕ → List Ty → ℕ → Node → Ty
 fromNode l lower t n =
     pick (eqb (n .kind) 6) (container t (fields l lower (n .at + 2) (n .second)))
     (pick (eqb (n .kind) 7) (union t (options l lower (n .at + 2) 0 (n .second)))
-    (leafOf t n))
+    (pick (eqb (n .kind) 8) (list t (getD lower (n .second) (boolean 0)) (wordAt l (n .at + 2)))
+    (pick (eqb (n .kind) 9) (vector t (getD lower (n .second) (boolean 0)) (wordAt l (n .at + 2)))
+    (leafOf t n))))
 
 -- The first n types
 unfoldable pub trees : List ℕ → ℕ → List Ty

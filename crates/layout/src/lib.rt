@@ -10,7 +10,7 @@ ghost use Rattle.standard.specs.Bytes.{wordAt};
 ghost use Rattle.standard.specs.Types.{isWidth, width};
 ghost use mathlib.Core.Bool.{true, false};
 ghost use Rattle.layout.specs.Tree.{nodeOf, fields, trees, headOf};
-ghost use Rattle.layout.specs.Table.{count, mayName, refs, counted, many, containerEnd, leafWord, leafEnd, bodyEnd, typesEnd, typesOf, tableOf, lengthsOf, toldOf};
+ghost use Rattle.layout.specs.Table.{count, mayName, refs, counted, many, containerEnd, listEnd, vectorEnd, leafWord, leafEnd, bodyEnd, typesEnd, typesOf, tableOf, lengthsOf, toldOf};
 ghost use Rattle.layout.specs.declared.Checked.the-variants.{Bad};
 ghost use Rattle.layout.specs.Legal.{Legal};
 ghost use Rattle.layout.specs.Steps.{Known, Begun, leafLen, sizesOf, Lengthened, Ended, Typed, Tabled};
@@ -173,7 +173,7 @@ fn leaf_ok(kind: usize, w: usize) -> bool
     true
 }
 
-// The fixed length of a type that holds no fields.
+// The fixed length of a type that is no container and no vector.
 fn leaf_len(n: Node) -> usize
     requires { ⌜ n .second < 2 ^ 32 ⌝ }
     ensures { λ r. ⌜ r ≡ leafLen n ⌝ }
@@ -193,7 +193,7 @@ fn leaf_len(n: Node) -> usize
     0
 }
 
-// Remembers the fixed length of the type t, which holds no fields.
+// Remembers the fixed length of the type t, which is no container and no vector.
 fn keep(lens: &mut [u32; 64], t: usize, n: Node)
     requires { ⌜ (t < 64) × (n .second < 2 ^ 32) ⌝ }
     ensures { λ _. ⌜ now (lens .exit) ≡ set (now (lens .entry)) t (leafLen n) ⌝ }
@@ -219,7 +219,7 @@ fn leaf_end(lens: &mut [u32; 64], layout: &[u8], t: usize, n: Node) -> Checked
     Checked::Upto(next + 1)
 }
 
-// The fixed length of the type t: remembered below `known`, or worked out from the lower types of its fields and remembered.
+// The fixed length of the type t: remembered below `known`, or worked out from the lower types that it names and remembered.
 fn fixed_len(lens: &mut [u32; 64], known: usize, layout: &[u8], t: usize) -> usize
     requires { ⌜ Known (now lens) (now layout) known × Legal (now layout) (t + 1) × (t ≤ known) × (t < 64) ⌝ }
     ensures { λ r. ⌜ Lengthened (now (layout .entry)) known t r (now (lens .exit)) ⌝ }
@@ -228,6 +228,12 @@ fn fixed_len(lens: &mut [u32; 64], known: usize, layout: &[u8], t: usize) -> usi
         return lens[t] as usize;
     }
     let n = look(layout, t);
+    if n.kind == 9 {
+        let count = word_at(layout, n.at + 2);
+        let len = count * fixed_len(lens, known, layout, n.second);
+        lens[t] = len as u32;
+        return len;
+    }
     if n.kind != 6 {
         let len = leaf_len(n);
         lens[t] = len as u32;
@@ -319,6 +325,52 @@ fn container_end(lens: &mut [u32; 64], layout: &[u8], t: usize, at: usize) -> Ch
     }
 }
 
+// The list t at the word at: its element's type, and any greatest count.
+fn list_end(layout: &[u8], t: usize, at: usize) -> Checked
+    requires { ⌜ at ≤ 2 ^ 61 ⌝ }
+    ensures { λ r. ⌜ r ≡ listEnd (now (layout .entry)) t at ⌝ }
+{
+    let words = layout.len() / 4;
+    let named = refs_end(layout, t, false, at + 1, 1);
+    match named {
+        Checked::Bad(w) => Checked::Bad(w),
+        Checked::Upto(e) => {
+            if e < words {
+                Checked::Upto(e + 1)
+            } else {
+                Checked::Bad(words)
+            }
+        }
+    }
+}
+
+// The vector t at the word at: its element's type, a count of at least 1, and a fixed portion that fits an offset; its length goes to `lens`.
+// An element of variable size has the length 0 there, and so has the vector.
+fn vector_end(lens: &mut [u32; 64], layout: &[u8], t: usize, at: usize) -> Checked
+    requires { ⌜ Known (now lens) (now layout) t × (t < 64) × (at < 2 ^ 32) × (at ≡ wordAt (now layout) (1 + t)) × (wordAt (now layout) at ≡ 9) ⌝ }
+    ensures { λ r. ⌜ Ended (now (layout .entry)) t (vectorEnd (now (layout .entry)) t at) r (now (lens .exit)) ⌝ }
+{
+    let named = refs_end(layout, t, false, at + 1, 1);
+    match named {
+        Checked::Bad(w) => Checked::Bad(w),
+        Checked::Upto(_) => {
+            let elements = count_at(layout, at + 1, 4294967295);
+            match elements {
+                Checked::Bad(w) => Checked::Bad(w),
+                Checked::Upto(n) => {
+                    let f = word_at(layout, at + 1);
+                    let len = lens[f] as usize;
+                    if n * width_of(len) > 4294967295 {
+                        return Checked::Bad(at);
+                    }
+                    lens[t] = (n * len) as u32;
+                    Checked::Upto(at + 3)
+                }
+            }
+        }
+    }
+}
+
 // Where the body of type t ends, which starts at the word at; its length goes to `lens`.
 fn body_end(lens: &mut [u32; 64], layout: &[u8], t: usize, at: usize) -> Checked
     requires { ⌜ Known (now lens) (now layout) t × (t < 64) × (at < 2 ^ 32) × (at ≡ wordAt (now layout) (1 + t)) ⌝ }
@@ -344,6 +396,14 @@ fn body_end(lens: &mut [u32; 64], layout: &[u8], t: usize, at: usize) -> Checked
     }
     if kind < 6 {
         return leaf_end(lens, layout, t, n);
+    }
+    // behind the leaves, which a table has most of
+    if kind == 8 {
+        keep(lens, t, n);
+        return list_end(layout, t, at);
+    }
+    if kind == 9 {
+        return vector_end(lens, layout, t, at);
     }
     Checked::Bad(at)
 }

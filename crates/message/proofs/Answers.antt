@@ -8,8 +8,11 @@ use Rattle.standard.specs.Choice.{pick}
 use Rattle.standard.specs.declared.Told.{Told}
 use Rattle.standard.specs.declared.Refusal.{Refusal}
 use Rattle.bitfield.specs.declared.BodyBits.{BodyBits}
-use Rattle.message.specs.Read.{rawBytes, one, plus, andThen, built, ofVector, ofList}
+use Rattle.message.specs.Read.{rawBytes, one, plus, andThen, built, ofVector, ofList, ofElements}
+use Rattle.message.specs.Steps.{IsAccepted}
 use Rattle.message.specs.declared.Counts.{Counts}
+use Rattle.message.specs.declared.elements.Elements.{Elements}
+use Rattle.message.specs.declared.elements.Elements.the-variants.{Many}
 use Rattle.message.specs.declared.Answer.{Answer}
 use Rattle.message.specs.declared.Answer.the-variants.{Accepted, Refused}
 
@@ -87,6 +90,25 @@ vector-accepted Told.Fine t s n c e = (refl, sym (accepted-same (single 0 n) c e
 pub list-accepted : (d : BodyBits) (t s : ℕ) (c : Counts) → ofList d t s ≡ Accepted c → (k : ℕ) × (d ≡ BodyBits.Bits k) × (c ≡ single 1 (rawBytes k))
 list-accepted (BodyBits.Refused r) t s c e = not-accepted r t s c e
 list-accepted (BodyBits.Bits k) t s c e = (k, refl, sym (accepted-same (single 1 (rawBytes k)) c e))
+
+pub many-accepted :
+    (d : Elements) (t s : ℕ) (x : ℕ → Answer) (c : Counts) → ofElements d t s x ≡ Accepted c → (n : ℕ) × (d ≡ Many n) × (x n ≡ Accepted c)
+many-accepted (Elements.Refused r) t s x c e = not-accepted r t s c e
+many-accepted (Many n) t s x c e = (n, refl, e)
+
+-- An acceptance without its counts.
+pub then-both : (x y : Answer) → IsAccepted (andThen x y) → IsAccepted x × IsAccepted y
+then-both (Accepted c) (Accepted d) h = (tt, tt)
+then-both (Accepted c) (Refused r t s) h = absurd h
+then-both (Refused r t s) y h = absurd h
+
+pub built-both : (d : Told) (t s : ℕ) (x : Answer) → IsAccepted (built d t s x) → (d ≡ Told.Fine) × IsAccepted x
+built-both Told.Fine t s x h = (refl, h)
+built-both (Told.Refused r) t s x h = absurd h
+
+pub many-both : (d : Elements) (t s : ℕ) (x : ℕ → Answer) → IsAccepted (ofElements d t s x) → (n : ℕ) × (d ≡ Many n) × IsAccepted (x n)
+many-both (Many n) t s x h = (n, refl, h)
+many-both (Elements.Refused r) t s x h = absurd h
 
 -- Laws of adding up.
 pub plus-none : (c : Counts) → plus none c ≡ c

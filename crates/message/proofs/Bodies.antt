@@ -3,7 +3,7 @@ use mathlib.Core.Path.{_≡_, refl, sym, ap, _∙_}
 use mathlib.Core.List.{List, [], _∷_}
 use mathlib.Core.Bool.{Bool, true, false}
 use mathlib.Core.Logic.{_⊎_, inl, inr, ⊎-elim}
-use Prim.Native.Nat.{ℕ, zero, suc, _+_, _-_, _*_, _≤_, _<_, _^_}
+use Prim.Native.Nat.{ℕ, zero, suc, _+_, _-_, _≤_, _<_, _^_}
 use native.Mathlib.Nat.{add-zero}
 use native.Mathlib.Omega.{arith}
 use borrow.Author.Tests.{eqb-true, eqb-false, ltb-true, ltb-false, lt-ltb, le-ltb, eq-eqb, ne-eqb, leb-true, le-leb, lt-leb}
@@ -12,7 +12,7 @@ use lib.Seq.{take-all}
 use lib.Dec.{eqb, leb, ltb}
 use Rattle.standard.specs.Choice.{pick}
 use Rattle.standard.specs.Bytes.{wordAt}
-use Rattle.standard.specs.Types.{Ty, Tys, Opts, number, boolean, fixedBytes, freeBytes, container, union, end, field, over, bare, body, head, heads}
+use Rattle.standard.specs.Types.{Ty, Tys, Opts, number, boolean, fixedBytes, freeBytes, union, end, field, over, bare, body, head, heads}
 use Rattle.standard.specs.Parts.{spanOf, part, InRange}
 use Rattle.standard.specs.declared.Head.{Head}
 use Rattle.standard.specs.declared.Head.the-variants.{Fixed}
@@ -24,10 +24,10 @@ use Rattle.decode.specs.Builder.{layOut}
 use Rattle.decode.specs.Unions.{selectorOf, splitUnion}
 use Rattle.decode.specs.declared.union_selector.UnionSelector.{UnionSelector}
 use Rattle.decode.specs.declared.union_selector.SelectorResult.{SelectorResult}
-use Rattle.layout.specs.Tree.{nodeOf, leafOf, fields, options, trees, treeOf, lenOf}
+use Rattle.layout.specs.Tree.{nodeOf, leafOf, options, trees, treeOf, lenOf}
 use Rattle.layout.specs.Legal.{LowerOrBare, LegalNode, Legal}
 use Rattle.layout.specs.declared.Node.{Node}
-use Rattle.layout.proofs.Facts.{trees-get, as-container, as-union, as-leaf, legal-node, fields-first, fields-none}
+use Rattle.layout.proofs.Facts.{trees-get, as-union, as-leaf, legal-node}
 use Rattle.message.specs.Read.{one, plus, andThen, built, readExact, readItem, readFields, readOption}
 use Rattle.message.specs.Steps.{Under, Row, rowOf, headsOf, optionAt, choiceOf, choose, isPlain, Small}
 use Rattle.message.specs.declared.Counts.{Counts}
@@ -36,25 +36,28 @@ use Rattle.message.specs.declared.Answer.the-variants.{Accepted, Refused
 use Rattle.message.specs.declared.items.Choice.{Choice}
 use Rattle.message.proofs.Answers.{then-assoc}
 use Rattle.message.proofs.Bounds.{counts-small}
-use Rattle.message.proofs.Rows.{Lies, under-below, row-below, row-under, row-next, first-fits, span-ok, span-lies}
+use Rattle.message.proofs.Sums.{Summed, spread, spread-small, summed-own, summed-small, summed-item}
+use Rattle.message.proofs.Rows.{Lies, under-below, row-none, row-first, row-below, row-under, row-next, row-heads, container-tree, container-named, first-ranges, first-fits, span-ok, span-lies}
 
 plus-zero : (a : Counts) → plus a (record { records = 0; words = 0; bytes = 0 }) ≡ a
 plus-zero a = simp add-zero
 
 -- The loop of `field_check`: what is counted, and what is left to read, give the whole.
-pub record Reading (lens l : List ℕ) (t a₀ n : ℕ) (b : List ℕ) (s : ℕ) (sum : Counts) (a left p : ℕ) : Type 0 where
-  pub row : Row lens l t a left
-  pub some : left ≤ n
-  pub ranges : InRange (headsOf l t a left) b p 0
-  pub records : sum .records + 2 ^ 40 * left ≤ 2 ^ 40 * n + 1
-  pub words : sum .words + 2 ^ 40 * left ≤ 2 ^ 40 * n + 1
-  pub bytes : sum .bytes + 2 ^ 40 * left ≤ 2 ^ 40 * n + 1
-  pub same : andThen (Accepted sum) (readFields (rowOf l t a left) b p s) ≡ andThen (one 0 0) (readFields (rowOf l t a₀ n) b 0 s)
+pub record Reading (lens l : List ℕ) (t a₀ step n : ℕ) (b : List ℕ) (s : ℕ) (sum : Counts) (a left p : ℕ) : Type 0 where
+  pub row : Row lens l t a step left
+  pub ranges : InRange (headsOf l t a step left) b p 0
+  pub summed : Summed sum (spread (headsOf l t a step left) b p) (spread (headsOf l t a₀ step n) b 0)
+  pub short : spread (headsOf l t a₀ step n) b 0 < 2 ^ 33
+  pub same : andThen (Accepted sum) (readFields (rowOf l t a step left) b p s) ≡ andThen (one 0 0) (readFields (rowOf l t a₀ step n) b 0 s)
 
-pub reading-small : (lens l : List ℕ) (t a₀ n : ℕ) (b : List ℕ) (s : ℕ) (sum : Counts) (a left p : ℕ) → n ≤ 64 →
-    Reading lens l t a₀ n b s sum a left p → Small sum (2 ^ 50)
-reading-small lens l t a₀ n b s sum a left p h g =
-    record { records = omega (arith, g .records); words = omega (arith, g .words); bytes = omega (arith, g .bytes) }
+pub reading-new : (lens l : List ℕ) (t a₀ step n : ℕ) (b : List ℕ) (s : ℕ) → Row lens l t a₀ step n → s + length b < 2 ^ 32 →
+    InRange (headsOf l t a₀ step n) b 0 0 → Reading lens l t a₀ step n b s (record { records = 1; words = 0; bytes = 0 }) a₀ n 0
+reading-new lens l t a₀ step n b s g h r =
+    record { row = g; ranges = r; summed = summed-own _; short = spread-small _ b r (omega arith); same = refl }
+
+pub reading-small : (lens l : List ℕ) (t a₀ step n : ℕ) (b : List ℕ) (s : ℕ) (sum : Counts) (a left p : ℕ) →
+    Reading lens l t a₀ step n b s sum a left p → Small sum (2 ^ 50)
+reading-small lens l t a₀ step n b s sum a left p g = summed-small sum _ _ (g .summed) (g .short)
 
 -- What an item counts.
 pub item-small : (lens l : List ℕ) (f : ℕ) (b : List ℕ) (s : ℕ) (c : Counts) → Under lens l (f + 1) → length b < 2 ^ 32 →
@@ -75,23 +78,23 @@ plain-kind k h = go (eqb k 0) refl h
     go true e h = inl (eqb-true _ _ e)
     go false e h = inr (eqb-true _ _ h)
 
-exact-read : (m t : ℕ) (b : List ℕ) (s k : ℕ) → length b ≡ k → k ≡ m → one 0 k ≡ readExact m t b s
+pub exact-read : (m t : ℕ) (b : List ℕ) (s k : ℕ) → length b ≡ k → k ≡ m → one 0 k ≡ readExact m t b s
 exact-read m t b s k h e = rw (h, eq-eqb k m e)
 
 module _ (l : List ℕ) (f : ℕ) (n : Node) (e : n ≡ nodeOf l f) where
   as-number : n .kind ≡ 0 → treeOf l f ≡ number f (n .second)
   unfolding leafOf
-  as-number h = as-leaf l f n e (λ (q : n .kind ≡ 6). omega arith) (λ (q : n .kind ≡ 7). omega arith) ∙ rw h
+  as-number h = as-leaf l f n e (omega arith) ∙ rw h
 
   as-fixed-bytes : n .kind ≡ 2 → treeOf l f ≡ fixedBytes f (n .second)
   unfolding leafOf
-  as-fixed-bytes h = as-leaf l f n e (λ (q : n .kind ≡ 6). omega arith) (λ (q : n .kind ≡ 7). omega arith) ∙ rw h
+  as-fixed-bytes h = as-leaf l f n e (omega arith) ∙ rw h
 
   pub as-free : n .kind ≡ 3 → treeOf l f ≡ freeBytes f (n .second)
   unfolding leafOf
-  as-free h = as-leaf l f n e (λ (q : n .kind ≡ 6). omega arith) (λ (q : n .kind ≡ 7). omega arith) ∙ rw h
+  as-free h = as-leaf l f n e (omega arith) ∙ rw h
 
-  plain-type : isPlain (n .kind) ≡ true → (head (treeOf l f) ≡ Fixed (n .second)) ×
+  pub plain-type : isPlain (n .kind) ≡ true → (head (treeOf l f) ≡ Fixed (n .second)) ×
       ((b : List ℕ) (s : ℕ) → readItem (treeOf l f) b s ≡ readExact (n .second) f b s)
   unfolding head readItem
   plain-type h =
@@ -101,43 +104,48 @@ module _ (l : List ℕ) (f : ℕ) (n : Node) (e : n ≡ nodeOf l f) where
       (plain-kind (n .kind) h)
 
 -- The first field's answer, and that of the rest.
-module _ (lens l : List ℕ) (t a left f : ℕ) (b : List ℕ) (p : ℕ) (g : Row lens l t a left) (z : 0 < left) (e : f ≡ wordAt l a) (w : Span)
-    (q : w ≡ spanOf (head (treeOf l f)) (headsOf l t (a + 1) (left - 1)) b p) (s : ℕ) where
-  pub fields-read : readFields (rowOf l t a left) b p s ≡ andThen (readItem (treeOf l f) (part b w) (s + w .from))
-      (readFields (rowOf l t (a + 1) (left - 1)) b (w .next) s)
+module _ (lens l : List ℕ) (t a step left f : ℕ) (b : List ℕ) (p : ℕ) (g : Row lens l t a step left) (z : 0 < left) (e : f ≡ wordAt l a) (w : Span)
+    (q : w ≡ spanOf (head (treeOf l f)) (headsOf l t (a + step) step (left - 1)) b p) (s : ℕ) where
+  pub fields-read : readFields (rowOf l t a step left) b p s ≡ andThen (readItem (treeOf l f) (part b w) (s + w .from))
+      (readFields (rowOf l t (a + step) step (left - 1)) b (w .next) s)
   unfolding readItem
-  fields-read = rw (fields-first l t a left (g .lower) z, q, e)
+  fields-read = rw (row-first l t a step left (g .named) z, q, e)
 
-module _ (lens l : List ℕ) (t a₀ n : ℕ) (b : List ℕ) (s : ℕ) (sum : Counts) (a left p f : ℕ) (g : Reading lens l t a₀ n b s sum a left p)
-    (z : 0 < left) (e : f ≡ wordAt l a) (w : Span) (q : w ≡ spanOf (head (treeOf l f)) (headsOf l t (a + 1) (left - 1)) b p) where
+module _ (lens l : List ℕ) (t a₀ step n : ℕ) (b : List ℕ) (s : ℕ) (sum : Counts) (a left p f : ℕ) (g : Reading lens l t a₀ step n b s sum a left p)
+    (z : 0 < left) (e : f ≡ wordAt l a) (w : Span) (q : w ≡ spanOf (head (treeOf l f)) (headsOf l t (a + step) step (left - 1)) b p) where
   reading-first : andThen (Accepted sum) (andThen (readItem (treeOf l f) (part b w) (s + w .from))
-      (readFields (rowOf l t (a + 1) (left - 1)) b (w .next) s)) ≡ andThen (one 0 0) (readFields (rowOf l t a₀ n) b 0 s)
-  reading-first = rw (fields-read lens l t a left f b p (g .row) z e w q s) at (g .same)
+      (readFields (rowOf l t (a + step) step (left - 1)) b (w .next) s)) ≡ andThen (one 0 0) (readFields (rowOf l t a₀ step n) b 0 s)
+  reading-first = rw (fields-read lens l t a step left f b p (g .row) z e w q s) at (g .same)
 
   -- where the first field lies, and what it counts
   pub reading-span : Lies b w
-  reading-span = span-lies lens l t a left f b p (g .row) z e (g .ranges) w q
+  reading-span = span-lies lens l t a step left f b p (g .row) z e (g .ranges) w q
 
   pub reading-item : (c : Counts) → s + length b < 2 ^ 32 → Accepted c ≡ readItem (treeOf l f) (part b w) (s + w .from) → Small c (2 ^ 40)
   reading-item c h i =
-      item-small lens l f (part b w) (s + w .from) c (row-under lens l t a left f (g .row) z e) (omega (arith, reading-span)) i
+      item-small lens l f (part b w) (s + w .from) c (row-under lens l t a step left f (g .row) z e) (omega (arith, reading-span)) i
+
+  reading-summed : (c : Counts) → Accepted c ≡ readItem (treeOf l f) (part b w) (s + w .from) →
+      Summed (plus sum c) (spread (headsOf l t (a + step) step (left - 1)) b (w .next)) (spread (headsOf l t a₀ step n) b 0)
+  reading-summed c h =
+      let u = row-under lens l t a step left f (g .row) z e in
+      let i = first-ranges lens l t a step left f b p (g .row) z e (g .ranges) (head (treeOf l f)) refl in
+      let j = rw (row-heads lens l t a step left f (g .row) z e (head (treeOf l f)) refl) at (g .summed) in
+      summed-item l f _ b p (u .legal) (omega (arith, u .few)) i w q (s + w .from) sum c _ j (sym h)
 
   pub reading-next : (c : Counts) → s + length b < 2 ^ 32 → Accepted c ≡ readItem (treeOf l f) (part b w) (s + w .from) →
-      Reading lens l t a₀ n b s (plus sum c) (a + 1) (left - 1) (w .next)
+      Reading lens l t a₀ step n b s (plus sum c) (a + step) (left - 1) (w .next)
   reading-next c k h =
-      let m = reading-item c k h in
       record {
-        row = row-next lens l t a left f (g .row) z e;
-        some = omega (arith, g .some);
-        ranges = span-ok lens l t a left f b p (g .row) z e (g .ranges) w q .2;
-        records = omega (arith, g .records, m .records);
-        words = omega (arith, g .words, m .words);
-        bytes = omega (arith, g .bytes, m .bytes);
-        same = then-assoc (Accepted sum) (Accepted c) (readFields (rowOf l t (a + 1) (left - 1)) b (w .next) s) ∙ rw (← h) at reading-first;
+        row = row-next lens l t a step left f (g .row) z e;
+        ranges = span-ok lens l t a step left f b p (g .row) z e (g .ranges) w q .2;
+        summed = reading-summed c h;
+        short = g .short;
+        same = then-assoc (Accepted sum) (Accepted c) (readFields (rowOf l t (a + step) step (left - 1)) b (w .next) s) ∙ rw (← h) at reading-first;
       }
 
   pub reading-stop : (r : Refusal) (u v : ℕ) → Refused r u v ≡ readItem (treeOf l f) (part b w) (s + w .from) →
-      Refused r u v ≡ andThen (one 0 0) (readFields (rowOf l t a₀ n) b 0 s)
+      Refused r u v ≡ andThen (one 0 0) (readFields (rowOf l t a₀ step n) b 0 s)
   reading-stop r u v h = rw (← h) at reading-first
 
   -- Free bytes: of them only the length is asked.
@@ -148,65 +156,66 @@ module _ (lens l : List ℕ) (t a₀ n : ℕ) (b : List ℕ) (s : ℕ) (sum : Co
     free-read = rw (as-free l f d i k, reading-span .2)
 
     pub free-stop : d .second < w .to - w .from →
-        Refused (OverLimit (w .to - w .from) (d .second)) f (s + w .from) ≡ andThen (one 0 0) (readFields (rowOf l t a₀ n) b 0 s)
+        Refused (OverLimit (w .to - w .from) (d .second)) f (s + w .from) ≡ andThen (one 0 0) (readFields (rowOf l t a₀ step n) b 0 s)
     free-stop h = reading-stop _ _ _ (rw (lt-leb _ _ h) at (sym free-read))
 
     pub free-next : w .to - w .from ≤ d .second → s + length b < 2 ^ 32 →
-        Reading lens l t a₀ n b s (plus sum (record { records = 1; words = 1; bytes = w .to - w .from })) (a + 1) (left - 1) (w .next)
+        Reading lens l t a₀ step n b s (plus sum (record { records = 1; words = 1; bytes = w .to - w .from })) (a + step) (left - 1) (w .next)
     free-next h m = reading-next _ m (rw (le-leb _ _ h) at (sym free-read))
 
 -- A plain field: its length stands in the table, and of its bytes nothing else is asked.
-module _ (lens l : List ℕ) (t a₀ n : ℕ) (b : List ℕ) (s : ℕ) (sum : Counts) (a left p f : ℕ) (g : Reading lens l t a₀ n b s sum a left p)
+module _ (lens l : List ℕ) (t a₀ step n : ℕ) (b : List ℕ) (s : ℕ) (sum : Counts) (a left p f : ℕ) (g : Reading lens l t a₀ step n b s sum a left p)
     (z : 0 < left) (e : f ≡ wordAt l a) (d : Node) (i : d ≡ nodeOf l f) (h : isPlain (d .kind) ≡ true) (k : ℕ) (q : k ≡ getD lens f 0) where
   plain-length : k ≡ d .second
-  plain-length = q ∙ g .row .under .found f (row-below lens l t a left f (g .row) z e) ∙ ap lenOf (plain-type l f d i h .0)
+  plain-length = q ∙ g .row .under .found f (row-below lens l t a step left f (g .row) z e) ∙ ap lenOf (plain-type l f d i h .0)
 
   plain-head : Fixed k ≡ head (treeOf l f)
   plain-head = ap Fixed plain-length ∙ sym (plain-type l f d i h .0)
 
   pub plain-fits : p + k ≤ length b
-  plain-fits = first-fits lens l t a left f b p (g .row) z e (g .ranges) k plain-head
+  plain-fits = first-fits lens l t a step left f b p (g .row) z e (g .ranges) k plain-head
 
-  pub plain-next : s + length b < 2 ^ 32 → Reading lens l t a₀ n b s (plus sum (record { records = 1; words = 0; bytes = k })) (a + 1) (left - 1) (p + k)
+  pub plain-next : s + length b < 2 ^ 32 →
+      Reading lens l t a₀ step n b s (plus sum (record { records = 1; words = 0; bytes = k })) (a + step) (left - 1) (p + k)
   plain-next m =
       let w : Span = record { from = p; to = p + k; next = p + k } in
-      let v : w ≡ spanOf (head (treeOf l f)) (headsOf l t (a + 1) (left - 1)) b p = rw (← plain-head) in
-      let y : length (part b w) ≡ k = reading-span lens l t a₀ n b s sum a left p f g z e w v .2 ∙ omega arith in
+      let v : w ≡ spanOf (head (treeOf l f)) (headsOf l t (a + step) step (left - 1)) b p = rw (← plain-head) in
+      let y : length (part b w) ≡ k = reading-span lens l t a₀ step n b s sum a left p f g z e w v .2 ∙ omega arith in
       let x : one 0 k ≡ readItem (treeOf l f) (part b w) (s + p) =
       exact-read (d .second) f (part b w) (s + p) k y plain-length ∙ sym (plain-type l f d i h .1 (part b w) (s + p)) in
-      reading-next lens l t a₀ n b s sum a left p f g z e w v (record { records = 1; words = 0; bytes = k }) m x
+      reading-next lens l t a₀ step n b s sum a left p f g z e w v (record { records = 1; words = 0; bytes = k }) m x
 
-pub reading-end : (lens l : List ℕ) (t a₀ n : ℕ) (b : List ℕ) (s : ℕ) (sum : Counts) (a left p : ℕ) → Reading lens l t a₀ n b s sum a left p →
-    left ≤ 0 → Accepted sum ≡ andThen (one 0 0) (readFields (rowOf l t a₀ n) b 0 s)
+pub reading-end : (lens l : List ℕ) (t a₀ step n : ℕ) (b : List ℕ) (s : ℕ) (sum : Counts) (a left p : ℕ) → Reading lens l t a₀ step n b s sum a left p →
+    left ≤ 0 → Accepted sum ≡ andThen (one 0 0) (readFields (rowOf l t a₀ step n) b 0 s)
 unfolding readItem
-reading-end lens l t a₀ n b s sum a left p g h = sym (ap Accepted (plus-zero sum)) ∙ rw (fields-none l (trees l t) a left h) at (g .same)
+reading-end lens l t a₀ step n b s sum a left p g h = sym (ap Accepted (plus-zero sum)) ∙ rw (row-none l t a step left h) at (g .same)
 
 -- A container.
 module _ (lens l : List ℕ) (t : ℕ) (n : Node) (e : n ≡ nodeOf l t) (g : Under lens l (t + 1)) where
   pub node-ok : LegalNode l t n
   node-ok = legal-node l t n e (g .legal)
 
-  pub container-row : n .kind ≡ 6 → Row lens l t (n .at + 2) (n .second)
+  pub container-row : n .kind ≡ 6 → Row lens l t (n .at + 2) 1 (n .second)
   container-row k =
       let m = node-ok in
       record {
         under = under-below lens l (t + 1) t (omega arith) g;
         near = omega (arith, m .near, m .few k);
-        there = m .within (omega arith);
-        lower = m .lower k;
+        steps = omega arith;
+        named = container-named l t (n .at + 2) (n .second) (m .within (omega arith) (omega arith)) (m .lower k);
       }
 
   module _ (k : n .kind ≡ 6) (b : List ℕ) (s : ℕ) where
-    pub container-read : readItem (treeOf l t) b s ≡ built (layOut (headsOf l t (n .at + 2) (n .second)) b) t s
-        (andThen (one 0 0) (readFields (rowOf l t (n .at + 2) (n .second)) b 0 s))
+    pub container-read : readItem (treeOf l t) b s ≡ built (layOut (headsOf l t (n .at + 2) 1 (n .second)) b) t s
+        (andThen (one 0 0) (readFields (rowOf l t (n .at + 2) 1 (n .second)) b 0 s))
     unfolding readItem
-    container-read = rw (as-container l t n e k)
+    container-read = rw (container-tree l t n e k)
 
-    pub container-on : Told.Fine ≡ layOut (headsOf l t (n .at + 2) (n .second)) b →
-        andThen (one 0 0) (readFields (rowOf l t (n .at + 2) (n .second)) b 0 s) ≡ readItem (treeOf l t) b s
+    pub container-on : Told.Fine ≡ layOut (headsOf l t (n .at + 2) 1 (n .second)) b →
+        andThen (one 0 0) (readFields (rowOf l t (n .at + 2) 1 (n .second)) b 0 s) ≡ readItem (treeOf l t) b s
     container-on h = rw (container-read, ← h)
 
-    pub container-stop : (r : Refusal) → Told.Refused r ≡ layOut (headsOf l t (n .at + 2) (n .second)) b → Refused r t s ≡ readItem (treeOf l t) b s
+    pub container-stop : (r : Refusal) → Told.Refused r ≡ layOut (headsOf l t (n .at + 2) 1 (n .second)) b → Refused r t s ≡ readItem (treeOf l t) b s
     container-stop r h = rw (container-read, ← h)
 
 -- A union: the walk along the options finds the word that the selector points to.

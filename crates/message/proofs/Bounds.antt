@@ -8,17 +8,17 @@ use Prim.Native.Nat.{ℕ, zero, suc, _+_, _-_, _*_, _/_, _≤_, _<_, _^_, max}
 use native.Mathlib.Nat.{add-zero, mul-le-mul-left, mul-le-mul-right}
 use native.Mathlib.Omega.{arith}
 use borrow.Author.Tests.{eqb-true, eqb-false, ne-eqb}
-use lib.ListN.{length, getD, drop, length-take, length-drop}
+use lib.ListN.{length, getD, drop, replicate, length-take, length-drop}
 use lib.Dec.{eqb, ltb, leb}
 use Rattle.standard.specs.Bytes.{wordAt, four}
-use Rattle.standard.specs.Types.{Ty, Tys, Opts, number, boolean, fixedBytes, freeBytes, bitVector, bitList, container, union, end, field, over, bare, body, head, headAll, heads, width, portion, NoFields, LegalTy, LegalAll, LegalOptions}
+use Rattle.standard.specs.Types.{Ty, Tys, Opts, number, boolean, fixedBytes, freeBytes, bitVector, bitList, container, union, list, vector, end, field, over, bare, body, head, headAll, heads, width, portion, NoFields, LegalTy, LegalAll, LegalOptions}
 use Rattle.standard.specs.Parts.{next, spanOf, part, InRange}
 use Rattle.standard.specs.declared.Head.{Head}
 use Rattle.standard.specs.declared.Head.the-variants.{Fixed, Variable}
 use Rattle.standard.proofs.Join.{next-between, span-ranges}
-use Rattle.standard.proofs.Laws.{fixed-some}
+use Rattle.standard.proofs.Elements.{All, copies, all-copies, heads-copies}
+use Rattle.standard.proofs.Laws.{fixed-some, legal-copies}
 use Rattle.decode.specs.Builder.{layOut}
-use Rattle.decode.proofs.Register.{layout-ranges, layout-next}
 use Rattle.bitfield.specs.Body.{bitListBody, bitVectorBody, bytesFor, markedAt, highest, allBits, listBits, within}
 use Rattle.bitfield.specs.declared.BodyBits.{BodyBits}
 use Rattle.standard.specs.declared.Told.{Told}
@@ -27,12 +27,13 @@ use Rattle.bitfield.specs.declared.Top.the-variants.{At, Nothing}
 use Rattle.layout.specs.Tree.{nodeOf, leafOf, fields, options, trees, treeOf}
 use Rattle.layout.specs.Legal.{Lower, LowerOrBare, LegalNode, Legal}
 use Rattle.layout.specs.declared.Node.{Node}
-use Rattle.layout.proofs.Facts.{trees-get, as-container, as-union, as-leaf}
+use Rattle.layout.proofs.Facts.{trees-get, as-container, as-union, as-list, as-vector, as-leaf, each-kind}
 use Rattle.layout.proofs.Trees.{legal-tree}
-use Rattle.message.specs.Read.{rawBytes, one, plus, andThen, readItem, readFields, readOption}
+use Rattle.message.specs.Read.{rawBytes, one, plus, andThen, elements, vectorTold, readEach, readItem, readFields, readOption}
 use Rattle.message.specs.declared.Counts.{Counts}
 use Rattle.message.specs.declared.Answer.the-variants.{Accepted}
-use Rattle.message.proofs.Answers.{none, single, not-accepted, accepted-same, pick-left, pick-right, pick-cases, pick-holds, left-accepted, right-accepted, leaf-accepted, then-accepted, behind-accepted, built-accepted, vector-accepted, list-accepted}
+use Rattle.message.proofs.Answers.{none, single, not-accepted, accepted-same, pick-left, pick-right, pick-cases, pick-holds, left-accepted, right-accepted, leaf-accepted, then-accepted, behind-accepted, built-accepted, vector-accepted, list-accepted, many-accepted}
+use Rattle.message.proofs.Copies.{read-copies, Laid, laid-out, vector-laid, elements-laid}
 
 -- How many levels a type has
 unfoldable mutual
@@ -45,6 +46,8 @@ unfoldable mutual
   depth (bitList t limit) = 1
   depth (container t ts) = 1 + depthAll ts
   depth (union t os) = 1 + depthOptions os
+  depth (list t e limit) = 1 + depth e
+  depth (vector t e n) = 1 + depth e
 
   pub depthAll : Tys → ℕ
   depthAll end = 0
@@ -94,18 +97,14 @@ module _ (l : List ℕ) (t : ℕ) (f : (u : ℕ) → u < t → depth (treeOf l u
 
   node-depth : LegalNode l t (nodeOf l t) → depth (treeOf l t) ≤ t + 1
   unfolding depth
-  node-depth g = go (eqb (nodeOf l t .kind) 6) (eqb (nodeOf l t .kind) 7) refl refl
-    where
-      go : (c d : Bool) → eqb (nodeOf l t .kind) 6 ≡ c → eqb (nodeOf l t .kind) 7 ≡ d → depth (treeOf l t) ≤ t + 1
-      go true d p q =
-          let k = eqb-true _ _ p in
-          let x = fields-depth (nodeOf l t .at + 2) (nodeOf l t .second) (g .lower k) in
-          rw (as-container l t (nodeOf l t) refl k) (omega arith)
-      go false true p q =
-          let k = eqb-true _ _ q in
-          let x = options-depth (nodeOf l t .at + 2) 0 (nodeOf l t .second) (g .optional k) in
-          rw (as-union l t (nodeOf l t) refl k) (omega arith)
-      go false false p q = rw (as-leaf l t (nodeOf l t) refl (eqb-false _ _ p) (eqb-false _ _ q), leaf-depth t (nodeOf l t)) (omega arith)
+  node-depth g =
+      let n = nodeOf l t in
+      each-kind (depth (treeOf l t) ≤ t + 1) (n .kind) (g .known)
+      (λ k. rw (as-leaf l t n refl k, leaf-depth t n) (omega arith))
+      (λ k. let x = fields-depth (n .at + 2) (n .second) (g .lower k) in rw (as-container l t n refl k) (omega arith))
+      (λ k. let x = options-depth (n .at + 2) 0 (n .second) (g .optional k) in rw (as-union l t n refl k) (omega arith))
+      (λ k. let b = g .element (omega arith) in let x = f (n .second) b in rw (as-list l t n refl k b) (omega arith))
+      (λ k. let b = g .element (omega arith) in let x = f (n .second) b in rw (as-vector l t n refl k b) (omega arith))
 
 pub tree-depth : (l : List ℕ) (n t : ℕ) → Legal l n → t < n → depth (treeOf l t) ≤ t + 1
 unfolding Legal
@@ -142,7 +141,7 @@ abbrev pub room : Head → List ℕ → ℕ
 room (Fixed n) b = length b
 room Variable b = length b + 4
 
-room-least : (h : Head) (b : List ℕ) → length b ≤ room h b
+pub room-least : (h : Head) (b : List ℕ) → length b ≤ room h b
 room-least (Fixed n) b = omega arith
 room-least Variable b = omega arith
 
@@ -158,7 +157,7 @@ above-in : (a b c : Counts) (m n i j : ℕ) → c ≡ plus a b → Within a 1 0 
 above-in a b c m n i j e x y h o = rw e (omega arith)
 
 -- The first field's room and the rest's make up the whole's.
-room-span :
+pub room-span :
     (h : Head) (hs : List Head) (b : List ℕ) (p k : ℕ) → InRange (h ∷ hs) b p 0 → next (h ∷ hs) b p + k ≡ length b
     → (j : ℕ) × (next hs b (spanOf h hs b p .next) + j ≡ length b) × (room h (part b (spanOf h hs b p)) + (portion hs + j) ≡ width h + portion hs + k)
 unfolding InRange next width
@@ -177,8 +176,56 @@ portion-some (field t ts) f l = go (head t) refl
     go (Fixed n) e = rw e (omega (arith, fixed-some t n (l .0) e))
     go Variable e = rw e (omega arith)
 
+depth-copies : (e : Ty) (n : ℕ) → depthAll (copies e n) ≤ depth e
+unfolding depth
+depth-copies e zero = omega arith
+depth-copies e (suc n) = omega (arith, depth-copies e n)
+
+-- The law about one type, and from it that about a row of fields
+In : Ty → Type 0
+In t =
+    (b : List ℕ) (s d : ℕ) (c : Counts) → LegalTy t → depth t ≤ d → readItem t b s ≡ Accepted c
+    → Within c (d * room (head t) b) (length b)
+
+row-in :
+    (ts : Tys) → All In ts → (b : List ℕ) (p s d k : ℕ) (c : Counts) → LegalAll ts → depthAll ts ≤ d → InRange (heads ts) b p 0
+    → next (heads ts) b p + k ≡ length b → readFields ts b p s ≡ Accepted c
+    → Within c (d * (portion (heads ts) + k)) (portion (heads ts) + k)
+unfolding In readItem head heads depth LegalTy portion
+row-in end f b p s d k c l h r n e = rw (← accepted-same none c e) (omega arith)
+row-in (field t ts) f b p s d k c l h r n e =
+    let w = spanOf (head t) (heads ts) b p in
+    let q = then-accepted (readItem t (part b w) (s + w .from)) (readFields ts b (w .next) s) c e in
+    let x = f .0 (part b w) (s + w .from) d (q .0) (l .0) (omega arith) (q .2) in
+    let j = room-span (head t) (heads ts) b p k r n in
+    let y = row-in ts (f .1) b (w .next) s d (j .0) (q .1) (l .1) (omega arith) (span-ranges (head t) (heads ts) b p r .2) (j .1) (q .3) in
+    rw (q .4, ← j .2) (omega (arith, x, y, room-least (head t) (part b w)))
+
+-- Fields that lie as they should count at most the levels times their bytes.
+whole-in :
+    (ts : Tys) → All In ts → (b : List ℕ) (s d : ℕ) (c : Counts) → LegalAll ts → depthAll ts ≤ d → Laid (heads ts) b → readFields ts b 0 s ≡ Accepted c
+    → Within c (d * length b) (length b) × (portion (heads ts) ≤ length b)
+whole-in ts f b s d c l h g e =
+    let m = next-between (heads ts) b 0 0 (g .ranges) in
+    let o = g .first in
+    let i : portion (heads ts) + (length b - portion (heads ts)) ≡ length b = omega arith in
+    let x = row-in ts f b 0 s d (length b - portion (heads ts)) c l h (g .ranges) (omega arith) e in
+    (rw i at x, omega arith)
+
+elements-in :
+    (e : Ty) → In e → (n : ℕ) (b : List ℕ) (s d : ℕ) (c : Counts) → LegalTy e → depth e ≤ d → Laid (replicate n (head e)) b
+    → readEach (λ (x : List ℕ) (u : ℕ). readItem e x u) (head e) n b 0 s ≡ Accepted c
+    → Within c (d * length b) (length b) × (portion (heads (copies e n)) ≤ length b)
+elements-in e f n b s d c l h g i =
+    let m = depth-copies e n in
+    whole-in (copies e n) (all-copies In e n f) b s d c (legal-copies e n l) (omega arith) (rw (← heads-copies e n) at g) (rw (read-copies e n b 0 s) at i)
+
+no-copies : (e : Ty) (n : ℕ) → 1 ≤ n → NoFields (copies e n) → ⊥
+no-copies e zero h k = omega arith
+no-copies e (suc n) h k = k
+
 mutual
-  unfolding readItem head heads depth LegalTy portion
+  unfolding In readItem head depth LegalTy
 
   pub item-in :
       (t : Ty) (b : List ℕ) (s d : ℕ) (c : Counts) → LegalTy t → depth t ≤ d → readItem t b s ≡ Accepted c
@@ -209,32 +256,34 @@ mutual
   item-in (container t ts) b s (suc d) c l h e =
       let p = built-accepted (layOut (heads ts) b) t s _ c e in
       let q = behind-accepted (single 0 0) (readFields ts b 0 s) c (p .1) in
-      let r = layout-ranges (heads ts) b (p .0) in
-      let n = layout-next (heads ts) b (p .0) in
-      let m = next-between (heads ts) b 0 0 r in
-      let i : portion (heads ts) + (length b - portion (heads ts)) ≡ length b = omega arith in
-      let x = fields-in ts b 0 s d (length b - portion (heads ts)) (q .0) (l .1) (omega arith) r (omega arith) (q .1) in
+      let x = whole-in ts (all-in ts) b s d (q .0) (l .1) (omega arith) (laid-out (heads ts) b (p .0)) (q .1) in
       let y = portion-some ts (l .0) (l .1) in
       let z = mul-le-mul-left (suc d) (room-least (headAll ts) b) in
-      above-in (single 0 0) (q .0) c (d * length b) _ (length b) (length b) (q .2) (omega arith) (rw i at x) (omega arith) (omega arith)
+      above-in (single 0 0) (q .0) c (d * length b) _ (length b) (length b) (q .2) (omega arith) (x .0) (omega arith) (omega arith)
   item-in (union t os) b s zero c l h e = absurd (omega arith)
   item-in (union t os) b s (suc d) c l h e =
       let p = right-accepted (eqb (length b) 0) _ _ t s c e in
       let q = left-accepted (leb (getD b 0 0) 127) _ _ t s c (p .1) in
       option-in os (getD b 0 0) b t s d c (l .2) (omega arith) (q .1)
+  item-in (list t a limit) b s zero c l h e = absurd (omega arith)
+  item-in (list t a limit) b s (suc d) c l h e =
+      let p = many-accepted (elements (head a) limit b) t s _ c e in
+      let g = elements-laid (head a) limit b (p .0) (λ k i. fixed-some a k l i) (p .1) in
+      let q = behind-accepted (single 1 0) _ c (p .2) in
+      let x = elements-in a (λ o u v i j k m. item-in a o u v i j k m) (p .0) b s d (q .0) l (omega arith) (g .0) (q .1) in
+      above-in (single 1 0) (q .0) c (d * length b) _ (length b) (length b) (q .2) (omega arith) (x .0) (omega arith) (omega arith)
+  item-in (vector t a n) b s zero c l h e = absurd (omega arith)
+  item-in (vector t a n) b s (suc d) c l h e =
+      let p = built-accepted (vectorTold (head a) n b) t s _ c e in
+      let q = behind-accepted (single 0 0) _ c (p .1) in
+      let x = elements-in a (λ o u v i j k m. item-in a o u v i j k m) n b s d (q .0) (l .1) (omega arith) (vector-laid (head a) n b (p .0)) (q .1) in
+      let y = portion-some (copies a n) (no-copies a n (l .0)) (legal-copies a n (l .1)) in
+      let z = mul-le-mul-left (suc d) (room-least (head (vector t a n)) b) in
+      above-in (single 0 0) (q .0) c (d * length b) _ (length b) (length b) (q .2) (omega arith) (x .0) (omega arith) (omega arith)
 
-  fields-in :
-      (ts : Tys) (b : List ℕ) (p s d k : ℕ) (c : Counts) → LegalAll ts → depthAll ts ≤ d → InRange (heads ts) b p 0
-      → next (heads ts) b p + k ≡ length b → readFields ts b p s ≡ Accepted c
-      → Within c (d * (portion (heads ts) + k)) (portion (heads ts) + k)
-  fields-in end b p s d k c l h r n e = rw (← accepted-same none c e) (omega arith)
-  fields-in (field t ts) b p s d k c l h r n e =
-      let w = spanOf (head t) (heads ts) b p in
-      let q = then-accepted (readItem t (part b w) (s + w .from)) (readFields ts b (w .next) s) c e in
-      let x = item-in t (part b w) (s + w .from) d (q .0) (l .0) (omega arith) (q .2) in
-      let j = room-span (head t) (heads ts) b p k r n in
-      let y = fields-in ts b (w .next) s d (j .0) (q .1) (l .1) (omega arith) (span-ranges (head t) (heads ts) b p r .2) (j .1) (q .3) in
-      rw (q .4, ← j .2) (omega (arith, x, y, room-least (head t) (part b w)))
+  all-in : (ts : Tys) → All In ts
+  all-in end = tt
+  all-in (field t ts) = ((λ b s d c l h e. item-in t b s d c l h e), all-in ts)
 
   option-in :
       (os : Opts) (k : ℕ) (b : List ℕ) (t s d : ℕ) (c : Counts) → LegalOptions os → depthOptions os ≤ d
@@ -257,6 +306,12 @@ mutual
       above-in (single 1 0) (q .0) c (d * room (head o) (drop 1 b)) _ (length (drop 1 b)) (length b) (q .2) (omega arith) x (omega arith) (omega arith))
       (λ i f. option-in os k b t s d c (l .1) (omega arith) f)
       e
+
+pub fields-in :
+    (ts : Tys) (b : List ℕ) (p s d k : ℕ) (c : Counts) → LegalAll ts → depthAll ts ≤ d → InRange (heads ts) b p 0
+    → next (heads ts) b p + k ≡ length b → readFields ts b p s ≡ Accepted c
+    → Within c (d * (portion (heads ts) + k)) (portion (heads ts) + k)
+fields-in ts = row-in ts (all-in ts)
 
 -- The bodies of an item are no longer than the item.
 pub bytes-bound : (t : Ty) (b : List ℕ) (s : ℕ) (c : Counts) → LegalTy t → readItem t b s ≡ Accepted c → c .bytes ≤ length b

@@ -1,5 +1,5 @@
--- Document 01's twelve proved cases ("Worked bids") in one table under one statement; the listing, the value form and the pieces of P; all
--- by computation. Assumes nothing.
+-- Document 01's twelve proved cases ("Worked bids") in one table under one statement, and document 02's refusals of lists and vectors in another; the
+-- listing, the value form and the pieces of P; all by computation. Assumes nothing.
 use mathlib.Core.Path.{_≡_, refl}
 use mathlib.Core.Logic.{inl}
 use mathlib.Core.List.{List, [], _∷_, _++_}
@@ -7,18 +7,18 @@ use mathlib.Core.Bool.{true, false}
 use Prim.Native.Nat.{ℕ}
 use lib.ListN.{take}
 use Rattle.standard.specs.Bytes.{le, num, numAt, wordAt}
-use Rattle.standard.specs.Types.{Ty, number, freeBytes, bitList, container, union, end, field, over, body, head, heads, joined, width, portion}
+use Rattle.standard.specs.Types.{Ty, number, freeBytes, bitList, container, union, end, field, over, body, head, heads, joined, times, width, portion}
 use Rattle.standard.specs.Parts.{next, fixedLengths, fronts, backs, join}
 use Rattle.standard.specs.Bits.{bitNum, packs, pack, marked}
 use Rattle.standard.specs.Serialize.{Val, serialize}
 use Rattle.standard.specs.Pieces.{offsetWord, selectorByte, leafBody, pieces}
-use Rattle.standard.specs.declared.Refusal.the-variants.{InvalidByteLength, InvalidLengthPrefix, OffsetIntoFixedPortion, OffsetSkipsVariableBytes, OffsetsAreDecreasing, OffsetOutOfBounds, OutOfBounds, MissingLengthInformation, ExcessBits, InvalidByteCount}
+use Rattle.standard.specs.declared.Refusal.the-variants.{InvalidByteLength, InvalidLengthPrefix, OffsetIntoFixedPortion, OffsetSkipsVariableBytes, OffsetsAreDecreasing, OffsetOutOfBounds, OutOfBounds, MissingLengthInformation, ExcessBits, InvalidByteCount, OverLimit, InvalidListFixedBytesLen}
 use Rattle.standard.proofs.Bits.{bitsOf}
 use Rattle.decode.specs.Builder.{step, register, build, layOut}
 use Rattle.bitfield.specs.Body.{highest, bitListBody}
 use Rattle.layout.specs.Tree.{nodeOf, leafOf, fromNode, fields, options, trees, treeOf}
-use Rattle.layout.specs.Table.{count, refs, counted, many, containerEnd, leafEnd, bodyEnd, typesEnd, typesOf, tableOf}
-use Rattle.message.specs.Read.{readItem}
+use Rattle.layout.specs.Table.{count, refs, counted, many, containerEnd, listEnd, vectorEnd, leafEnd, bodyEnd, typesEnd, typesOf, tableOf}
+use Rattle.message.specs.Read.{further, elements, vectorTold, readEach, readItem}
 use Rattle.message.specs.Listing.{entry, listItem}
 use Rattle.message.specs.Check.{messageType, checkMessage}
 use Rattle.message.specs.Unfold.{rawOf, unfoldWords, unfoldBytes}
@@ -76,6 +76,51 @@ unfolding Holds cases messageP offsets layoutL bits4 bytesOf le num numAt wordAt
     options trees treeOf step register build layOut bitsOf highest bitListBody readItem count refs counted many containerEnd leafEnd bodyEnd typesEnd typesOf tableOf
     checkMessage
 cases-hold = (refl, (refl, (refl, (refl, (refl, (refl, (refl, (refl, (refl, (refl, (refl, (refl, tt))))))))))))
+
+-- Lists and vectors: at most three numbers of two bytes; at most three free bytes to 4; two of each
+numbers : List ℕ
+numbers = bytesOf (2 ∷ 3 ∷ 5 ∷ 0 ∷ 2 ∷ 8 ∷ 0 ∷ 3 ∷ [])
+
+texts : List ℕ
+texts = bytesOf (2 ∷ 3 ∷ 5 ∷ 3 ∷ 4 ∷ 8 ∷ 0 ∷ 3 ∷ [])
+
+pair : List ℕ
+pair = bytesOf (2 ∷ 3 ∷ 5 ∷ 0 ∷ 2 ∷ 9 ∷ 0 ∷ 2 ∷ [])
+
+twoTexts : List ℕ
+twoTexts = bytesOf (2 ∷ 3 ∷ 5 ∷ 3 ∷ 4 ∷ 9 ∷ 0 ∷ 2 ∷ [])
+
+-- Each refusal of document 02 [1], in its order, beside what is accepted
+elementCases : List Case
+elementCases =
+    record { layout = pair; message = 1 ∷ 0 ∷ 2 ∷ 0 ∷ []; answer = Accepted (record { records = 3; words = 0; bytes = 4 }) }
+    ∷ record { layout = pair; message = 1 ∷ 0 ∷ 2 ∷ []; answer = Refused (InvalidByteLength 3 4) 1 0 }
+    ∷ record { layout = numbers; message = []; answer = Accepted (record { records = 1; words = 1; bytes = 0 }) }
+    ∷ record { layout = numbers; message = 1 ∷ 0 ∷ 2 ∷ 0 ∷ []; answer = Accepted (record { records = 3; words = 1; bytes = 4 }) }
+    ∷ record { layout = numbers; message = 1 ∷ 0 ∷ 2 ∷ []; answer = Refused (InvalidByteLength 3 2) 1 0 }
+    ∷ record { layout = numbers; message = 1 ∷ 0 ∷ 2 ∷ 0 ∷ 3 ∷ 0 ∷ 4 ∷ 0 ∷ []; answer = Refused (OverLimit 4 3) 1 0 }
+    ∷ record { layout = texts; message = []; answer = Accepted (record { records = 1; words = 1; bytes = 0 }) }
+    ∷ record { layout = texts; message = bytesOf (8 ∷ 9 ∷ []) ++ (10 ∷ 11 ∷ []); answer = Accepted (record { records = 3; words = 3; bytes = 2 }) }
+    ∷ record { layout = texts; message = 4 ∷ 0 ∷ 0 ∷ []; answer = Refused (InvalidLengthPrefix 3 4) 1 0 }
+    ∷ record { layout = texts; message = bytesOf (5 ∷ []); answer = Refused (OffsetOutOfBounds 5) 1 0 }
+    ∷ record { layout = texts; message = bytesOf (0 ∷ []); answer = Refused (InvalidListFixedBytesLen 0) 1 0 }
+    ∷ record { layout = texts; message = bytesOf (6 ∷ []) ++ (0 ∷ 0 ∷ []); answer = Refused (InvalidListFixedBytesLen 6) 1 0 }
+    ∷ record { layout = texts; message = bytesOf (16 ∷ 0 ∷ 0 ∷ 0 ∷ []); answer = Refused (OverLimit 4 3) 1 0 }
+    ∷ record { layout = texts; message = bytesOf (8 ∷ 7 ∷ []); answer = Refused (OffsetIntoFixedPortion 7) 1 0 }
+    ∷ record { layout = texts; message = bytesOf (8 ∷ 9 ∷ []); answer = Refused (OffsetOutOfBounds 9) 1 0 }
+    ∷ record { layout = texts; message = bytesOf (12 ∷ 14 ∷ 13 ∷ []) ++ (0 ∷ 0 ∷ []); answer = Refused (OffsetsAreDecreasing 13) 1 0 }
+    ∷ record { layout = texts; message = bytesOf (4 ∷ []) ++ (0 ∷ 0 ∷ 0 ∷ 0 ∷ 0 ∷ []); answer = Refused (OverLimit 5 4) 0 4 }
+    ∷ record { layout = twoTexts; message = bytesOf (8 ∷ 8 ∷ []); answer = Accepted (record { records = 3; words = 2; bytes = 0 }) }
+    ∷ record { layout = twoTexts; message = bytesOf (7 ∷ 8 ∷ []); answer = Refused (OffsetIntoFixedPortion 7) 1 0 }
+    ∷ record { layout = twoTexts; message = bytesOf (8 ∷ []); answer = Refused (OffsetOutOfBounds 8) 1 0 }
+    ∷ []
+
+element-cases-hold : Holds elementCases
+unfolding Holds elementCases numbers texts pair twoTexts bytesOf le num numAt wordAt head heads joined times width portion next nodeOf leafOf
+    fromNode fields options trees treeOf step register build layOut further elements vectorTold readEach readItem count refs counted many containerEnd
+    listEnd vectorEnd leafEnd bodyEnd typesEnd typesOf tableOf checkMessage
+element-cases-hold =
+    (refl, (refl, (refl, (refl, (refl, (refl, (refl, (refl, (refl, (refl, (refl, (refl, (refl, (refl, (refl, (refl, (refl, (refl, (refl, (refl, tt))))))))))))))))))))
 
 -- "For L and P it prints only": type, start and end of each item
 listed : listItem (treeOf layoutL 3) messageP 0 ≡ bytesOf (3 ∷ 0 ∷ 20 ∷ 0 ∷ 0 ∷ 8 ∷ 1 ∷ 16 ∷ 19 ∷ 2 ∷ 19 ∷ 20 ∷ [])

@@ -10,7 +10,7 @@ use lib.Seq.{sets, length-sets, take-all}
 use lib.Dec.{eqb, ltb}
 use Rattle.standard.specs.Choice.{pick}
 use Rattle.standard.specs.Bytes.{le, wordAt, Stored, Room}
-use Rattle.standard.specs.Types.{Ty, Tys, Opts, number, boolean, fixedBytes, freeBytes, bitVector, bitList, container, union, bare, body, head}
+use Rattle.standard.specs.Types.{Ty, Tys, Opts, number, boolean, fixedBytes, freeBytes, bitVector, bitList, container, union, list, vector, bare, body, head}
 use Rattle.standard.specs.Parts.{spanOf, part, InRange}
 use Rattle.standard.specs.declared.Span.{Span}
 use Rattle.standard.specs.declared.Told.{Told}
@@ -23,7 +23,7 @@ use Rattle.decode.proofs.Register.{layout-ranges}
 use Rattle.layout.specs.Tree.{nodeOf, leafOf, options, trees, treeOf}
 use Rattle.layout.specs.declared.Node.{Node}
 use Rattle.layout.specs.declared.Checked.the-variants.{Upto}
-use Rattle.layout.proofs.Facts.{trees-get, as-container, as-union, as-leaf, fields-first, fields-none}
+use Rattle.layout.proofs.Facts.{trees-get, as-union, as-leaf}
 use Rattle.message.specs.Read.{one, andThen, built, readItem, readFields}
 use Rattle.message.specs.Check.{messageType, underTable}
 use Rattle.message.specs.Listing.{entry, listItem, listFields, listOption}
@@ -32,20 +32,19 @@ use Rattle.message.specs.declared.Counts.{Counts}
 use Rattle.message.specs.declared.Answer.{Answer}
 use Rattle.message.specs.declared.Answer.the-variants.{Accepted, Refused}
 use Rattle.message.specs.declared.items.Choice.{Choice}
-use Rattle.message.proofs.Answers.{right-accepted}
+use Rattle.message.proofs.Answers.{right-accepted, then-both, built-both}
+use Rattle.message.proofs.Theorem.{read-start}
 use Rattle.message.proofs.Records.{length-entry, listed-length}
-use Rattle.message.proofs.Rows.{row-next, span-ok}
+use Rattle.message.proofs.Rows.{row-none, row-first, row-next, container-tree, span-ok}
 use Rattle.message.proofs.Bodies.{fields-read, container-row, container-read, bare-says, body-says, body-below, body-read, wrong-read}
 
--- What an acceptance says of its parts.
-then-both : (x y : Answer) → IsAccepted (andThen x y) → IsAccepted x × IsAccepted y
-then-both (Accepted c) (Accepted d) h = (tt, tt)
-then-both (Accepted c) (Refused r t s) h = absurd h
-then-both (Refused r t s) y h = absurd h
-
-built-both : (d : Told) (t s : ℕ) (x : Answer) → IsAccepted (built d t s x) → (d ≡ Told.Fine) × IsAccepted x
-built-both Told.Fine t s x h = (refl, h)
-built-both (Told.Refused r) t s x h = absurd h
+-- Acceptance does not depend on where the item starts.
+pub accepted-start : (x : Ty) (b : List ℕ) (s u : ℕ) → IsAccepted (readItem x b s) → IsAccepted (readItem x b u)
+accepted-start x b s u = go (readItem x b s) refl
+  where
+    go : (r : Answer) → readItem x b s ≡ r → IsAccepted r → IsAccepted (readItem x b u)
+    go (Accepted c) e h = rw (read-start x b s u c e) tt
+    go (Refused r t v) e h = absurd h
 
 -- One record.
 pub entry-stored : (o o₁ o₂ o₃ : List ℕ) (at t : ℕ) (b : List ℕ) (s : ℕ) → o₁ ≡ sets o at (le 4 t) → o₂ ≡ sets o₁ (at + 4) (le 4 s) →
@@ -62,42 +61,43 @@ entry-stored o o₁ o₂ o₃ at t b s p q r =
     stored-then o at (le 4 t ++ le 4 s) (at + 8) o₂ (le 4 (s + length b)) (at + 12) o₃ _ u h (sym (append-assoc (le 4 t) (le 4 s) (le 4 (s + length b))))
 
 -- The first field's listing, and that of the rest.
-module _ (lens l : List ℕ) (t a left f : ℕ) (b : List ℕ) (p : ℕ) (g : Row lens l t a left) (z : 0 < left) (e : f ≡ wordAt l a) (w : Span)
-    (q : w ≡ spanOf (head (treeOf l f)) (headsOf l t (a + 1) (left - 1)) b p) (s : ℕ) where
-  fields-list : listFields (rowOf l t a left) b p s ≡ listItem (treeOf l f) (part b w) (s + w .from) ++ listFields (rowOf l t (a + 1) (left - 1)) b (w .next) s
+module _ (lens l : List ℕ) (t a step left f : ℕ) (b : List ℕ) (p : ℕ) (g : Row lens l t a step left) (z : 0 < left) (e : f ≡ wordAt l a) (w : Span)
+    (q : w ≡ spanOf (head (treeOf l f)) (headsOf l t (a + step) step (left - 1)) b p) (s : ℕ) where
+  fields-list : listFields (rowOf l t a step left) b p s ≡
+      listItem (treeOf l f) (part b w) (s + w .from) ++ listFields (rowOf l t (a + step) step (left - 1)) b (w .next) s
   unfolding listItem
-  fields-list = rw (fields-first l t a left (g .lower) z, q, e)
+  fields-list = rw (row-first l t a step left (g .named) z, q, e)
 
 -- The loop of `list_fields`.
-pub record Storing (lens l : List ℕ) (t a₀ n : ℕ) (b : List ℕ) (s : ℕ) (o₀ : List ℕ) (at₀ : ℕ) (o : List ℕ) (at a left p : ℕ) : Type 0 where
-  pub row : Row lens l t a left
-  pub ranges : InRange (headsOf l t a left) b p 0
-  pub accepted : IsAccepted (readFields (rowOf l t a left) b p s)
-  pub room : Room o at (listFields (rowOf l t a left) b p s)
+pub record Storing (lens l : List ℕ) (t a₀ step n : ℕ) (b : List ℕ) (s : ℕ) (o₀ : List ℕ) (at₀ : ℕ) (o : List ℕ) (at a left p : ℕ) : Type 0 where
+  pub row : Row lens l t a step left
+  pub ranges : InRange (headsOf l t a step left) b p 0
+  pub accepted : IsAccepted (readFields (rowOf l t a step left) b p s)
+  pub room : Room o at (listFields (rowOf l t a step left) b p s)
   pub done : List ℕ
   pub stored : Stored o₀ at₀ done at o
-  pub whole : listFields (rowOf l t a₀ n) b 0 s ≡ done ++ listFields (rowOf l t a left) b p s
+  pub whole : listFields (rowOf l t a₀ step n) b 0 s ≡ done ++ listFields (rowOf l t a step left) b p s
 
-module _ (lens l : List ℕ) (t a₀ n : ℕ) (b : List ℕ) (s : ℕ) (o₀ : List ℕ) (at₀ : ℕ) (o : List ℕ) (at a left p f : ℕ)
-    (g : Storing lens l t a₀ n b s o₀ at₀ o at a left p) (z : 0 < left) (e : f ≡ wordAt l a) (w : Span)
-    (q : w ≡ spanOf (head (treeOf l f)) (headsOf l t (a + 1) (left - 1)) b p) where
-  storing-both : IsAccepted (readItem (treeOf l f) (part b w) (s + w .from)) × IsAccepted (readFields (rowOf l t (a + 1) (left - 1)) b (w .next) s)
-  storing-both = then-both (readItem (treeOf l f) (part b w) (s + w .from)) (readFields (rowOf l t (a + 1) (left - 1)) b (w .next) s)
-      (rw (fields-read lens l t a left f b p (g .row) z e w q s) at (g .accepted))
+module _ (lens l : List ℕ) (t a₀ step n : ℕ) (b : List ℕ) (s : ℕ) (o₀ : List ℕ) (at₀ : ℕ) (o : List ℕ) (at a left p f : ℕ)
+    (g : Storing lens l t a₀ step n b s o₀ at₀ o at a left p) (z : 0 < left) (e : f ≡ wordAt l a) (w : Span)
+    (q : w ≡ spanOf (head (treeOf l f)) (headsOf l t (a + step) step (left - 1)) b p) where
+  storing-both : IsAccepted (readItem (treeOf l f) (part b w) (s + w .from)) × IsAccepted (readFields (rowOf l t (a + step) step (left - 1)) b (w .next) s)
+  storing-both = then-both (readItem (treeOf l f) (part b w) (s + w .from)) (readFields (rowOf l t (a + step) step (left - 1)) b (w .next) s)
+      (rw (fields-read lens l t a step left f b p (g .row) z e w q s) at (g .accepted))
 
   pub storing-accepted : IsAccepted (readItem (treeOf l f) (part b w) (s + w .from))
   storing-accepted = storing-both .0
 
   pub storing-room : Room o at (listItem (treeOf l f) (part b w) (s + w .from))
-  storing-room = room-first o at _ _ _ (g .room) (fields-list lens l t a left f b p (g .row) z e w q s)
+  storing-room = room-first o at _ _ _ (g .room) (fields-list lens l t a step left f b p (g .row) z e w q s)
 
   pub storing-next : (r : ℕ) (o′ : List ℕ) → Stored o at (listItem (treeOf l f) (part b w) (s + w .from)) r o′ →
-      Storing lens l t a₀ n b s o₀ at₀ o′ r (a + 1) (left - 1) (w .next)
+      Storing lens l t a₀ step n b s o₀ at₀ o′ r (a + step) (left - 1) (w .next)
   storing-next r o′ h =
-      let i = fields-list lens l t a left f b p (g .row) z e w q s in
+      let i = fields-list lens l t a step left f b p (g .row) z e w q s in
       record {
-        row = row-next lens l t a left f (g .row) z e;
-        ranges = span-ok lens l t a left f b p (g .row) z e (g .ranges) w q .2;
+        row = row-next lens l t a step left f (g .row) z e;
+        ranges = span-ok lens l t a step left f b p (g .row) z e (g .ranges) w q .2;
         accepted = storing-both .1;
         room = room-then o at _ _ _ r o′ (g .room) i h;
         done = g .done ++ listItem (treeOf l f) (part b w) (s + w .from);
@@ -105,11 +105,11 @@ module _ (lens l : List ℕ) (t a₀ n : ℕ) (b : List ℕ) (s : ℕ) (o₀ : L
         whole = g .whole ∙ rw (i, ← append-assoc);
       }
 
-pub storing-end : (lens l : List ℕ) (t a₀ n : ℕ) (b : List ℕ) (s : ℕ) (o₀ : List ℕ) (at₀ : ℕ) (o : List ℕ) (at a left p : ℕ) →
-    Storing lens l t a₀ n b s o₀ at₀ o at a left p → left ≤ 0 → Stored o₀ at₀ (listFields (rowOf l t a₀ n) b 0 s) at o
+pub storing-end : (lens l : List ℕ) (t a₀ step n : ℕ) (b : List ℕ) (s : ℕ) (o₀ : List ℕ) (at₀ : ℕ) (o : List ℕ) (at a left p : ℕ) →
+    Storing lens l t a₀ step n b s o₀ at₀ o at a left p → left ≤ 0 → Stored o₀ at₀ (listFields (rowOf l t a₀ step n) b 0 s) at o
 unfolding listItem
-storing-end lens l t a₀ n b s o₀ at₀ o at a left p g h =
-    let e : listFields (rowOf l t a₀ n) b 0 s ≡ g .done = g .whole ∙ rw (fields-none l (trees l t) a left h, append-nil) in
+storing-end lens l t a₀ step n b s o₀ at₀ o at a left p g h =
+    let e : listFields (rowOf l t a₀ step n) b 0 s ≡ g .done = g .whole ∙ rw (row-none l t a step left h, append-nil) in
     rw e (g .stored)
 
 pub stored-length : (o : List ℕ) (at : ℕ) (x : List ℕ) (r : ℕ) (o′ : List ℕ) → Stored o at x r o′ → length o′ ≡ length o
@@ -117,9 +117,9 @@ stored-length o at x r o′ g = ap length (g .list) ∙ length-sets o at x
 
 -- Items, by their kind.
 module _ (l : List ℕ) (t : ℕ) (n : Node) (e : n ≡ nodeOf l t) (b : List ℕ) (s : ℕ) where
-  pub list-container : n .kind ≡ 6 → listItem (treeOf l t) b s ≡ entry t b s ++ listFields (rowOf l t (n .at + 2) (n .second)) b 0 s
+  pub list-container : n .kind ≡ 6 → listItem (treeOf l t) b s ≡ entry t b s ++ listFields (rowOf l t (n .at + 2) 1 (n .second)) b 0 s
   unfolding listItem
-  list-container k = rw (as-container l t n e k)
+  list-container k = rw (container-tree l t n e k)
 
   leaf-list : (t : ℕ) (n : Node) (b : List ℕ) (s : ℕ) → listItem (leafOf t n) b s ≡ entry t b s
   unfolding leafOf listItem
@@ -135,18 +135,12 @@ module _ (l : List ℕ) (t : ℕ) (n : Node) (e : n ≡ nodeOf l t) (b : List �
       go false false false false true = refl
       go false false false false false = refl
 
-  pub list-leaf : (n .kind ≡ 6 → ⊥) → (n .kind ≡ 7 → ⊥) → listItem (treeOf l t) b s ≡ entry t b s
-  list-leaf c u = rw (as-leaf l t n e c u) (leaf-list t n b s)
-
--- A kind below 6 has no lower types.
-pub below-six : (kind : ℕ) → kind < 6 → (kind ≡ 6 → ⊥) × (kind ≡ 7 → ⊥)
-below-six kind h = (λ (q : kind ≡ 6). omega arith, λ (q : kind ≡ 7). omega arith)
+  pub list-leaf : n .kind < 6 → listItem (treeOf l t) b s ≡ entry t b s
+  list-leaf h = rw (as-leaf l t n e h) (leaf-list t n b s)
 
 pub leaf-stored : (l : List ℕ) (f : ℕ) (n : Node) → n ≡ nodeOf l f → n .kind < 6 → (o : List ℕ) (at : ℕ) (b : List ℕ) (s r : ℕ) (o′ : List ℕ) →
     Stored o at (entry f b s) r o′ → Stored o at (listItem (treeOf l f) b s) r o′
-leaf-stored l f n e h o at b s r o′ g =
-    let z = below-six (n .kind) h in
-    rw (list-leaf l f n e b s (z .0) (z .1)) g
+leaf-stored l f n e h o at b s r o′ g = rw (list-leaf l f n e b s h) g
 
 -- The listing of the option that is asked for.
 module _ (l : List ℕ) (lower : List Ty) (b : List ℕ) (s : ℕ) where
@@ -193,14 +187,14 @@ module _ (l : List ℕ) (lower : List Ty) (b : List ℕ) (s : ℕ) where
 module _ (lens l : List ℕ) (t : ℕ) (n : Node) (e : n ≡ nodeOf l t) (g : Under lens l (t + 1)) (b : List ℕ) (s : ℕ)
     (h : IsAccepted (readItem (treeOf l t) b s)) where
   module _ (k : n .kind ≡ 6) where
-    container-both : (layOut (headsOf l t (n .at + 2) (n .second)) b ≡ Told.Fine) ×
-        IsAccepted (andThen (one 0 0) (readFields (rowOf l t (n .at + 2) (n .second)) b 0 s))
+    container-both : (layOut (headsOf l t (n .at + 2) 1 (n .second)) b ≡ Told.Fine) ×
+        IsAccepted (andThen (one 0 0) (readFields (rowOf l t (n .at + 2) 1 (n .second)) b 0 s))
     container-both = built-both _ t s _ (rw (container-read lens l t n e g k b s) at h)
 
-    pub container-accepted : InRange (headsOf l t (n .at + 2) (n .second)) b 0 0 × IsAccepted (readFields (rowOf l t (n .at + 2) (n .second)) b 0 s)
+    pub container-accepted : InRange (headsOf l t (n .at + 2) 1 (n .second)) b 0 0 × IsAccepted (readFields (rowOf l t (n .at + 2) 1 (n .second)) b 0 s)
     container-accepted = (
       layout-ranges _ b (container-both .0),
-      then-both (one 0 0) (readFields (rowOf l t (n .at + 2) (n .second)) b 0 s)
+      then-both (one 0 0) (readFields (rowOf l t (n .at + 2) 1 (n .second)) b 0 s)
           (container-both .1) .1,
     )
 
@@ -246,6 +240,8 @@ list-long (bitVector t n) b s = omega (arith, length-entry t b s)
 list-long (bitList t limit) b s = omega (arith, length-entry t b s)
 list-long (container t ts) b s = simp (length-append, length-entry) (omega arith)
 list-long (union t os) b s = simp (length-append, length-entry) (omega arith)
+list-long (list t e limit) b s = simp (length-append, length-entry) (omega arith)
+list-long (vector t e n) b s = simp (length-append, length-entry) (omega arith)
 
 pub room-long : (o : List ℕ) (at : ℕ) (x : Ty) (b : List ℕ) (s : ℕ) → Room o at (listItem x b s) → at + 12 ≤ length o
 room-long o at x b s g = omega (arith, g .room, list-long x b s)

@@ -1,9 +1,15 @@
 -- What the proofs of several functions use, and the theorems on reading.
 pub mod Answers
+pub mod Copies
+pub mod Counting
 pub mod Bounds
 pub mod Rows
+pub mod Repeats
+pub mod Manys
 pub mod Numbers
+pub mod Sums
 pub mod Bodies
+pub mod Alike
 pub mod Records
 pub mod Entries
 pub mod UnfoldLeaves

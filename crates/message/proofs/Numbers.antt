@@ -1,4 +1,4 @@
--- The registration of a container's fields in plain numbers: what each test finds is what `step` says of the progress that the
+-- The registration of fields or elements in plain numbers: what each test finds is what `step` says of the progress that the
 -- numbers stand for. Assumes nothing.
 use mathlib.Core.Path.{_≡_, refl, ap, _∙_}
 use mathlib.Core.List.{List}
@@ -72,66 +72,66 @@ module _ (first previous p o : ℕ) where
   behind-later e = rw (ne-eqb first 18446744073709551615 e)
 
 -- The loop of `lay_out`: `Laying` at the progress that the numbers stand for.
-pub record Counting (lens l : List ℕ) (t a₀ n : ℕ) (b : List ℕ) (first previous p a left : ℕ) : Type 0 where
-  pub laying : Laying lens l t a₀ n b (progressOf first previous p) a left
+pub record Counting (lens l : List ℕ) (t a₀ apart n : ℕ) (b : List ℕ) (first previous p a left : ℕ) : Type 0 where
+  pub laying : Laying lens l t a₀ apart n b (progressOf first previous p) a left
   pub none : first ≡ 18446744073709551615 → previous ≡ 0
 
-module _ {lens l : List ℕ} {t a₀ n : ℕ} {b : List ℕ} where
-  pub counting-new : Row lens l t a₀ n → Counting lens l t a₀ n b 18446744073709551615 0 0 a₀ n
+module _ {lens l : List ℕ} {t a₀ apart n : ℕ} {b : List ℕ} where
+  pub counting-new : Row lens l t a₀ apart n → Counting lens l t a₀ apart n b 18446744073709551615 0 0 a₀ n
   counting-new g = record { laying = record { row = g; within = omega arith; same = refl }; none = λ e. refl }
 
-  module _ {first previous p a left : ℕ} (g : Counting lens l t a₀ n b first previous p a left) where
+  module _ {first previous p a left : ℕ} (g : Counting lens l t a₀ apart n b first previous p a left) where
     abbrev now : Progress
     now = progressOf first previous p
 
-    pub counting-end : left ≤ 0 → buildAt (knownIf first first) p (length b) ≡ layOut (headsOf l t a₀ n) b
+    pub counting-end : left ≤ 0 → buildAt (knownIf first first) p (length b) ≡ layOut (headsOf l t a₀ apart n) b
     unfolding build
-    counting-end h = laying-end lens l t a₀ n b now a left (g .laying) h
+    counting-end h = laying-end lens l t a₀ apart n b now a left (g .laying) h
 
     module _ {f k : ℕ} (z : 0 < left) (e : f ≡ wordAt l a) (q : k ≡ getD lens f 0) where
-      bad : (h : Head) → h ≡ head (treeOf l f) → (r : Refusal) → step h b now ≡ Step.Refused r → Told.Refused r ≡ layOut (headsOf l t a₀ n) b
-      bad h i = laying-bad lens l t a₀ n b now a left f h (g .laying) z e i
+      bad : (h : Head) → h ≡ head (treeOf l f) → (r : Refusal) → step h b now ≡ Step.Refused r → Told.Refused r ≡ layOut (headsOf l t a₀ apart n) b
+      bad h i = laying-bad lens l t a₀ apart n b now a left f h (g .laying) z e i
 
-      next : (h : Head) → h ≡ head (treeOf l f) → (y : Progress) → step h b now ≡ Step.Next y → Laying lens l t a₀ n b y (a + 1) (left - 1)
-      next h i = laying-next lens l t a₀ n b now a left f h (g .laying) z e i
+      next : (h : Head) → h ≡ head (treeOf l f) → (y : Progress) → step h b now ≡ Step.Next y → Laying lens l t a₀ apart n b y (a + apart) (left - 1)
+      next h i = laying-next lens l t a₀ apart n b now a left f h (g .laying) z e i
 
       -- a field of fixed size
       module _ (v : 0 < k) where
         is-fixed : Fixed k ≡ head (treeOf l f)
-        is-fixed = row-fixed lens l t a left f (g .laying .row) z e k q (λ (u : k ≡ 0). omega arith)
+        is-fixed = row-fixed lens l t a apart left f (g .laying .row) z e k q (λ (u : k ≡ 0). omega arith)
 
-        pub counting-long : length b < p + k → Told.Refused (InvalidByteLength (length b) (p + k)) ≡ layOut (headsOf l t a₀ n) b
-        counting-long h = bad (Fixed k) is-fixed _ (fixed-long b now k (rw q (row-small lens l t a left f (g .laying .row) z e)) h)
+        pub counting-long : length b < p + k → Told.Refused (InvalidByteLength (length b) (p + k)) ≡ layOut (headsOf l t a₀ apart n) b
+        counting-long h = bad (Fixed k) is-fixed _ (fixed-long b now k (rw q (row-small lens l t a apart left f (g .laying .row) z e)) h)
 
-        pub counting-fixed : p + k ≤ length b → length b < 2 ^ 32 → Counting lens l t a₀ n b first previous (p + k) (a + 1) (left - 1)
+        pub counting-fixed : p + k ≤ length b → length b < 2 ^ 32 → Counting lens l t a₀ apart n b first previous (p + k) (a + apart) (left - 1)
         counting-fixed h s = record { laying = next (Fixed k) is-fixed _ (fixed-step k b now h s); none = g .none }
 
       -- one of variable size
       module _ (v : k ≤ 0) where
         is-variable : Variable ≡ head (treeOf l f)
-        is-variable = row-variable lens l t a left f (g .laying .row) z e k q (omega arith)
+        is-variable = row-variable lens l t a apart left f (g .laying .row) z e k q (omega arith)
 
-        pub counting-cut : length b < p + 4 → Told.Refused (InvalidLengthPrefix (length b - p) 4) ≡ layOut (headsOf l t a₀ n) b
+        pub counting-cut : length b < p + 4 → Told.Refused (InvalidLengthPrefix (length b - p) 4) ≡ layOut (headsOf l t a₀ apart n) b
         counting-cut h = bad Variable is-variable _ (offset-cut b now h)
 
         module _ {o : ℕ} (h : p + 4 ≤ length b) (i : o ≡ four b p) where
           there : step Variable b now ≡ tested (unset first) previous o (length b) now
           there = rw i (offset-there b now h)
 
-          pub counting-past : length b < o → Told.Refused (OffsetOutOfBounds o) ≡ layOut (headsOf l t a₀ n) b
+          pub counting-past : length b < o → Told.Refused (OffsetOutOfBounds o) ≡ layOut (headsOf l t a₀ apart n) b
           counting-past j = bad Variable is-variable _ (there ∙ offset-past (unset first) previous o (length b) now j)
 
           module _ (j : o ≤ length b) where
-            pub counting-back : o < previous → Told.Refused (OffsetsAreDecreasing o) ≡ layOut (headsOf l t a₀ n) b
+            pub counting-back : o < previous → Told.Refused (OffsetsAreDecreasing o) ≡ layOut (headsOf l t a₀ apart n) b
             counting-back d = bad Variable is-variable _ (there ∙ offset-back (unset first) previous o (length b) now (λ c. g .none (eqb-true _ _ c)) j d)
 
             module _ (d : previous ≤ o) where
-              taken : (y : Progress) → behind now o ≡ y → Laying lens l t a₀ n b y (a + 1) (left - 1)
+              taken : (y : Progress) → behind now o ≡ y → Laying lens l t a₀ apart n b y (a + apart) (left - 1)
               taken y s = next Variable is-variable y (there ∙ offset-taken (unset first) previous o (length b) now j d ∙ ap Step.Next s)
 
-              pub counting-first : first ≡ 18446744073709551615 → o < 2 ^ 32 → Counting lens l t a₀ n b o o (p + 4) (a + 1) (left - 1)
+              pub counting-first : first ≡ 18446744073709551615 → o < 2 ^ 32 → Counting lens l t a₀ apart n b o o (p + 4) (a + apart) (left - 1)
               counting-first c s =
                   record { laying = taken _ (behind-first first previous p o c s); none = λ (u : o ≡ 18446744073709551615). absurd (omega arith) }
 
-              pub counting-later : (first ≡ 18446744073709551615 → ⊥) → Counting lens l t a₀ n b first o (p + 4) (a + 1) (left - 1)
+              pub counting-later : (first ≡ 18446744073709551615 → ⊥) → Counting lens l t a₀ apart n b first o (p + 4) (a + apart) (left - 1)
               counting-later c = record { laying = taken _ (behind-later first previous p o c); none = λ u. absurd (c u) }

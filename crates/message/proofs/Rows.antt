@@ -1,4 +1,5 @@
--- The fields of a container, one by one: their heads, their registration, and where each lies. Assumes nothing.
+-- The fields of a container or the elements of a list, one by one: their heads, their registration, and where each lies. The words that
+-- name them lie `apart`, which is a row's step: `step` is the builder's here. Assumes nothing.
 use mathlib.Core.Path.{_≡_, refl, sym, ap, _∙_}
 use mathlib.Core.List.{List, [], _∷_}
 use Prim.Native.Nat.{ℕ, zero, suc, _+_, _-_, _≤_, _<_, _^_}
@@ -6,7 +7,7 @@ use native.Mathlib.Omega.{arith}
 use borrow.Author.Tests.{le-ltb, eq-eqb}
 use lib.ListN.{length, getD, take, drop, length-take, length-drop}
 use Rattle.standard.specs.Bytes.{four, wordAt}
-use Rattle.standard.specs.Types.{Ty, Tys, container, end, field, head, headAll, heads}
+use Rattle.standard.specs.Types.{Ty, Tys, boolean, container, end, field, head, headAll, heads}
 use Rattle.standard.specs.Parts.{next, spanOf, part, InRange}
 use Rattle.standard.specs.declared.Head.{Head}
 use Rattle.standard.specs.declared.Head.the-variants.{Fixed, Variable}
@@ -20,14 +21,15 @@ use Rattle.decode.specs.Builder.{fresh, step, follow, register, build, ended, l
 use Rattle.decode.specs.declared.builder.Progress.{Progress}
 use Rattle.decode.specs.declared.builder.Step.{Step}
 use Rattle.decode.proofs.Register.{step-within, beyond}
-use Rattle.layout.specs.Tree.{treeOf, fields, trees, lenOf, headOf}
+use Rattle.layout.specs.Tree.{nodeOf, treeOf, fields, trees, lenOf, headOf}
+use Rattle.layout.specs.declared.Node.{Node}
 use Rattle.layout.specs.Table.{count}
-use Rattle.layout.specs.Legal.{Legal}
+use Rattle.layout.specs.Legal.{Lower, Legal}
 use Rattle.layout.specs.Steps.{Known}
-use Rattle.layout.proofs.Facts.{fields-none, heads-first, lower-here, lower-rest, head-len, legal-below}
+use Rattle.layout.proofs.Facts.{trees-get, as-container, lower-here, lower-rest, head-len, legal-below}
 use Rattle.layout.proofs.Tables.{known-len, known-length}
 use Rattle.layout.proofs.Trees.{legal-tree, len-small}
-use Rattle.message.specs.Steps.{Under, Row, rowOf, headsOf}
+use Rattle.message.specs.Steps.{Under, Row, Named, rowOf, headsOf}
 
 -- The lengths that the table check found.
 pub under-table : (lens l : List ℕ) (k : ℕ) → Known lens l k → Under lens l k
@@ -45,6 +47,9 @@ module _ (lens l : List ℕ) (t : ℕ) (g : Under lens l t) (f : ℕ) (h : f < t
   unfolding Legal
   under-small = rw (g .found f h) (len-small l f (g .legal f h))
 
+  pub under-legal : Legal l (f + 1)
+  under-legal = legal-below l t (f + 1) (omega arith) (g .legal)
+
   pub under-index : f < length lens
   under-index = omega (arith, g .few, g .room)
 
@@ -57,13 +62,54 @@ no-len-head : (h : Head) → ((n : ℕ) → h ≡ Fixed n → 1 ≤ n) → 0 ≡
 no-len-head (Fixed n) f e = absurd (omega (arith, f n refl))
 no-len-head Variable f e = refl
 
-pub row-there : (lens l : List ℕ) (t a left : ℕ) → Row lens l t a left → 0 < left → a < count l
-row-there lens l t a left g p = omega (arith, g .there)
+-- No field, and the first of some.
+pub row-none : (l : List ℕ) (t a apart left : ℕ) → left ≤ 0 → rowOf l t a apart left ≡ end
+unfolding rowOf
+row-none l t a apart zero h = refl
+row-none l t a apart (suc n) h = absurd (omega arith)
+
+row-cons : (l : List ℕ) (t a apart left : ℕ) → 0 < left →
+    rowOf l t a apart left ≡ field (getD (trees l t) (wordAt l a) (boolean 0)) (rowOf l t (a + apart) apart (left - 1))
+unfolding rowOf
+row-cons l t a apart zero h = absurd (omega arith)
+row-cons l t a apart (suc n) h = let e : suc n - 1 ≡ n = omega arith in rw e
+
+pub named-first : (l : List ℕ) (t a apart left : ℕ) → Named l t a apart left → 0 < left →
+    (a < count l) × (wordAt l a < t) × Named l t (a + apart) apart (left - 1)
+unfolding Named
+named-first l t a apart zero g p = absurd (omega arith)
+named-first l t a apart (suc n) g p = let e : suc n - 1 ≡ n = omega arith in rw e g
+
+pub row-first : (l : List ℕ) (t a apart left : ℕ) → Named l t a apart left → 0 < left →
+    rowOf l t a apart left ≡ field (treeOf l (wordAt l a)) (rowOf l t (a + apart) apart (left - 1))
+row-first l t a apart left g p =
+    row-cons l t a apart left p
+    ∙ ap (λ (x : Ty). field x (rowOf l t (a + apart) apart (left - 1))) (trees-get l t (wordAt l a) (boolean 0) (named-first l t a apart left g p .1))
+
+-- A container's fields have a word each.
+pub container-fields : (l : List ℕ) (t a n : ℕ) → rowOf l t a 1 n ≡ fields l (trees l t) a n
+unfolding rowOf fields
+container-fields l t a zero = refl
+container-fields l t a (suc n) = ap (field (getD (trees l t) (wordAt l a) (boolean 0))) (container-fields l t (a + 1) n)
+
+pub container-tree : (l : List ℕ) (t : ℕ) (n : Node) → n ≡ nodeOf l t → n .kind ≡ 6 → treeOf l t ≡ container t (rowOf l t (n .at + 2) 1 (n .second))
+container-tree l t n e k = rw (container-fields l t (n .at + 2) (n .second)) (as-container l t n e k)
+
+pub container-named : (l : List ℕ) (t a n : ℕ) → a + n ≤ count l → Lower l t a n → Named l t a 1 n
+unfolding Named
+container-named l t a zero h g = tt
+container-named l t a (suc n) h g =
+    let e : suc n - 1 ≡ n = omega arith in
+    let r = rw e at (lower-rest l t a (suc n) g (omega arith)) in
+    (omega arith, lower-here l t a (suc n) g (omega arith), container-named l t (a + 1) n (omega arith) r)
+
+pub row-there : (lens l : List ℕ) (t a apart left : ℕ) → Row lens l t a apart left → 0 < left → a < count l
+row-there lens l t a apart left g p = named-first l t a apart left (g .named) p .0
 
 -- The first of some fields, and the rest.
-module _ (lens l : List ℕ) (t a left f : ℕ) (g : Row lens l t a left) (p : 0 < left) (e : f ≡ wordAt l a) where
+module _ (lens l : List ℕ) (t a apart left f : ℕ) (g : Row lens l t a apart left) (p : 0 < left) (e : f ≡ wordAt l a) where
   pub row-below : f < t
-  row-below = rw e (lower-here l t a left (g .lower) p)
+  row-below = rw e (named-first l t a apart left (g .named) p .1)
 
   pub row-index : f < length lens
   row-index = under-index lens l t (g .under) f row-below
@@ -91,40 +137,46 @@ module _ (lens l : List ℕ) (t a left f : ℕ) (g : Row lens l t a left) (p : 0
       no-len-head (head (treeOf l f)) (λ n h. fixed-some (treeOf l f) n (legal-tree l t f (g .under .legal) row-below) h)
       (sym z ∙ q ∙ g .under .found f row-below)
 
-  pub row-heads : (h : Head) → h ≡ head (treeOf l f) → headsOf l t a left ≡ h ∷ headsOf l t (a + 1) (left - 1)
-  row-heads h q = rw q (heads-first l t a left (g .lower) p f e)
+  pub row-heads : (h : Head) → h ≡ head (treeOf l f) → headsOf l t a apart left ≡ h ∷ headsOf l t (a + apart) apart (left - 1)
+  unfolding heads
+  row-heads h q = rw (row-first l t a apart left (g .named) p, q, e)
 
-  pub row-next : Row lens l t (a + 1) (left - 1)
+  pub row-next : Row lens l t (a + apart) apart (left - 1)
   row-next =
-      record { under = g .under; near = omega (arith, g .near); there = omega (arith, g .there); lower = lower-rest l t a left (g .lower) p }
+      record {
+        under = g .under;
+        near = omega (arith, g .near, g .steps);
+        steps = g .steps;
+        named = named-first l t a apart left (g .named) p .2;
+      }
 
-pub heads-none : (l : List ℕ) (t a left : ℕ) → left ≤ 0 → headsOf l t a left ≡ []
+pub heads-none : (l : List ℕ) (t a apart left : ℕ) → left ≤ 0 → headsOf l t a apart left ≡ []
 unfolding heads
-heads-none l t a left h = rw (fields-none l (trees l t) a left h)
+heads-none l t a apart left h = rw (row-none l t a apart left h)
 
 -- Registering what is left gives the whole.
-pub record Laying (lens l : List ℕ) (t a₀ n : ℕ) (b : List ℕ) (x : Progress) (a left : ℕ) : Type 0 where
-  pub row : Row lens l t a left
+pub record Laying (lens l : List ℕ) (t a₀ apart n : ℕ) (b : List ℕ) (x : Progress) (a left : ℕ) : Type 0 where
+  pub row : Row lens l t a apart left
   pub within : x .pos ≤ length b
-  pub same : register (headsOf l t a left) b x ≡ register (headsOf l t a₀ n) b fresh
+  pub same : register (headsOf l t a apart left) b x ≡ register (headsOf l t a₀ apart n) b fresh
 
-module _ (lens l : List ℕ) (t a₀ n : ℕ) (b : List ℕ) (x : Progress) (a left f : ℕ) (h : Head) (g : Laying lens l t a₀ n b x a left) (p : 0 < left)
+module _ (lens l : List ℕ) (t a₀ apart n : ℕ) (b : List ℕ) (x : Progress) (a left f : ℕ) (h : Head) (g : Laying lens l t a₀ apart n b x a left) (p : 0 < left)
     (e : f ≡ wordAt l a) (q : h ≡ head (treeOf l f)) where
-  laying-same : follow (step h b x) (register (headsOf l t (a + 1) (left - 1)) b) ≡ register (headsOf l t a₀ n) b fresh
+  laying-same : follow (step h b x) (register (headsOf l t (a + apart) apart (left - 1)) b) ≡ register (headsOf l t a₀ apart n) b fresh
   unfolding register
-  laying-same = rw (row-heads lens l t a left f (g .row) p e h q) at (g .same)
+  laying-same = rw (row-heads lens l t a apart left f (g .row) p e h q) at (g .same)
 
-  pub laying-next : (y : Progress) → step h b x ≡ Step.Next y → Laying lens l t a₀ n b y (a + 1) (left - 1)
-  laying-next y s = record { row = row-next lens l t a left f (g .row) p e; within = step-within h b x y s; same = rw s at laying-same }
+  pub laying-next : (y : Progress) → step h b x ≡ Step.Next y → Laying lens l t a₀ apart n b y (a + apart) (left - 1)
+  laying-next y s = record { row = row-next lens l t a apart left f (g .row) p e; within = step-within h b x y s; same = rw s at laying-same }
 
-  pub laying-bad : (r : Refusal) → step h b x ≡ Step.Refused r → Told.Refused r ≡ layOut (headsOf l t a₀ n) b
+  pub laying-bad : (r : Refusal) → step h b x ≡ Step.Refused r → Told.Refused r ≡ layOut (headsOf l t a₀ apart n) b
   unfolding layOut
   laying-bad r s = rw (← laying-same, s)
 
-pub laying-end : (lens l : List ℕ) (t a₀ n : ℕ) (b : List ℕ) (x : Progress) (a left : ℕ) → Laying lens l t a₀ n b x a left → left ≤ 0 →
-    build (length b) x ≡ layOut (headsOf l t a₀ n) b
+pub laying-end : (lens l : List ℕ) (t a₀ apart n : ℕ) (b : List ℕ) (x : Progress) (a left : ℕ) → Laying lens l t a₀ apart n b x a left → left ≤ 0 →
+    build (length b) x ≡ layOut (headsOf l t a₀ apart n) b
 unfolding layOut register
-laying-end lens l t a₀ n b x a left g h = rw (← g .same, heads-none l t a left h)
+laying-end lens l t a₀ apart n b x a left g h = rw (← g .same, heads-none l t a apart left h)
 
 -- Fields of fixed size that take all the bytes are laid out well.
 at-pos : ℕ → Progress
@@ -161,56 +213,56 @@ container-fixed lens l t ts b k g e q z h s =
     fixed-laid ts b (sym (rw (e, h) at f)) s
 
 -- The loop of `next_start`: looking on from here finds the same.
-pub record Seeking (lens l : List ℕ) (t a₀ n : ℕ) (b : List ℕ) (p₀ a left p : ℕ) : Type 0 where
-  pub row : Row lens l t a left
-  pub ranges : InRange (headsOf l t a left) b p 0
-  pub same : next (headsOf l t a left) b p ≡ next (headsOf l t a₀ n) b p₀
+pub record Seeking (lens l : List ℕ) (t a₀ apart n : ℕ) (b : List ℕ) (p₀ a left p : ℕ) : Type 0 where
+  pub row : Row lens l t a apart left
+  pub ranges : InRange (headsOf l t a apart left) b p 0
+  pub same : next (headsOf l t a apart left) b p ≡ next (headsOf l t a₀ apart n) b p₀
 
-module _ (lens l : List ℕ) (t a₀ n : ℕ) (b : List ℕ) (p₀ a left p f k : ℕ) (g : Seeking lens l t a₀ n b p₀ a left p) (z : 0 < left)
+module _ (lens l : List ℕ) (t a₀ apart n : ℕ) (b : List ℕ) (p₀ a left p f k : ℕ) (g : Seeking lens l t a₀ apart n b p₀ a left p) (z : 0 < left)
     (e : f ≡ wordAt l a) (q : k ≡ getD lens f 0) where
   module _ (v : k ≡ 0) where
-    seeking-offset : headsOf l t a left ≡ Variable ∷ headsOf l t (a + 1) (left - 1)
-    seeking-offset = row-heads lens l t a left f (g .row) z e Variable (row-variable lens l t a left f (g .row) z e k q v)
+    seeking-offset : headsOf l t a apart left ≡ Variable ∷ headsOf l t (a + apart) apart (left - 1)
+    seeking-offset = row-heads lens l t a apart left f (g .row) z e Variable (row-variable lens l t a apart left f (g .row) z e k q v)
 
     pub seeking-room : p + 4 ≤ length b
     unfolding InRange
     seeking-room = (rw seeking-offset at (g .ranges)) .0
 
-    pub seeking-found : four b p ≡ next (headsOf l t a₀ n) b p₀
+    pub seeking-found : four b p ≡ next (headsOf l t a₀ apart n) b p₀
     unfolding next
     seeking-found = rw seeking-offset at (g .same)
 
   module _ (v : k ≡ 0 → ⊥) where
-    seeking-heads : headsOf l t a left ≡ Fixed k ∷ headsOf l t (a + 1) (left - 1)
-    seeking-heads = row-heads lens l t a left f (g .row) z e (Fixed k) (row-fixed lens l t a left f (g .row) z e k q v)
+    seeking-heads : headsOf l t a apart left ≡ Fixed k ∷ headsOf l t (a + apart) apart (left - 1)
+    seeking-heads = row-heads lens l t a apart left f (g .row) z e (Fixed k) (row-fixed lens l t a apart left f (g .row) z e k q v)
 
     pub seeking-fits : p + k ≤ length b
     unfolding InRange
     seeking-fits = (rw seeking-heads at (g .ranges)) .0
 
-    pub seeking-next : Seeking lens l t a₀ n b p₀ (a + 1) (left - 1) (p + k)
+    pub seeking-next : Seeking lens l t a₀ apart n b p₀ (a + apart) (left - 1) (p + k)
     unfolding InRange next
     seeking-next =
         record {
-          row = row-next lens l t a left f (g .row) z e;
+          row = row-next lens l t a apart left f (g .row) z e;
           ranges = (rw seeking-heads at (g .ranges)) .1;
           same = rw seeking-heads at (g .same);
         }
 
-pub seeking-end : (lens l : List ℕ) (t a₀ n : ℕ) (b : List ℕ) (p₀ a left p : ℕ) → Seeking lens l t a₀ n b p₀ a left p → left ≤ 0 →
-    length b ≡ next (headsOf l t a₀ n) b p₀
+pub seeking-end : (lens l : List ℕ) (t a₀ apart n : ℕ) (b : List ℕ) (p₀ a left p : ℕ) → Seeking lens l t a₀ apart n b p₀ a left p → left ≤ 0 →
+    length b ≡ next (headsOf l t a₀ apart n) b p₀
 unfolding next
-seeking-end lens l t a₀ n b p₀ a left p g h = rw (heads-none l t a left h) at (g .same)
+seeking-end lens l t a₀ apart n b p₀ a left p g h = rw (heads-none l t a apart left h) at (g .same)
 
 -- Where a field lies within the bytes b, and how long it is.
 abbrev pub Lies : List ℕ → Span → Type 0
 Lies b w = (w .from ≤ w .to) × (w .to ≤ length b) × (length (part b w) ≡ w .to - w .from)
 
 -- Where the first field lies.
-module _ (lens l : List ℕ) (t a left f : ℕ) (b : List ℕ) (p : ℕ) (g : Row lens l t a left) (z : 0 < left) (e : f ≡ wordAt l a)
-    (r : InRange (headsOf l t a left) b p 0) where
-  first-ranges : (h : Head) → h ≡ head (treeOf l f) → InRange (h ∷ headsOf l t (a + 1) (left - 1)) b p 0
-  first-ranges h q = rw (row-heads lens l t a left f g z e h q) at r
+module _ (lens l : List ℕ) (t a apart left f : ℕ) (b : List ℕ) (p : ℕ) (g : Row lens l t a apart left) (z : 0 < left) (e : f ≡ wordAt l a)
+    (r : InRange (headsOf l t a apart left) b p 0) where
+  pub first-ranges : (h : Head) → h ≡ head (treeOf l f) → InRange (h ∷ headsOf l t (a + apart) apart (left - 1)) b p 0
+  first-ranges h q = rw (row-heads lens l t a apart left f g z e h q) at r
 
   pub first-fits : (k : ℕ) → Fixed k ≡ head (treeOf l f) → p + k ≤ length b
   unfolding InRange
@@ -220,12 +272,12 @@ module _ (lens l : List ℕ) (t a left f : ℕ) (b : List ℕ) (p : ℕ) (g : Ro
   unfolding InRange
   first-room q = first-ranges Variable q .0
 
-  pub first-rest : Variable ≡ head (treeOf l f) → InRange (headsOf l t (a + 1) (left - 1)) b (p + 4) 0
+  pub first-rest : Variable ≡ head (treeOf l f) → InRange (headsOf l t (a + apart) apart (left - 1)) b (p + 4) 0
   unfolding InRange
-  first-rest q = range-weaken (headsOf l t (a + 1) (left - 1)) b (p + 4) 0 (four b p) (omega arith) (first-ranges Variable q .3)
+  first-rest q = range-weaken (headsOf l t (a + apart) apart (left - 1)) b (p + 4) 0 (four b p) (omega arith) (first-ranges Variable q .3)
 
-  module _ (w : Span) (q : w ≡ spanOf (head (treeOf l f)) (headsOf l t (a + 1) (left - 1)) b p) where
-    pub span-ok : (w .from ≤ w .to) × (w .to ≤ length b) × InRange (headsOf l t (a + 1) (left - 1)) b (w .next) 0
+  module _ (w : Span) (q : w ≡ spanOf (head (treeOf l f)) (headsOf l t (a + apart) apart (left - 1)) b p) where
+    pub span-ok : (w .from ≤ w .to) × (w .to ≤ length b) × InRange (headsOf l t (a + apart) apart (left - 1)) b (w .next) 0
     span-ok = rw q (span-ranges _ _ b p (first-ranges _ refl))
 
     pub span-length : length (part b w) ≡ w .to - w .from

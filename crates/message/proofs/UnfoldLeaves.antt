@@ -192,6 +192,14 @@ pub bits-refused : (t limit : ℕ) (b : List ℕ) (r : Refusal) → BodyBits.Ref
 unfolding readItem
 bits-refused t limit b r e g = rw (← e) at (g .accepted)
 
+-- Where there are no words x, and the bytes y are b
+module _ (x y b : List ℕ) (e : (x ≡ []) × (y ≡ b)) (o p : List ℕ) (at : Place) where
+  pub bytes-room : Rooms o p at x y → Room p (at .byte) b
+  bytes-room g = rw (e .1) at (g .bytes)
+
+  pub bytes-filled : (r : ℕ) (p′ : List ℕ) → Stored p (at .byte) b r p′ → Filled o p at x y (record { word = at .word; byte = r }) o p′
+  bytes-filled r p′ g = record { words = stored-none o (at .word) x (e .0); bytes = rw (e .1) g }
+
 -- A leaf's room and what is stored there, by its kind
 module _ (t : ℕ) (n : Node) (b o p : List ℕ) (at : Place) where
   module _ (k : n .kind ≡ 3) where
@@ -206,15 +214,11 @@ module _ (t : ℕ) (n : Node) (b o p : List ℕ) (at : Place) where
 
   module _ (k : n .kind ≡ 3 → ⊥) (h : n .kind < 5) where
     pub plain-room : Rooms o p at (unfoldWords (leafOf t n) b) (unfoldBytes (leafOf t n) b) → Room p (at .byte) b
-    plain-room g = rw (leaf-plain t n b k h .1) at (g .bytes)
+    plain-room = bytes-room _ _ b (leaf-plain t n b k h) o p at
 
     pub plain-filled : (r : ℕ) (p′ : List ℕ) → Stored p (at .byte) b r p′ →
         Filled o p at (unfoldWords (leafOf t n) b) (unfoldBytes (leafOf t n) b) (record { word = at .word; byte = r }) o p′
-    plain-filled r p′ g =
-        record {
-          words = stored-none o (at .word) (unfoldWords (leafOf t n) b) (leaf-plain t n b k h .0);
-          bytes = rw (leaf-plain t n b k h .1) g;
-        }
+    plain-filled = bytes-filled _ _ b (leaf-plain t n b k h) o p at
 
   module _ (k : 5 ≤ n .kind) (c : ℕ) (e : BodyBits.Bits c ≡ bitListBody b (n .second)) where
     pub bits-rooms : Rooms o p at (unfoldWords (leafOf t n) b) (unfoldBytes (leafOf t n) b) → Rooms o p at (c ∷ []) (rawOf b c)

@@ -16,21 +16,23 @@ use lib.Dec.{ltb}
 use Rattle.standard.specs.Choice.{pick}
 use Rattle.standard.specs.Bytes.{Bytes, num}
 use Rattle.standard.specs.Bits.{packs, pack, marked}
-use Rattle.standard.specs.Types.{Ty, Tys, Opts, number, boolean, fixedBytes, freeBytes, bitVector, bitList, container, union, end, field, over, bare, body, head, heads, Rising, LegalTy, LegalAll, LegalOptions}
-use Rattle.standard.specs.Parts.{join, spanOf, part, split}
+use Rattle.standard.specs.Types.{Ty, Tys, Opts, number, boolean, fixedBytes, freeBytes, bitVector, bitList, container, union, list, vector, end, field, over, bare, body, head, heads, Rising, LegalTy, LegalAll, LegalOptions}
+use Rattle.standard.specs.Parts.{alike, join, spanOf, part, split}
 use Rattle.standard.specs.Serialize.{Val, Vals, Option, Ok, OkAll, OkOption, serialize, parts}
 use Rattle.standard.specs.declared.Refusal.{Refusal}
 use Rattle.standard.specs.declared.Refusal.the-variants.{NoRoom}
 use Rattle.standard.proofs.Bits.{bitsOf, marked-injective, bytes-marked}
-use Rattle.standard.proofs.Join.{Small, split-join, small-join}
-use Rattle.standard.proofs.Laws.{heads-parts, values-sized, piece-bytes, piece-rest, selector, payload, selected-is, selector-bounds}
+use Rattle.standard.proofs.Join.{Small, join-ranges, join-next, split-join, small-join}
+use Rattle.standard.proofs.Elements.{All, copies, all-copies, asList, length-asList, by-copies, alike-copies, ok-copies}
+use Rattle.standard.proofs.Laws.{fixed-some, heads-parts, legal-copies, copies-heads, values-sized, piece-bytes, piece-rest, selector, payload, selected-is, selector-bounds}
 use Rattle.bitfield.proofs.Standard.{list-sound, list-complete}
 use Rattle.layout.specs.Table.{tableOf}
 use Rattle.layout.specs.declared.Checked.the-variants.{Upto}
-use Rattle.message.specs.Read.{rawBytes}
+use Rattle.message.specs.Read.{rawBytes, elements}
 use Rattle.message.specs.Check.{messageType, checkMessage, typeUnder}
 use Rattle.message.specs.Form.{rawBits, contents, contentsAll, contentsOption, bodies, bodiesAll, bodiesOption}
 use Rattle.message.specs.Unfold.{rawOf, unfoldWords, wordsFields, wordsOption, unfoldBytes, bytesFields, bytesOption, unfoldedOf, filledOf, unfoldMessage, unfoldedWords, unfoldedBytes}
+use Rattle.message.specs.declared.elements.Elements.the-variants.{Many}
 use Rattle.message.specs.declared.Counts.{Counts}
 use Rattle.message.specs.declared.Answer.{Answer}
 use Rattle.message.specs.declared.Answer.the-variants.{Accepted, Refused}
@@ -38,6 +40,7 @@ use Rattle.message.specs.declared.Unfolded.{Unfolded}
 use Rattle.message.proofs.Answers.{pick-right}
 use Rattle.message.proofs.Theorem.{sound, complete, message-read, message-legal}
 use Rattle.message.proofs.UnfoldCounts.{words-counted, bytes-counted}
+use Rattle.message.proofs.Copies.{Laid, laid-elements, words-copies, bytes-copies, contents-copies, bodies-copies}
 
 -- Bits: raw bytes of a vector are its bytes, and those of a list are its bytes without the mark.
 vector-raw : (bs : List Bool) → 1 ≤ length bs → pack bs ≡ rawBits bs
@@ -50,8 +53,85 @@ list-raw bs =
     let q = list-sound (marked bs) (length bs) (length bs) (bytes-marked bs) (list-complete bs (length bs) (omega arith)) in
     ap (packs (rawBytes (length bs))) (marked-injective (bitsOf (length bs) (num (marked bs))) bs (q .0))
 
+-- The law about one type, from it that about a row of fields, and that about elements
+Unfolds : Ty → Type 0
+Unfolds t =
+    (v : Val t) → LegalTy t → Ok t v → length (serialize t v) < 2 ^ 32
+    → (unfoldWords t (serialize t v) ≡ contents t v) × (unfoldBytes t (serialize t v) ≡ bodies t v)
+
+row-unfolds :
+    (ts : Tys) → All Unfolds ts → (vs : Vals ts) (b : List ℕ) (p : ℕ) → LegalAll ts → OkAll ts vs → Small (parts ts vs)
+    → split (heads ts) b p ≡ parts ts vs → (wordsFields ts b p ≡ contentsAll ts vs) × (bytesFields ts b p ≡ bodiesAll ts vs)
+unfolding Unfolds unfoldWords unfoldBytes contents bodies serialize Ok heads split Small LegalTy
+row-unfolds end f vs b p l h k e = (refl, refl)
+row-unfolds (field t ts) f vs b p l h k e =
+    let w = spanOf (head t) (heads ts) b p in
+    let u = piece-bytes (head t) (part b w) (serialize t (vs .0)) (split (heads ts) b (w .next)) (parts ts (vs .1)) e in
+    let r = piece-rest (head t) (part b w) (serialize t (vs .0)) (split (heads ts) b (w .next)) (parts ts (vs .1)) e in
+    let x = f .0 (vs .0) (l .0) (h .0) (k .0) in
+    let y = row-unfolds ts (f .1) (vs .1) b (w .next) (l .1) (h .1) (k .1) r in (
+      ap₂ (λ (i j : List ℕ). i ++ j) (ap (unfoldWords t) u ∙ x .0) (y .0),
+      ap₂ (λ (i j : List ℕ). i ++ j) (ap (unfoldBytes t) u ∙ x .1) (y .1),
+    )
+
+whole-unfolds :
+    (ts : Tys) → All Unfolds ts → (vs : Vals ts) → LegalAll ts → OkAll ts vs → length (join (parts ts vs)) < 2 ^ 32
+    → (wordsFields ts (join (parts ts vs)) 0 ≡ contentsAll ts vs) × (bytesFields ts (join (parts ts vs)) 0 ≡ bodiesAll ts vs)
+whole-unfolds ts f vs l h k =
+    let xs = parts ts vs in
+    let z = values-sized ts vs h in
+    row-unfolds ts f vs (join xs) 0 l h (small-join xs z k) (rw (heads-parts ts vs) at (split-join xs z k))
+
+module _ (e : Ty) (f : Unfolds e) (l : LegalTy e) (n : ℕ) (vs : Vals (copies e n)) (h : OkAll (copies e n) vs)
+    (k : length (join (parts (copies e n) vs)) < 2 ^ 32) where
+  copies-unfold : (wordsFields (copies e n) (join (parts (copies e n) vs)) 0 ≡ contentsAll (copies e n) vs) ×
+      (bytesFields (copies e n) (join (parts (copies e n) vs)) 0 ≡ bodiesAll (copies e n) vs)
+  copies-unfold = whole-unfolds (copies e n) (all-copies Unfolds e n f) vs (legal-copies e n l) h k
+
+  -- what a list of these elements is counted as
+  copies-many : (limit : ℕ) → n ≤ limit → elements (head e) limit (join (parts (copies e n) vs)) ≡ Many n
+  copies-many limit m =
+      let xs = parts (copies e n) vs in
+      let z = values-sized (copies e n) vs h in
+      let d = copies-heads e n vs in
+      laid-elements (head e) limit (join xs) n (λ i j. fixed-some e i l j) m
+      (record { ranges = rw d at (join-ranges xs z k); first = rw d at (join-next xs z k) })
+
+list-unfolds :
+    (t : ℕ) (e : Ty) (limit : ℕ) → Unfolds e → LegalTy e → (vs : List (Val e)) → Ok (list t e limit) vs → length (serialize (list t e limit) vs) < 2 ^ 32
+    → (unfoldWords (list t e limit) (serialize (list t e limit) vs) ≡ contents (list t e limit) vs) ×
+    (unfoldBytes (list t e limit) (serialize (list t e limit) vs) ≡ bodies (list t e limit) vs)
+unfolding unfoldWords unfoldBytes contents bodies serialize Ok
+list-unfolds t e limit f l =
+    by-copies e _
+    (λ n vs h k.
+    let q = alike-copies e n vs in
+    let o = ok-copies e n vs (h .1) in
+    let small = rw q at k in
+    let m : n ≤ limit = rw (length-asList e n vs) at (h .0) in
+    let r = copies-unfold e f l n vs o small in
+    let c = copies-many e f l n vs o small limit m in (
+      rw (q, c, words-copies e n (join (parts (copies e n) vs)) 0, contents-copies e n vs, length-asList e n vs, r .0),
+      rw (q, c, bytes-copies e n (join (parts (copies e n) vs)) 0, bodies-copies e n vs, r .1),
+    ))
+
+vector-unfolds :
+    (t : ℕ) (e : Ty) (m : ℕ) → Unfolds e → LegalTy e → (vs : List (Val e)) → Ok (vector t e m) vs → length (serialize (vector t e m) vs) < 2 ^ 32
+    → (unfoldWords (vector t e m) (serialize (vector t e m) vs) ≡ contents (vector t e m) vs) ×
+    (unfoldBytes (vector t e m) (serialize (vector t e m) vs) ≡ bodies (vector t e m) vs)
+unfolding unfoldWords unfoldBytes contents bodies serialize Ok
+vector-unfolds t e m f l =
+    by-copies e _
+    (λ n vs h k.
+    let q = alike-copies e n vs in
+    let i : m ≡ n = sym (h .0) ∙ length-asList e n vs in
+    let r = copies-unfold e f l n vs (ok-copies e n vs (h .1)) (rw q at k) in (
+      rw (q, i, words-copies e n (join (parts (copies e n) vs)) 0, contents-copies e n vs, r .0),
+      rw (q, i, bytes-copies e n (join (parts (copies e n) vs)) 0, bodies-copies e n vs, r .1),
+    ))
+
 mutual
-  unfolding unfoldWords unfoldBytes contents bodies serialize Ok heads split Small LegalTy Rising selector payload
+  unfolding Unfolds unfoldWords unfoldBytes contents bodies serialize Ok LegalTy Rising selector payload
 
   pub unfolds :
       (t : Ty) (v : Val t) → LegalTy t → Ok t v → length (serialize t v) < 2 ^ 32
@@ -62,28 +142,16 @@ mutual
   unfolds (freeBytes t limit) bs l h k = (refl, refl)
   unfolds (bitVector t n) bs l h k = (refl, vector-raw bs (rw h l))
   unfolds (bitList t limit) bs l h k = (rw (list-complete bs limit h), rw (list-complete bs limit h) (list-raw bs))
-  unfolds (container t ts) vs l h k =
-      let xs = parts ts vs in
-      let z = values-sized ts vs h in
-      let q = rw (heads-parts ts vs) at (split-join xs z k) in
-      unfolds-fields ts vs (join xs) 0 (l .1) h (small-join xs z k) q
+  unfolds (container t ts) vs l h k = whole-unfolds ts (all-unfold ts) vs (l .1) h k
   unfolds (union t os) v l h k =
       let e = selected-is os v in
       rw e (unfolds-option os v 0 (l .1) (l .2) h (rw e at k))
+  unfolds (list t e limit) vs l h k = list-unfolds t e limit (λ v i j m. unfolds e v i j m) l vs h k
+  unfolds (vector t e n) vs l h k = vector-unfolds t e n (λ v i j m. unfolds e v i j m) (l .1) vs h k
 
-  unfolds-fields :
-      (ts : Tys) (vs : Vals ts) (b : List ℕ) (p : ℕ) → LegalAll ts → OkAll ts vs → Small (parts ts vs)
-      → split (heads ts) b p ≡ parts ts vs → (wordsFields ts b p ≡ contentsAll ts vs) × (bytesFields ts b p ≡ bodiesAll ts vs)
-  unfolds-fields end vs b p l h k e = (refl, refl)
-  unfolds-fields (field t ts) vs b p l h k e =
-      let w = spanOf (head t) (heads ts) b p in
-      let u = piece-bytes (head t) (part b w) (serialize t (vs .0)) (split (heads ts) b (w .next)) (parts ts (vs .1)) e in
-      let r = piece-rest (head t) (part b w) (serialize t (vs .0)) (split (heads ts) b (w .next)) (parts ts (vs .1)) e in
-      let x = unfolds t (vs .0) (l .0) (h .0) (k .0) in
-      let y = unfolds-fields ts (vs .1) b (w .next) (l .1) (h .1) (k .1) r in (
-        ap₂ (λ (i j : List ℕ). i ++ j) (ap (unfoldWords t) u ∙ x .0) (y .0),
-        ap₂ (λ (i j : List ℕ). i ++ j) (ap (unfoldBytes t) u ∙ x .1) (y .1),
-      )
+  all-unfold : (ts : Tys) → All Unfolds ts
+  all-unfold end = tt
+  all-unfold (field t ts) = ((λ v l h k. unfolds t v l h k), all-unfold ts)
 
   unfolds-option :
       (os : Opts) (v : Option os) (k : ℕ) → Rising k os → LegalOptions os → OkOption os v → length (selector os v ∷ payload os v) < 2 ^ 32

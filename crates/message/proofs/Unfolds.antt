@@ -2,51 +2,42 @@
 use mathlib.Core.Path.{_≡_, refl, sym, ap, _∙_}
 use mathlib.Core.List.{List, [], _∷_, _++_, append-nil, append-assoc}
 use mathlib.Core.Bool.{Bool, true, false}
-use Prim.Native.Nat.{ℕ, zero, suc, _+_, _-_, _≤_, _<_}
+use Prim.Native.Nat.{ℕ, zero, suc, _+_, _-_, _*_, _≤_, _<_, _^_}
 use native.Mathlib.Nat.{add-zero}
 use native.Mathlib.Omega.{arith}
 use borrow.Author.Tests.{eqb-true, eqb-false, eq-eqb, ne-eqb}
-use lib.ListN.{length, getD, take, drop, length-drop}
-use lib.Seq.{take-all}
+use lib.ListN.{length, getD, take, drop, length-drop, take-append-drop, drop-of-length-le}
+use lib.Seq.{take-all, drop-drop}
 use lib.Dec.{eqb}
 use Rattle.standard.specs.Choice.{pick}
 use Rattle.standard.specs.Bytes.{wordAt, Stored, Room}
 use Rattle.standard.specs.Types.{Ty, Opts, boolean, union, bare, body, head}
 use Rattle.standard.specs.Parts.{spanOf, part, InRange}
+use Rattle.standard.specs.declared.Head.the-variants.{Fixed}
 use Rattle.standard.specs.declared.Span.{Span}
 use Rattle.standard.specs.declared.Refusal.{Refusal}
+use Rattle.standard.proofs.Elements.{copies}
 use Rattle.standard.proofs.Store.{stored-then, stored-none, room-first, room-then}
 use Rattle.layout.specs.Tree.{nodeOf, leafOf, options, trees, treeOf}
 use Rattle.layout.specs.declared.Node.{Node}
-use Rattle.layout.proofs.Facts.{trees-get, as-container, as-union, as-leaf, fields-first, fields-none}
-use Rattle.message.specs.Read.{andThen, readItem, readFields}
+use Rattle.layout.proofs.Facts.{trees-get, as-union, as-leaf, legal-node}
+use Rattle.message.specs.Read.{elements, manyOf, readItem, readFields}
 use Rattle.message.specs.Unfold.{unfoldWords, wordsFields, wordsOption, unfoldBytes, bytesFields, bytesOption, Accepts, AcceptsAll, Rooms, Filled}
-use Rattle.message.specs.Steps.{Under, Row, rowOf, headsOf, choose, IsAccepted}
-use Rattle.message.specs.declared.Counts.{Counts}
-use Rattle.message.specs.declared.Answer.{Answer}
-use Rattle.message.specs.declared.Answer.the-variants.{Accepted, Refused}
+use Rattle.message.specs.Steps.{Under, Row, rowOf, headsOf, manyIn, countOf, choose, IsAccepted}
 use Rattle.message.specs.declared.items.Choice.{Choice}
 use Rattle.message.specs.declared.unfolding.Place.{Place}
-use Rattle.message.proofs.Rows.{row-next, span-ok}
+use Rattle.message.proofs.Answers.{then-both}
+use Rattle.message.proofs.Copies.{laid-fixed}
+use Rattle.message.proofs.Rows.{row-none, row-first, row-next, container-tree, span-ok}
 use Rattle.message.proofs.Bodies.{fields-read, bare-says, body-says, body-below}
-use Rattle.message.proofs.Entries.{below-six, container-accepted, union-never, body-accepted}
-use Rattle.message.proofs.Theorem.{read-start}
-use Rattle.message.proofs.UnfoldLeaves.{plain-room, plain-filled}
+use Rattle.message.proofs.Entries.{accepted-start, container-accepted, union-never, body-accepted}
+use Rattle.message.proofs.Repeats.{element-copies, list-words, vector-words}
+use Rattle.message.proofs.Manys.{many-held, many-ranges, many-few, many-row}
+use Rattle.message.proofs.UnfoldLeaves.{leaf-plain, bytes-room, bytes-filled}
 
--- An acceptance, and where its item starts
-accepted-says : (x : Answer) → IsAccepted x → (c : Counts) × (x ≡ Accepted c)
-accepted-says (Accepted c) h = (c, refl)
-accepted-says (Refused r t s) h = absurd h
-
+-- An item that is accepted where it starts
 pub accepts-at : (t : Ty) (b : List ℕ) (s : ℕ) → IsAccepted (readItem t b s) → Accepts t b
-accepts-at t b s h =
-    let q = accepted-says (readItem t b s) h in
-    record { accepted = rw (read-start t b s 0 (q .0) (q .1)) tt }
-
-then-both : (x y : Answer) → IsAccepted (andThen x y) → IsAccepted x × IsAccepted y
-then-both (Accepted c) (Accepted d) h = (tt, tt)
-then-both (Accepted c) (Refused r t s) h = absurd h
-then-both (Refused r t s) y h = absurd h
+accepts-at t b s h = record { accepted = accepted-start t b s 0 h }
 
 -- First x and y, then x′ and y′: together u and v.
 pub filled-then :
@@ -75,58 +66,58 @@ rooms-then o p at u v x y x′ y′ r o₁ p₁ g e f h =
       bytes = room-then p (at .byte) v y y′ (r .byte) p₁ (g .bytes) f (h .bytes);
     }
 
--- The selector of a union alone
-pub selector-filled :
-    (o p : List ℕ) (at : Place) (x : ℕ) (r : Place) (o′ : List ℕ)
-    → Stored o (at .word) (x ∷ []) (r .word) o′ → r .byte ≡ at .byte → Filled o p at (x ∷ []) [] r o′ p
-selector-filled o p at x r o′ g e = record { words = g; bytes = record { list = refl; ends = e ∙ sym (add-zero (at .byte)) } }
+-- Words alone: the selector of a union, the count of a list
+pub words-filled :
+    (o p : List ℕ) (at : Place) (x : List ℕ) (r : Place) (o′ : List ℕ)
+    → Stored o (at .word) x (r .word) o′ → r .byte ≡ at .byte → Filled o p at x [] r o′ p
+words-filled o p at x r o′ g e = record { words = g; bytes = record { list = refl; ends = e ∙ sym (add-zero (at .byte)) } }
 
 -- The first field's value form, and that of the rest
-module _ (lens l : List ℕ) (t a left f : ℕ) (b : List ℕ) (q : ℕ) (g : Row lens l t a left) (z : 0 < left) (e : f ≡ wordAt l a) (w : Span)
-    (i : w ≡ spanOf (head (treeOf l f)) (headsOf l t (a + 1) (left - 1)) b q) where
-  fields-words : wordsFields (rowOf l t a left) b q ≡ unfoldWords (treeOf l f) (part b w) ++ wordsFields (rowOf l t (a + 1) (left - 1)) b (w .next)
+module _ (lens l : List ℕ) (t a step left f : ℕ) (b : List ℕ) (q : ℕ) (g : Row lens l t a step left) (z : 0 < left) (e : f ≡ wordAt l a) (w : Span)
+    (i : w ≡ spanOf (head (treeOf l f)) (headsOf l t (a + step) step (left - 1)) b q) where
+  fields-words : wordsFields (rowOf l t a step left) b q ≡ unfoldWords (treeOf l f) (part b w) ++ wordsFields (rowOf l t (a + step) step (left - 1)) b (w .next)
   unfolding unfoldWords
-  fields-words = rw (fields-first l t a left (g .lower) z, i, e)
+  fields-words = rw (row-first l t a step left (g .named) z, i, e)
 
-  fields-bytes : bytesFields (rowOf l t a left) b q ≡ unfoldBytes (treeOf l f) (part b w) ++ bytesFields (rowOf l t (a + 1) (left - 1)) b (w .next)
+  fields-bytes : bytesFields (rowOf l t a step left) b q ≡ unfoldBytes (treeOf l f) (part b w) ++ bytesFields (rowOf l t (a + step) step (left - 1)) b (w .next)
   unfolding unfoldBytes
-  fields-bytes = rw (fields-first l t a left (g .lower) z, i, e)
+  fields-bytes = rw (row-first l t a step left (g .named) z, i, e)
 
 -- The loop of `unfold_fields`.
-pub record Filling (lens l : List ℕ) (t a₀ n : ℕ) (b o₀ p₀ : List ℕ) (at₀ : Place) (o p : List ℕ) (at : Place) (a left q : ℕ) : Type 0 where
-  pub row : Row lens l t a left
-  pub ranges : InRange (headsOf l t a left) b q 0
-  pub accepted : AcceptsAll (rowOf l t a left) b q
-  pub rooms : Rooms o p at (wordsFields (rowOf l t a left) b q) (bytesFields (rowOf l t a left) b q)
+pub record Filling (lens l : List ℕ) (t a₀ step n : ℕ) (b o₀ p₀ : List ℕ) (at₀ : Place) (o p : List ℕ) (at : Place) (a left q : ℕ) : Type 0 where
+  pub row : Row lens l t a step left
+  pub ranges : InRange (headsOf l t a step left) b q 0
+  pub accepted : AcceptsAll (rowOf l t a step left) b q
+  pub rooms : Rooms o p at (wordsFields (rowOf l t a step left) b q) (bytesFields (rowOf l t a step left) b q)
   pub words : List ℕ
   pub bytes : List ℕ
   pub filled : Filled o₀ p₀ at₀ words bytes at o p
-  pub all-words : wordsFields (rowOf l t a₀ n) b 0 ≡ words ++ wordsFields (rowOf l t a left) b q
-  pub all-bytes : bytesFields (rowOf l t a₀ n) b 0 ≡ bytes ++ bytesFields (rowOf l t a left) b q
+  pub all-words : wordsFields (rowOf l t a₀ step n) b 0 ≡ words ++ wordsFields (rowOf l t a step left) b q
+  pub all-bytes : bytesFields (rowOf l t a₀ step n) b 0 ≡ bytes ++ bytesFields (rowOf l t a step left) b q
 
-module _ (lens l : List ℕ) (t a₀ n : ℕ) (b o₀ p₀ : List ℕ) (at₀ : Place) (o p : List ℕ) (at : Place) (a left q f : ℕ)
-    (g : Filling lens l t a₀ n b o₀ p₀ at₀ o p at a left q) (z : 0 < left) (e : f ≡ wordAt l a) (w : Span)
-    (i : w ≡ spanOf (head (treeOf l f)) (headsOf l t (a + 1) (left - 1)) b q) where
-  filling-both : IsAccepted (readItem (treeOf l f) (part b w) (0 + w .from)) × IsAccepted (readFields (rowOf l t (a + 1) (left - 1)) b (w .next) 0)
-  filling-both = then-both (readItem (treeOf l f) (part b w) (0 + w .from)) (readFields (rowOf l t (a + 1) (left - 1)) b (w .next) 0)
-      (rw (fields-read lens l t a left f b q (g .row) z e w i 0) at (g .accepted .accepted))
+module _ (lens l : List ℕ) (t a₀ step n : ℕ) (b o₀ p₀ : List ℕ) (at₀ : Place) (o p : List ℕ) (at : Place) (a left q f : ℕ)
+    (g : Filling lens l t a₀ step n b o₀ p₀ at₀ o p at a left q) (z : 0 < left) (e : f ≡ wordAt l a) (w : Span)
+    (i : w ≡ spanOf (head (treeOf l f)) (headsOf l t (a + step) step (left - 1)) b q) where
+  filling-both : IsAccepted (readItem (treeOf l f) (part b w) (0 + w .from)) × IsAccepted (readFields (rowOf l t (a + step) step (left - 1)) b (w .next) 0)
+  filling-both = then-both (readItem (treeOf l f) (part b w) (0 + w .from)) (readFields (rowOf l t (a + step) step (left - 1)) b (w .next) 0)
+      (rw (fields-read lens l t a step left f b q (g .row) z e w i 0) at (g .accepted .accepted))
 
   pub filling-accepts : Accepts (treeOf l f) (part b w)
   filling-accepts = accepts-at (treeOf l f) (part b w) (0 + w .from) (filling-both .0)
 
   pub filling-rooms : Rooms o p at (unfoldWords (treeOf l f) (part b w)) (unfoldBytes (treeOf l f) (part b w))
-  filling-rooms = rooms-first o p at _ _ _ _ _ _ (g .rooms) (fields-words lens l t a left f b q (g .row) z e w i)
-      (fields-bytes lens l t a left f b q (g .row) z e w i)
+  filling-rooms = rooms-first o p at _ _ _ _ _ _ (g .rooms) (fields-words lens l t a step left f b q (g .row) z e w i)
+      (fields-bytes lens l t a step left f b q (g .row) z e w i)
 
   pub filling-next :
       (r : Place) (o′ p′ : List ℕ) → Filled o p at (unfoldWords (treeOf l f) (part b w)) (unfoldBytes (treeOf l f) (part b w)) r o′ p′
-      → Filling lens l t a₀ n b o₀ p₀ at₀ o′ p′ r (a + 1) (left - 1) (w .next)
+      → Filling lens l t a₀ step n b o₀ p₀ at₀ o′ p′ r (a + step) (left - 1) (w .next)
   filling-next r o′ p′ h =
-      let u = fields-words lens l t a left f b q (g .row) z e w i in
-      let v = fields-bytes lens l t a left f b q (g .row) z e w i in
+      let u = fields-words lens l t a step left f b q (g .row) z e w i in
+      let v = fields-bytes lens l t a step left f b q (g .row) z e w i in
       record {
-        row = row-next lens l t a left f (g .row) z e;
-        ranges = span-ok lens l t a left f b q (g .row) z e (g .ranges) w i .2;
+        row = row-next lens l t a step left f (g .row) z e;
+        ranges = span-ok lens l t a step left f b q (g .row) z e (g .ranges) w i .2;
         accepted = record { accepted = filling-both .1 };
         rooms = rooms-then o p at _ _ _ _ _ _ r o′ p′ (g .rooms) u v h;
         words = g .words ++ unfoldWords (treeOf l f) (part b w);
@@ -137,13 +128,13 @@ module _ (lens l : List ℕ) (t a₀ n : ℕ) (b o₀ p₀ : List ℕ) (at₀ : 
       }
 
 pub filling-end :
-    (lens l : List ℕ) (t a₀ n : ℕ) (b o₀ p₀ : List ℕ) (at₀ : Place) (o p : List ℕ) (at : Place) (a left q : ℕ)
-    → Filling lens l t a₀ n b o₀ p₀ at₀ o p at a left q → left ≤ 0
-    → Filled o₀ p₀ at₀ (wordsFields (rowOf l t a₀ n) b 0) (bytesFields (rowOf l t a₀ n) b 0) at o p
+    (lens l : List ℕ) (t a₀ step n : ℕ) (b o₀ p₀ : List ℕ) (at₀ : Place) (o p : List ℕ) (at : Place) (a left q : ℕ)
+    → Filling lens l t a₀ step n b o₀ p₀ at₀ o p at a left q → left ≤ 0
+    → Filled o₀ p₀ at₀ (wordsFields (rowOf l t a₀ step n) b 0) (bytesFields (rowOf l t a₀ step n) b 0) at o p
 unfolding unfoldWords unfoldBytes
-filling-end lens l t a₀ n b o₀ p₀ at₀ o p at a left q g h =
-    let e : wordsFields (rowOf l t a₀ n) b 0 ≡ g .words = g .all-words ∙ rw (fields-none l (trees l t) a left h, append-nil) in
-    let f : bytesFields (rowOf l t a₀ n) b 0 ≡ g .bytes = g .all-bytes ∙ rw (fields-none l (trees l t) a left h, append-nil) in
+filling-end lens l t a₀ step n b o₀ p₀ at₀ o p at a left q g h =
+    let e : wordsFields (rowOf l t a₀ step n) b 0 ≡ g .words = g .all-words ∙ rw (row-none l t a step left h, append-nil) in
+    let f : bytesFields (rowOf l t a₀ step n) b 0 ≡ g .bytes = g .all-bytes ∙ rw (row-none l t a step left h, append-nil) in
     rw (e, f) (g .filled)
 
 -- The option that is asked for: of words and of bytes alike.
@@ -196,6 +187,46 @@ module _ (l : List ℕ) (lower : List Ty) (b : List ℕ) (a n : ℕ) (h : getD b
   unfolding unfoldBytes
   bytes-chosen = made-chosen l lower b unfoldBytes bytesOption (λ j os k. refl) (λ j o os k. refl) a n h
 
+-- The items of a kind below 3 are copied.
+module _ (l : List ℕ) (f : ℕ) (n : Node) (e : n ≡ nodeOf l f) (h : n .kind < 3) where
+  copied-tree : treeOf l f ≡ leafOf f n
+  copied-tree = as-leaf l f n e (omega arith)
+
+  copied-item : (b : List ℕ) → (unfoldWords (treeOf l f) b ≡ []) × (unfoldBytes (treeOf l f) b ≡ b)
+  copied-item b = rw copied-tree (leaf-plain f n b (λ (q : n .kind ≡ 3). omega arith) (omega arith))
+
+  copied-head : (w : ℕ) × (head (treeOf l f) ≡ Fixed w)
+  unfolding leafOf head
+  copied-head = rw copied-tree (go (n .kind) h)
+    where
+      go : (i : ℕ) → i < 3 → (w : ℕ) × (head (leafOf f (record { kind = i; at = n .at; second = n .second })) ≡ Fixed w)
+      go zero k = (_, refl)
+      go (suc zero) k = (_, refl)
+      go (suc (suc zero)) k = (_, refl)
+      go (suc (suc (suc i))) k = absurd (omega arith)
+
+  module _ (b o p : List ℕ) (at : Place) where
+    pub copied-room : Rooms o p at (unfoldWords (treeOf l f) b) (unfoldBytes (treeOf l f) b) → Room p (at .byte) b
+    copied-room = bytes-room _ _ b (copied-item b) o p at
+
+    pub copied-filled : (r : ℕ) (p′ : List ℕ) → Stored p (at .byte) b r p′ →
+        Filled o p at (unfoldWords (treeOf l f) b) (unfoldBytes (treeOf l f) b) (record { word = at .word; byte = r }) o p′
+    copied-filled = bytes-filled _ _ b (copied-item b) o p at
+
+-- Items of one such type lie one behind another from p on: together they are the bytes from there.
+copied-row :
+    (e : Ty) (w m : ℕ) → head e ≡ Fixed w → ((x : List ℕ) → (unfoldWords e x ≡ []) × (unfoldBytes e x ≡ x)) → (b : List ℕ) (p : ℕ)
+    → p + m * w ≡ length b → (wordsFields (copies e m) b p ≡ []) × (bytesFields (copies e m) b p ≡ drop p b)
+unfolding unfoldWords unfoldBytes
+copied-row e w zero q f b p h = (refl, sym (drop-of-length-le b {i = p} (omega arith)))
+copied-row e w (suc m) q f b p h =
+    let r = copied-row e w m q f b (p + w) (omega arith) in
+    let i : p + w - p ≡ w = omega arith in (
+      rw (q, f _ .0, r .0),
+      rw (q, f _ .1, r .1, i, ← drop-drop w p b)
+          (take-append-drop w (drop p b)),
+    )
+
 -- Items, by their kind
 pub union-some : (t : ℕ) (os : Opts) (b : List ℕ) → Accepts (union t os) b → 1 ≤ length b
 unfolding readItem
@@ -204,41 +235,92 @@ union-some t os (x ∷ b) g = omega arith
 
 module _ (lens l : List ℕ) (t : ℕ) (n : Node) (e : n ≡ nodeOf l t) (g : Under lens l (t + 1)) (b : List ℕ) (h : Accepts (treeOf l t) b) where
   module _ (k : n .kind ≡ 6) where
-    pub fields-accepts : InRange (headsOf l t (n .at + 2) (n .second)) b 0 0 × AcceptsAll (rowOf l t (n .at + 2) (n .second)) b 0
+    pub fields-accepts : InRange (headsOf l t (n .at + 2) 1 (n .second)) b 0 0 × AcceptsAll (rowOf l t (n .at + 2) 1 (n .second)) b 0
     fields-accepts =
         let q = container-accepted lens l t n e g b 0 (h .accepted) k in
         (q .0, record { accepted = q .1 })
 
-    pub container-words : unfoldWords (treeOf l t) b ≡ wordsFields (rowOf l t (n .at + 2) (n .second)) b 0
+    pub container-words : unfoldWords (treeOf l t) b ≡ wordsFields (rowOf l t (n .at + 2) 1 (n .second)) b 0
     unfolding unfoldWords
-    container-words = rw (as-container l t n e k)
+    container-words = rw (container-tree l t n e k)
 
-    pub container-bytes : unfoldBytes (treeOf l t) b ≡ bytesFields (rowOf l t (n .at + 2) (n .second)) b 0
+    pub container-bytes : unfoldBytes (treeOf l t) b ≡ bytesFields (rowOf l t (n .at + 2) 1 (n .second)) b 0
     unfolding unfoldBytes
-    container-bytes = rw (as-container l t n e k)
+    container-bytes = rw (container-tree l t n e k)
 
     pub container-rooms : (o p : List ℕ) (at : Place) → Rooms o p at (unfoldWords (treeOf l t) b) (unfoldBytes (treeOf l t) b) →
-        Rooms o p at (wordsFields (rowOf l t (n .at + 2) (n .second)) b 0) (bytesFields (rowOf l t (n .at + 2) (n .second)) b 0)
+        Rooms o p at (wordsFields (rowOf l t (n .at + 2) 1 (n .second)) b 0) (bytesFields (rowOf l t (n .at + 2) 1 (n .second)) b 0)
     container-rooms o p at r = rw (container-words, container-bytes) at r
 
     pub container-filled :
-        (o p : List ℕ) (at r : Place) (o′ p′ : List ℕ) → Filled o p at (wordsFields (rowOf l t (n .at + 2) (n .second)) b 0)
-        (bytesFields (rowOf l t (n .at + 2) (n .second)) b 0) r o′ p′
+        (o p : List ℕ) (at r : Place) (o′ p′ : List ℕ) → Filled o p at (wordsFields (rowOf l t (n .at + 2) 1 (n .second)) b 0)
+        (bytesFields (rowOf l t (n .at + 2) 1 (n .second)) b 0) r o′ p′
         → Filled o p at (unfoldWords (treeOf l t) b) (unfoldBytes (treeOf l t) b) r o′ p′
     container-filled o p at r o′ p′ q = rw (container-words, container-bytes) q
 
-  module _ (c : n .kind ≡ 6 → ⊥) (u : n .kind ≡ 7 → ⊥) where
+  module _ (c : n .kind < 6) where
     pub leaf-accepts : Accepts (leafOf t n) b
-    leaf-accepts = rw (as-leaf l t n e c u) at h
+    leaf-accepts = rw (as-leaf l t n e c) at h
 
     pub leaf-rooms : (o p : List ℕ) (at : Place) → Rooms o p at (unfoldWords (treeOf l t) b) (unfoldBytes (treeOf l t) b) →
         Rooms o p at (unfoldWords (leafOf t n) b) (unfoldBytes (leafOf t n) b)
-    leaf-rooms o p at r = rw (as-leaf l t n e c u) at r
+    leaf-rooms o p at r = rw (as-leaf l t n e c) at r
 
     pub leaf-filled :
         (o p : List ℕ) (at r : Place) (o′ p′ : List ℕ) → Filled o p at (unfoldWords (leafOf t n) b) (unfoldBytes (leafOf t n) b) r o′ p′
         → Filled o p at (unfoldWords (treeOf l t) b) (unfoldBytes (treeOf l t) b) r o′ p′
-    leaf-filled o p at r o′ p′ q = rw (as-leaf l t n e c u) q
+    leaf-filled o p at r o′ p′ q = rw (as-leaf l t n e c) q
+
+  -- The m elements of a list or vector, behind a list's count.
+  module _ (k : 8 ≤ n .kind) (m : ℕ) (c : m ≡ manyIn l n (head (treeOf l (n .second))) b) where
+    pub elements-accept : length b < 2 ^ 32 → Row lens l t (n .at + 1) 0 m × InRange (headsOf l t (n .at + 1) 0 m) b 0 0 ×
+        AcceptsAll (rowOf l t (n .at + 1) 0 m) b 0 × (m < 2 ^ 32)
+    elements-accept z =
+        rw c (
+          many-row lens l t n e g k b 0 (h .accepted) z,
+          many-ranges lens l t n e g k b 0 (h .accepted),
+          record { accepted = many-held lens l t n e g k b 0 (h .accepted) .accepted },
+          omega (arith, many-few lens l t n e g k b 0 (h .accepted)),
+        )
+
+    pub elements-words : unfoldWords (treeOf l t) b ≡ countOf n m ++ wordsFields (rowOf l t (n .at + 1) 0 m) b 0
+    elements-words = rw c (go (eqb (n .kind) 9) refl)
+      where
+        -- as many as the table says, or as the list says
+        said : Bool → ℕ
+        said d = pick d (wordAt l (n .at + 2)) (manyOf (elements (head (treeOf l (n .second))) (wordAt l (n .at + 2)) b))
+
+        go : (d : Bool) → eqb (n .kind) 9 ≡ d → unfoldWords (treeOf l t) b ≡ pick d [] (said d ∷ []) ++ wordsFields (rowOf l t (n .at + 1) 0 (said d)) b 0
+        go true q = vector-words lens l t n e g k (eqb-true (n .kind) 9 q) b
+        go false q = list-words lens l t n e g k (omega (arith, eqb-false (n .kind) 9 q, legal-node l t n e (g .legal) .known)) b
+
+    pub elements-bytes : unfoldBytes (treeOf l t) b ≡ [] ++ bytesFields (rowOf l t (n .at + 1) 0 m) b 0
+    elements-bytes = rw c (many-held lens l t n e g k b 0 (h .accepted) .bytes)
+
+    pub count-room : (o p : List ℕ) (at : Place) → Rooms o p at (unfoldWords (treeOf l t) b) (unfoldBytes (treeOf l t) b) → Room o (at .word) (countOf n m)
+    count-room o p at r = room-first o (at .word) _ (countOf n m) _ (r .words) elements-words
+
+    -- behind the count
+    pub elements-rooms :
+        (o p : List ℕ) (at r : Place) (o′ : List ℕ) → Rooms o p at (unfoldWords (treeOf l t) b) (unfoldBytes (treeOf l t) b)
+        → Filled o p at (countOf n m) [] r o′ p
+        → Rooms o′ p r (wordsFields (rowOf l t (n .at + 1) 0 m) b 0) (bytesFields (rowOf l t (n .at + 1) 0 m) b 0)
+    elements-rooms o p at r o′ i q = rooms-then o p at _ _ _ _ _ _ r o′ p i elements-words elements-bytes q
+
+    pub elements-filled :
+        (o p : List ℕ) (at r : Place) (o′ : List ℕ) (r′ : Place) (o″ p′ : List ℕ) → Filled o p at (countOf n m) [] r o′ p
+        → Filled o′ p r (wordsFields (rowOf l t (n .at + 1) 0 m) b 0) (bytesFields (rowOf l t (n .at + 1) 0 m) b 0) r′ o″ p′
+        → Filled o p at (unfoldWords (treeOf l t) b) (unfoldBytes (treeOf l t) b) r′ o″ p′
+    elements-filled o p at r o′ r′ o″ p′ i q = filled-then o p at _ _ r o′ p _ _ r′ o″ p′ _ _ i q elements-words elements-bytes
+
+    -- elements of a kind below 3 are the bytes of the whole
+    module _ (i : Node) (j : i ≡ nodeOf l (n .second)) (z : i .kind < 3) where
+      pub copied-elements : (wordsFields (rowOf l t (n .at + 1) 0 m) b 0 ≡ []) × (bytesFields (rowOf l t (n .at + 1) 0 m) b 0 ≡ b)
+      copied-elements =
+          let w = copied-head l (n .second) i j z in
+          let long = laid-fixed m (w .0) b (rw (← w .1) (rw c (many-held lens l t n e g k b 0 (h .accepted) .laid))) in
+          rw (element-copies lens l t n e g k m)
+          (copied-row (treeOf l (n .second)) (w .0) m (w .1) (copied-item l (n .second) i j z) b 0 (omega (arith, long)))
 
   module _ (k : n .kind ≡ 7) where
     pub union-room : (o p : List ℕ) (at : Place) → Rooms o p at (unfoldWords (treeOf l t) b) (unfoldBytes (treeOf l t) b) → at .word < length o
@@ -304,18 +386,3 @@ module _ (lens l : List ℕ) (t : ℕ) (n : Node) (e : n ≡ nodeOf l t) (g : Un
 
       pub body-accepts : Accepts (treeOf l o) (take (length b - 1) (drop 1 b))
       body-accepts = accepts-at _ _ (0 + 1) (body-accepted lens l t n e g b 0 (h .accepted) k o q)
-
--- The items of a kind below 3 are copied.
-module _ (l : List ℕ) (f : ℕ) (n : Node) (e : n ≡ nodeOf l f) (h : n .kind < 3) (b o p : List ℕ) (at : Place) where
-  copied-kind : (n .kind ≡ 3 → ⊥) × (n .kind < 5)
-  copied-kind = (λ (q : n .kind ≡ 3). omega arith, omega arith)
-
-  copied-tree : treeOf l f ≡ leafOf f n
-  copied-tree = let s = below-six (n .kind) (omega arith) in as-leaf l f n e (s .0) (s .1)
-
-  pub copied-room : Rooms o p at (unfoldWords (treeOf l f) b) (unfoldBytes (treeOf l f) b) → Room p (at .byte) b
-  copied-room g = plain-room f n b o p at (copied-kind .0) (copied-kind .1) (rw copied-tree at g)
-
-  pub copied-filled : (r : ℕ) (p′ : List ℕ) → Stored p (at .byte) b r p′ →
-      Filled o p at (unfoldWords (treeOf l f) b) (unfoldBytes (treeOf l f) b) (record { word = at .word; byte = r }) o p′
-  copied-filled r p′ g = rw copied-tree (plain-filled f n b o p at (copied-kind .0) (copied-kind .1) r p′ g)

@@ -6,7 +6,7 @@ use mathlib.Core.Bool.{Bool}
 use lib.ListN.{length}
 use Rattle.standard.specs.Bytes.{le}
 use Rattle.standard.specs.Bits.{bit, packs}
-use Rattle.standard.specs.Types.{Ty, Tys, Opts, number, boolean, fixedBytes, freeBytes, bitVector, bitList, container, union, end, field, over, bare, body}
+use Rattle.standard.specs.Types.{Ty, Tys, Opts, number, boolean, fixedBytes, freeBytes, bitVector, bitList, container, union, list, vector, end, field, over, bare, body}
 use Rattle.standard.specs.Serialize.{Val, Vals, Option}
 use Rattle.message.specs.Read.{rawBytes}
 
@@ -14,7 +14,13 @@ use Rattle.message.specs.Read.{rawBytes}
 abbrev pub rawBits : List Bool → List ℕ
 rawBits bs = packs (rawBytes (length bs)) bs
 
--- "Contents, in preorder, one word each: byte length of free bytes, bit length of a bit list, selector of a union."
+-- What `of` gives of each element, one behind another
+unfoldable pub inOrder : {A : Type 0} → (A → List ℕ) → List A → List ℕ
+inOrder of [] = []
+inOrder of (v ∷ vs) = of v ++ inOrder of vs
+
+-- "Contents, in preorder, one word each: byte length of free bytes, bit length of a bit list, selector of a union", and "a contents word for a list's count
+-- .. before its elements"
 unfoldable mutual
   pub contents : (t : Ty) → Val t → List ℕ
   contents (number t w) n = []
@@ -25,6 +31,8 @@ unfoldable mutual
   contents (bitList t limit) bs = length bs ∷ []
   contents (container t ts) vs = contentsAll ts vs
   contents (union t os) v = contentsOption os v
+  contents (list t e limit) vs = length vs ∷ inOrder (λ (v : Val e). contents e v) vs
+  contents (vector t e n) vs = inOrder (λ (v : Val e). contents e v) vs
 
   pub contentsAll : (ts : Tys) → Vals ts → List ℕ
   contentsAll end vs = []
@@ -48,6 +56,8 @@ unfoldable mutual
   bodies (bitList t limit) bs = rawBits bs
   bodies (container t ts) vs = bodiesAll ts vs
   bodies (union t os) v = bodiesOption os v
+  bodies (list t e limit) vs = inOrder (λ (v : Val e). bodies e v) vs
+  bodies (vector t e n) vs = inOrder (λ (v : Val e). bodies e v) vs
 
   pub bodiesAll : (ts : Tys) → Vals ts → List ℕ
   bodiesAll end vs = []

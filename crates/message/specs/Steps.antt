@@ -1,13 +1,14 @@
 -- What the steps of reading ask and give, one to another. Assumes nothing: these are definitions.
-use Prim.Native.Nat.{ℕ, _+_, _-_, _≤_, _<_, _^_}
+use Prim.Native.Nat.{ℕ, zero, suc, _+_, _-_, _≤_, _<_, _^_}
 use mathlib.Core.Path.{_≡_}
-use mathlib.Core.List.{List}
+use mathlib.Core.List.{List, [], _∷_}
 use mathlib.Core.Bool.{Bool, true}
 use lib.ListN.{length, getD}
 use lib.Dec.{eqb, ltb}
 use Rattle.standard.specs.Choice.{pick}
 use Rattle.standard.specs.Bytes.{wordAt}
-use Rattle.standard.specs.Types.{Tys, head, heads}
+use Rattle.standard.specs.Types.{Tys, boolean, end, field, head, heads, portion}
+use Rattle.standard.specs.Parts.{next, InRange}
 use Rattle.standard.specs.declared.Head.{Head}
 use Rattle.standard.specs.declared.Maybe.{Maybe}
 use Rattle.standard.specs.declared.Maybe.the-variants.{Just, Nothing}
@@ -15,9 +16,11 @@ use Rattle.standard.specs.declared.Refusal.the-variants.{InvalidByteLength, Uni
 use Rattle.decode.specs.Unions.{splitUnion}
 use Rattle.decode.specs.declared.builder.Progress.{Progress}
 use Rattle.decode.specs.declared.union_selector.SelectorResult.{SelectorResult}
-use Rattle.layout.specs.Tree.{treeOf, fields, trees, lenOf}
+use Rattle.layout.specs.Tree.{treeOf, trees, lenOf}
 use Rattle.layout.specs.Table.{count}
-use Rattle.layout.specs.Legal.{Lower, Legal}
+use Rattle.layout.specs.declared.Node.{Node}
+use Rattle.layout.specs.Legal.{Legal}
+use Rattle.message.specs.Read.{elements, manyOf}
 use Rattle.message.specs.declared.Counts.{Counts}
 use Rattle.message.specs.declared.Answer.{Answer}
 use Rattle.message.specs.declared.Answer.the-variants.{Accepted, Refused}
@@ -30,19 +33,43 @@ pub record Under (lens l : List ℕ) (k : ℕ) : Type 0 where
   pub room : length lens ≡ 64
   pub found : (f : ℕ) → f < k → getD lens f 0 ≡ lenOf (head (treeOf l f))
 
--- n fields of the type t: the words from at on are there and name lower types.
-pub record Row (lens l : List ℕ) (t at n : ℕ) : Type 0 where
+-- n fields of the type t: the word at names the first, each next one is named `step` words behind. A container's fields have a word
+-- each (step 1), elements share one (step 0).
+unfoldable pub rowOf : List ℕ → ℕ → ℕ → ℕ → ℕ → Tys
+rowOf l t at step zero = end
+rowOf l t at step (suc n) = field (getD (trees l t) (wordAt l at) (boolean 0)) (rowOf l t (at + step) step n)
+
+-- Their heads
+abbrev pub headsOf : List ℕ → ℕ → ℕ → ℕ → ℕ → List Head
+headsOf l t at step n = heads (rowOf l t at step n)
+
+-- The words that name them are there and name lower types.
+unfoldable pub Named : List ℕ → ℕ → ℕ → ℕ → ℕ → Type 0
+Named l t at step zero = Unit {0}
+Named l t at step (suc n) = (at < count l) × (wordAt l at < t) × Named l t (at + step) step n
+
+-- Fields or elements that can be read: the types below t are known, and the words that name them are near.
+pub record Row (lens l : List ℕ) (t at step n : ℕ) : Type 0 where
   pub under : Under lens l t
   pub near : at + n < 2 ^ 34
-  pub there : at + n ≤ count l
-  pub lower : Lower l t at n
+  pub steps : step ≤ 1
+  pub named : Named l t at step n
 
--- Those fields, and their heads
-abbrev pub rowOf : List ℕ → ℕ → ℕ → ℕ → Tys
-rowOf l t at n = fields l (trees l t) at n
+-- n elements of the type e, which the word at names: they lie in b as they should.
+pub record Alike (lens l : List ℕ) (t at n e : ℕ) (b : List ℕ) : Type 0 where
+  pub row : Row lens l t at 0 n
+  pub shared : e ≡ wordAt l at
+  pub lower : e < t
+  pub ranges : InRange (headsOf l t at 0 n) b 0 0
+  pub first : next (headsOf l t at 0 n) b 0 ≡ portion (headsOf l t at 0 n)
 
-abbrev pub headsOf : List ℕ → ℕ → ℕ → ℕ → List Head
-headsOf l t at n = heads (rowOf l t at n)
+-- How many elements with this head a list or vector b has, of which the table says n
+abbrev pub manyIn : List ℕ → Node → Head → List ℕ → ℕ
+manyIn l n h b = pick (eqb (n .kind) 9) (wordAt l (n .at + 2)) (manyOf (elements h (wordAt l (n .at + 2)) b))
+
+-- The contents words that stand before m elements: a list's count; a vector has none
+abbrev pub countOf : Node → ℕ → List ℕ
+countOf n m = pick (eqb (n .kind) 9) [] (m ∷ [])
 
 -- Registration in plain numbers: an offset is known if there is a first one, and 2^64 - 1 stands for no first one.
 abbrev pub knownIf : ℕ → ℕ → Maybe
@@ -75,6 +102,11 @@ pub record Small (c : Counts) (k : ℕ) : Type 0 where
   pub records : c .records ≤ k
   pub words : c .words ≤ k
   pub bytes : c .bytes ≤ k
+
+-- One more contents word, where the answer accepts
+abbrev pub oneWord : Answer → Answer
+oneWord (Accepted c) = Accepted (record { records = c .records; words = c .words + 1; bytes = c .bytes })
+oneWord (Refused r t s) = Refused r t s
 
 -- An answer that accepts
 abbrev pub IsAccepted : Answer → Type 0

@@ -1,20 +1,21 @@
 -- Unfolding: an item's value form, made from its bytes. Assumes nothing: these are definitions.
-use Prim.Native.Nat.{ℕ, suc, _≤_, _<_, _+_, _^_, _/_}
+use Prim.Native.Nat.{ℕ, zero, suc, _≤_, _<_, _+_, _^_, _/_}
 use mathlib.Core.Path.{_≡_}
 use mathlib.Core.List.{List, [], _∷_, _++_}
-use lib.ListN.{length, getD, drop}
+use lib.ListN.{length, getD, drop, replicate}
 use lib.Seq.{sets}
 use lib.Dec.{eqb, ltb}
 use Rattle.standard.specs.Choice.{pick}
 use Rattle.standard.specs.Bytes.{num, Stored, Room}
 use Rattle.standard.specs.Bits.{packs, bitsOf}
-use Rattle.standard.specs.Types.{Ty, Tys, Opts, number, boolean, fixedBytes, freeBytes, bitVector, bitList, container, union, end, field, over, bare, body, head, heads}
+use Rattle.standard.specs.Types.{Ty, Tys, Opts, number, boolean, fixedBytes, freeBytes, bitVector, bitList, container, union, list, vector, end, field, over, bare, body, head, heads}
 use Rattle.standard.specs.Parts.{spanOf, part}
+use Rattle.standard.specs.declared.Head.{Head}
 use Rattle.standard.specs.declared.Refusal.the-variants.{NoRoom}
 use Rattle.bitfield.specs.Body.{bitListBody}
 use Rattle.bitfield.specs.declared.BodyBits.{BodyBits}
 use Rattle.layout.specs.Table.{tableOf}
-use Rattle.message.specs.Read.{rawBytes, readItem, readFields}
+use Rattle.message.specs.Read.{rawBytes, elements, manyOf, readItem, readFields}
 use Rattle.message.specs.Check.{checkMessage, typeUnder}
 use Rattle.message.specs.Steps.{IsAccepted}
 use Rattle.message.specs.declared.Answer.{Answer}
@@ -31,7 +32,14 @@ bitCount (BodyBits.Refused r) = 0
 unfoldable pub rawOf : List ℕ → ℕ → List ℕ
 rawOf b k = packs (rawBytes k) (bitsOf k (num b))
 
--- The contents words of an item b: "byte length of free bytes, bit length of a bit list, selector of a union"
+-- What `item` gives of each of n elements with this head from position p on
+unfoldable pub eachFrom : (List ℕ → List ℕ) → Head → ℕ → List ℕ → ℕ → List ℕ
+eachFrom item h zero b p = []
+eachFrom item h (suc n) b p =
+    let w = spanOf h (replicate n h) b p in
+    item (part b w) ++ eachFrom item h n b (w .next)
+
+-- The contents words of an item b: "byte length of free bytes, bit length of a bit list, selector of a union", and the count of a list
 unfoldable mutual
   pub unfoldWords : Ty → List ℕ → List ℕ
   unfoldWords (number t w) b = []
@@ -42,6 +50,9 @@ unfoldable mutual
   unfoldWords (bitList t limit) b = bitCount (bitListBody b limit) ∷ []
   unfoldWords (container t ts) b = wordsFields ts b 0
   unfoldWords (union t os) b = getD b 0 0 ∷ wordsOption os (getD b 0 0) b
+  unfoldWords (list t e limit) b =
+      manyOf (elements (head e) limit b) ∷ eachFrom (λ (x : List ℕ). unfoldWords e x) (head e) (manyOf (elements (head e) limit b)) b 0
+  unfoldWords (vector t e n) b = eachFrom (λ (x : List ℕ). unfoldWords e x) (head e) n b 0
 
   -- the fields from position p on
   pub wordsFields : Tys → List ℕ → ℕ → List ℕ
@@ -67,6 +78,8 @@ unfoldable mutual
   unfoldBytes (bitList t limit) b = rawOf b (bitCount (bitListBody b limit))
   unfoldBytes (container t ts) b = bytesFields ts b 0
   unfoldBytes (union t os) b = bytesOption os (getD b 0 0) b
+  unfoldBytes (list t e limit) b = eachFrom (λ (x : List ℕ). unfoldBytes e x) (head e) (manyOf (elements (head e) limit b)) b 0
+  unfoldBytes (vector t e n) b = eachFrom (λ (x : List ℕ). unfoldBytes e x) (head e) n b 0
 
   pub bytesFields : Tys → List ℕ → ℕ → List ℕ
   bytesFields end b p = []

@@ -1,8 +1,12 @@
-// The items of a message: leaves, unions, and containers with their fields.
+// The items of a message: leaves, unions, containers with their fields, and lists and vectors with their elements.
 use crate::Answer;
 use crate::Counts;
+use crate::elements::Elements;
+use crate::elements::elements_of;
+use crate::elements::with_word;
 use crate::fields::container_told;
 use crate::fields::locate;
+use crate::fields::vector_told;
 use crate::words::look_in;
 use crate::words::word_in;
 use bitfield::BodyBits;
@@ -26,7 +30,7 @@ ghost use Rattle.message.specs.Read.{rawBytes, one, plus, andThen, readE
 ghost use Rattle.message.specs.declared.Counts.{Counts};
 ghost use Rattle.message.specs.declared.Answer.the-variants.{Accepted};
 ghost use Rattle.decode.specs.declared.union_selector.SelectorResult.{SelectorResult};
-ghost use Rattle.message.specs.Steps.{Under, Row, rowOf, headsOf, optionAt, choiceOf, choose, isPlain, Small};
+ghost use Rattle.message.specs.Steps.{Under, Row, Alike, rowOf, headsOf, optionAt, choiceOf, choose, isPlain, Small};
 
 // What a union's selector chooses: an option without body, the type of a body, or a refusal.
 pub(crate) enum Choice {
@@ -269,7 +273,7 @@ pub(crate) fn item_check(
     if n.kind == 6 {
         let told = container_told(lens, layout, t, first, n.second, b);
         match told {
-            Told::Fine => field_check(lens, layout, t, first, n.second, b, start),
+            Told::Fine => field_check(lens, layout, t, first, 1, n.second, b, start),
             Told::Refused(r) => Answer::Refused(r, t, start),
         }
     } else if n.kind == 7 {
@@ -283,9 +287,70 @@ pub(crate) fn item_check(
             }
             Choice::Wrong(r) => Answer::Refused(r, t, start),
         }
-    } else {
+    } else if n.kind < 6 {
         leaf_check(n, t, b, start)
+    } else {
+        elements_check(lens, layout, n, t, b, start)
     }
+}
+
+// Checks the list or vector b of the type t, whose words are n.
+fn elements_check(
+    lens: &[u32; 64],
+    layout: &[u8],
+    n: Node,
+    t: usize,
+    b: &[u8],
+    start: usize,
+) -> Answer
+    requires { ⌜ Under (now lens) (now layout) (t + 1) × (start + length (now b) < 2 ^ 32) × (n ≡ nodeOf (now layout) t) × (8 ≤ n .kind) ⌝ }
+    ensures { λ r. ⌜ r ≡ readItem (treeOf (now (layout .entry)) t) (now (b .entry)) start ⌝ }
+{
+    let first = n.at + 1;
+    let e = n.second;
+    let third = word_in(layout, n.at + 2);
+    if n.kind == 9 {
+        let told = vector_told(lens, layout, t, first, third, e, b);
+        return match told {
+            Told::Fine => row_check(lens, layout, t, first, third, e, b, start),
+            Told::Refused(r) => Answer::Refused(r, t, start),
+        };
+    }
+    let c = elements_of(lens[e] as usize, third, b);
+    match c {
+        Elements::Many(m) => {
+            let r = row_check(lens, layout, t, first, m, e, b, start);
+            with_word(r)
+        }
+        Elements::Refused(r) => Answer::Refused(r, t, start),
+    }
+}
+
+// Checks m elements of the type e, which the word at a0 names and which lie as they should. Numbers and fixed bytes have no rule of their own
+// left to fail, so they are counted and not looked at.
+fn row_check(
+    lens: &[u32; 64],
+    layout: &[u8],
+    t: usize,
+    a0: usize,
+    m: usize,
+    e: usize,
+    b: &[u8],
+    start: usize,
+) -> Answer
+    requires { ⌜ Alike (now lens) (now layout) t a0 m e (now b) × (start + length (now b) < 2 ^ 32) ⌝ }
+    ensures { λ r. ⌜ r ≡ andThen (one 0 0) (readFields (rowOf (now (layout .entry)) t a0 0 m) (now (b .entry)) 0 start) ⌝ }
+{
+    let n = look_in(layout, e);
+    if is_plain(n.kind) {
+        let records = 1 + m;
+        return Answer::Accepted(Counts {
+            records,
+            words: 0,
+            bytes: b.len(),
+        });
+    }
+    field_check(lens, layout, t, a0, 0, m, b, start)
 }
 
 // Checks the item b of a field whose type t has the words n: a leaf needs no second look at the table.
@@ -299,19 +364,21 @@ fn field_item(lens: &[u32; 64], layout: &[u8], n: Node, t: usize, b: &[u8], star
     item_check(lens, layout, t, b, start)
 }
 
-// Checks the n fields of type t that the words from a0 on name, and counts them with their container. Numbers and fixed bytes have their
-// length from the registration, and free bytes, the most common of variable size, are asked for theirs alone: neither needs a call.
+// Checks the n fields of type t that the words from a0 on name, step words apart, and counts them with what holds them. Numbers and fixed
+// bytes have their length from the table, which the registration tested, and free bytes, the most common of variable size, are asked for
+// theirs alone: neither needs a call.
 fn field_check(
     lens: &[u32; 64],
     layout: &[u8],
     t: usize,
     a0: usize,
+    step: usize,
     n: usize,
     b: &[u8],
     start: usize,
 ) -> Answer
-    requires { ⌜ Row (now lens) (now layout) t a0 n × (n ≤ 64) × (start + length (now b) < 2 ^ 32) × InRange (headsOf (now layout) t a0 n) (now b) 0 0 ⌝ }
-    ensures { λ r. ⌜ r ≡ andThen (one 0 0) (readFields (rowOf (now (layout .entry)) t a0 n) (now (b .entry)) 0 start) ⌝ }
+    requires { ⌜ Row (now lens) (now layout) t a0 step n × (start + length (now b) < 2 ^ 32) × InRange (headsOf (now layout) t a0 step n) (now b) 0 0 ⌝ }
+    ensures { λ r. ⌜ r ≡ andThen (one 0 0) (readFields (rowOf (now (layout .entry)) t a0 step n) (now (b .entry)) 0 start) ⌝ }
 {
     let mut sum = own_record();
     let mut a = a0;
@@ -324,15 +391,15 @@ fn field_check(
             let k = lens[f] as usize;
             sum = one_more(sum, 0, k);
             p += k;
-            a += 1;
+            a += step;
             left -= 1;
             continue;
         }
-        let w = locate(lens, layout, t, a, left, f, b, p);
+        let w = locate(lens, layout, t, a, step, left, f, b, p);
         let from = w.from;
         let to = w.to;
         p = w.next;
-        a += 1;
+        a += step;
         left -= 1;
         let at = start + from;
         if node.kind == 3 {

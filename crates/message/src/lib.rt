@@ -1,4 +1,5 @@
 // The check of a message under a layout table, and the listing of its items.
+mod elements;
 mod fields;
 mod items;
 mod listing;

@@ -1,4 +1,5 @@
 // The listing of an accepted message: three words an item, in preorder.
+use crate::elements::many_in;
 use crate::fields::locate;
 use crate::items::Choice;
 use crate::items::select;
@@ -46,7 +47,7 @@ pub(crate) fn list_item(
     let n = look_in(layout, t);
     let first = n.at + 2;
     if n.kind == 6 {
-        list_fields(out, next, lens, layout, t, first, n.second, b, start)
+        list_fields(out, next, lens, layout, t, first, 1, n.second, b, start)
     } else if n.kind == 7 {
         let c = select(layout, first, n.second, b);
         match c {
@@ -57,13 +58,16 @@ pub(crate) fn list_item(
             }
             Choice::Wrong(_) => next,
         }
-    } else {
+    } else if n.kind < 6 {
         next
+    } else {
+        let m = many_in(lens, layout, n, t, b);
+        list_fields(out, next, lens, layout, t, n.at + 1, 0, m, b, start)
     }
 }
 
-// Stores the listing of the n fields of type t that the words from a0 on name, and returns where it ends. A kind below 6 has no lower types:
-// its record is its listing.
+// Stores the listing of the n fields of type t that the words from a0 on name, step words apart, and returns where it ends. A kind below 6
+// has no lower types: its record is its listing.
 fn list_fields(
     out: &mut [u8],
     at0: usize,
@@ -71,12 +75,13 @@ fn list_fields(
     layout: &[u8],
     t: usize,
     a0: usize,
+    step: usize,
     n: usize,
     b: &[u8],
     start: usize,
 ) -> usize
-    requires { ⌜ Row (now lens) (now layout) t a0 n × (start + length (now b) < 2 ^ 32) × InRange (headsOf (now layout) t a0 n) (now b) 0 0 × IsAccepted (readFields (rowOf (now layout) t a0 n) (now b) 0 start) × Room (now out) at0 (listFields (rowOf (now layout) t a0 n) (now b) 0 start) ⌝ }
-    ensures { λ r. ⌜ Stored (now (out .entry)) at0 (listFields (rowOf (now (layout .entry)) t a0 n) (now (b .entry)) 0 start) r (now (out .exit)) ⌝ }
+    requires { ⌜ Row (now lens) (now layout) t a0 step n × (start + length (now b) < 2 ^ 32) × InRange (headsOf (now layout) t a0 step n) (now b) 0 0 × IsAccepted (readFields (rowOf (now layout) t a0 step n) (now b) 0 start) × Room (now out) at0 (listFields (rowOf (now layout) t a0 step n) (now b) 0 start) ⌝ }
+    ensures { λ r. ⌜ Stored (now (out .entry)) at0 (listFields (rowOf (now (layout .entry)) t a0 step n) (now (b .entry)) 0 start) r (now (out .exit)) ⌝ }
 {
     let mut at = at0;
     let mut a = a0;
@@ -84,12 +89,12 @@ fn list_fields(
     let mut p = 0;
     while left > 0 {
         let f = word_in(layout, a);
-        let w = locate(lens, layout, t, a, left, f, b, p);
+        let w = locate(lens, layout, t, a, step, left, f, b, p);
         let from = w.from;
         let to = w.to;
         let place = start + from;
         p = w.next;
-        a += 1;
+        a += step;
         left -= 1;
         let n = look_in(layout, f);
         if n.kind < 6 {

@@ -1,4 +1,5 @@
 // The unfolding of an accepted message: contents words and body bytes of its value form.
+use crate::elements::many_in;
 use crate::fields::locate;
 use crate::items::Choice;
 use crate::items::select;
@@ -14,8 +15,8 @@ ghost use lib.ListN.{length, getD};
 ghost use Rattle.standard.specs.Bytes.{Stored, Room};
 ghost use Rattle.standard.specs.Types.{freeBytes, bitList};
 ghost use Rattle.standard.specs.Parts.{InRange};
-ghost use Rattle.layout.specs.Tree.{leafOf, treeOf};
-ghost use Rattle.message.specs.Steps.{Under, Row, rowOf, headsOf};
+ghost use Rattle.layout.specs.Tree.{nodeOf, leafOf, treeOf};
+ghost use Rattle.message.specs.Steps.{Under, Row, rowOf, headsOf, countOf};
 ghost use Rattle.message.specs.Unfold.{rawOf, unfoldWords, wordsFields, unfoldBytes, bytesFields, Accepts, AcceptsAll, Rooms, Filled, MarkedAt};
 
 // How many contents words and body bytes are filled.
@@ -134,6 +135,21 @@ fn put_selector(contents: &mut [u32], at: Place, b: &[u8]) -> Place
     Place { word, byte }
 }
 
+// Stores the count of a list; a vector has none.
+fn put_count(contents: &mut [u32], at: Place, n: Node, m: usize) -> Place
+    requires { ⌜ Room (now contents) (at .word) (countOf n m) × (m < 2 ^ 32) ⌝ }
+    ensures { λ r. ⌜ Stored (now (contents .entry)) (at .word) (countOf n m) (r .word) (now (contents .exit)) × (r .byte ≡ at .byte) ⌝ }
+{
+    if n.kind == 9 {
+        return at;
+    }
+    let place = at.word;
+    let byte = at.byte;
+    contents[place] = m as u32;
+    let word = place + 1;
+    Place { word, byte }
+}
+
 // Stores the value form of the item b from a place on, and returns where it ends.
 pub(crate) fn unfold_item(
     contents: &mut [u32],
@@ -150,7 +166,7 @@ pub(crate) fn unfold_item(
     let n = look_in(layout, t);
     let first = n.at + 2;
     if n.kind == 6 {
-        unfold_fields(contents, bodies, at, lens, layout, t, first, n.second, b)
+        unfold_fields(contents, bodies, at, lens, layout, t, first, 1, n.second, b)
     } else if n.kind == 7 {
         let c = select(layout, first, n.second, b);
         match c {
@@ -161,13 +177,43 @@ pub(crate) fn unfold_item(
             }
             Choice::Wrong(_) => at,
         }
-    } else {
+    } else if n.kind < 6 {
         unfold_leaf(contents, bodies, at, n, t, b)
+    } else {
+        unfold_elements(contents, bodies, at, lens, layout, n, t, b)
     }
 }
 
-// Stores the value forms of the n fields of type t that the words from a0 on name, and returns where they end. A kind below 3 is its body
-// bytes alone, another below 6 has no lower types: only a container or a union is unfolded as an item.
+// Stores the value form of the list or vector b of the type t, whose words are n: a list's count stands before its elements. Elements of a
+// kind below 3 are their bytes as they stand, and lie one behind another: they are copied at once.
+fn unfold_elements(
+    contents: &mut [u32],
+    bodies: &mut [u8],
+    at: Place,
+    lens: &[u32; 64],
+    layout: &[u8],
+    n: Node,
+    t: usize,
+    b: &[u8],
+) -> Place
+    requires { ⌜ Under (now lens) (now layout) (t + 1) × (length (now b) < 2 ^ 32) × (n ≡ nodeOf (now layout) t) × (8 ≤ n .kind) × Accepts (treeOf (now layout) t) (now b) × Rooms (now contents) (now bodies) at (unfoldWords (treeOf (now layout) t) (now b)) (unfoldBytes (treeOf (now layout) t) (now b)) ⌝ }
+    ensures { λ r. ⌜ Filled (now (contents .entry)) (now (bodies .entry)) at (unfoldWords (treeOf (now (layout .entry)) t) (now (b .entry))) (unfoldBytes (treeOf (now (layout .entry)) t) (now (b .entry))) r (now (contents .exit)) (now (bodies .exit)) ⌝ }
+{
+    let m = many_in(lens, layout, n, t, b);
+    let inside = put_count(contents, at, n, m);
+    let e = look_in(layout, n.second);
+    if e.kind < 3 {
+        let word = inside.word;
+        let place = inside.byte;
+        let byte = copy_into(bodies, place, b);
+        return Place { word, byte };
+    }
+    let first = n.at + 1;
+    unfold_fields(contents, bodies, inside, lens, layout, t, first, 0, m, b)
+}
+
+// Stores the value forms of the n fields of type t that the words from a0 on name, step words apart, and returns where they end. A kind
+// below 3 is its body bytes alone, another below 6 has no lower types: only a type that has some is unfolded as an item.
 fn unfold_fields(
     contents: &mut [u32],
     bodies: &mut [u8],
@@ -176,11 +222,12 @@ fn unfold_fields(
     layout: &[u8],
     t: usize,
     a0: usize,
+    step: usize,
     n: usize,
     b: &[u8],
 ) -> Place
-    requires { ⌜ Row (now lens) (now layout) t a0 n × (length (now b) < 2 ^ 32) × InRange (headsOf (now layout) t a0 n) (now b) 0 0 × AcceptsAll (rowOf (now layout) t a0 n) (now b) 0 × Rooms (now contents) (now bodies) at0 (wordsFields (rowOf (now layout) t a0 n) (now b) 0) (bytesFields (rowOf (now layout) t a0 n) (now b) 0) ⌝ }
-    ensures { λ r. ⌜ Filled (now (contents .entry)) (now (bodies .entry)) at0 (wordsFields (rowOf (now (layout .entry)) t a0 n) (now (b .entry)) 0) (bytesFields (rowOf (now (layout .entry)) t a0 n) (now (b .entry)) 0) r (now (contents .exit)) (now (bodies .exit)) ⌝ }
+    requires { ⌜ Row (now lens) (now layout) t a0 step n × (length (now b) < 2 ^ 32) × InRange (headsOf (now layout) t a0 step n) (now b) 0 0 × AcceptsAll (rowOf (now layout) t a0 step n) (now b) 0 × Rooms (now contents) (now bodies) at0 (wordsFields (rowOf (now layout) t a0 step n) (now b) 0) (bytesFields (rowOf (now layout) t a0 step n) (now b) 0) ⌝ }
+    ensures { λ r. ⌜ Filled (now (contents .entry)) (now (bodies .entry)) at0 (wordsFields (rowOf (now (layout .entry)) t a0 step n) (now (b .entry)) 0) (bytesFields (rowOf (now (layout .entry)) t a0 step n) (now (b .entry)) 0) r (now (contents .exit)) (now (bodies .exit)) ⌝ }
 {
     let mut at = at0;
     let mut a = a0;
@@ -188,11 +235,11 @@ fn unfold_fields(
     let mut p = 0;
     while left > 0 {
         let f = word_in(layout, a);
-        let w = locate(lens, layout, t, a, left, f, b, p);
+        let w = locate(lens, layout, t, a, step, left, f, b, p);
         let from = w.from;
         let to = w.to;
         p = w.next;
-        a += 1;
+        a += step;
         left -= 1;
         let n = look_in(layout, f);
         if n.kind < 3 {

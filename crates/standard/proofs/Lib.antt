@@ -3,6 +3,7 @@ pub mod Bytes
 pub mod Bits
 pub mod Store
 pub mod Join
+pub mod Elements
 pub mod Laws
 pub mod Pieces
 pub mod Published

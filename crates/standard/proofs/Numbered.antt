@@ -9,7 +9,7 @@ use Rattle.standard.specs.Choice.{pick}
 use Rattle.standard.specs.Refusals.{numbersOf}
 use Rattle.standard.specs.declared.Numbers.{Numbers}
 use Rattle.standard.specs.declared.Refusal.{Refusal}
-use Rattle.standard.specs.declared.Refusal.the-variants.{InvalidByteLength, InvalidLengthPrefix, OutOfBoundsByte, OffsetIntoFixedPortion, OffsetSkipsVariableBytes, OffsetsAreDecreasing, OffsetOutOfBounds, UnionSelectorInvalid, OutOfBounds, MissingLengthInformation, ExcessBits, InvalidByteCount, BadBoolean, OverLimit, BadLayout, TooLarge, NoRoom, BadState, LimitsDiffer, BadValue, BuilderFull}
+use Rattle.standard.specs.declared.Refusal.the-variants.{InvalidByteLength, InvalidLengthPrefix, OutOfBoundsByte, OffsetIntoFixedPortion, OffsetSkipsVariableBytes, OffsetsAreDecreasing, OffsetOutOfBounds, UnionSelectorInvalid, OutOfBounds, MissingLengthInformation, ExcessBits, InvalidByteCount, BadBoolean, OverLimit, InvalidListFixedBytesLen, BadLayout, TooLarge, NoRoom, BadState, LimitsDiffer, BadValue, BuilderFull}
 use Rattle.standard.specs.declared.Told.{Told}
 
 -- The refusal of a number, a and b. Any other number is read as 26, which no statement below relies on.
@@ -32,12 +32,13 @@ refusalOf n =
     (pick (is 12) (InvalidByteCount a b)
     (pick (is 13) (BadBoolean a)
     (pick (is 14) (OverLimit a b)
+    (pick (is 15) (InvalidListFixedBytesLen a)
     (pick (is 20) (BadLayout a)
     (pick (is 21) TooLarge
     (pick (is 22) (NoRoom a b)
     (pick (is 23) BadState
     (pick (is 24) LimitsDiffer
-    (pick (is 25) (BadValue a b) (BuilderFull a))))))))))))))))))))
+    (pick (is 25) (BadValue a b) (BuilderFull a)))))))))))))))))))))
 
 pub refusal-back : (r : Refusal) → refusalOf (numbersOf r) ≡ r
 refusal-back (InvalidByteLength a b) = refl
@@ -54,6 +55,7 @@ refusal-back ExcessBits = refl
 refusal-back (InvalidByteCount a b) = refl
 refusal-back (BadBoolean a) = refl
 refusal-back (OverLimit a b) = refl
+refusal-back (InvalidListFixedBytesLen a) = refl
 refusal-back (BadLayout a) = refl
 refusal-back TooLarge = refl
 refusal-back (NoRoom a b) = refl
@@ -86,6 +88,7 @@ number-some ExcessBits = omega arith
 number-some (InvalidByteCount a b) = omega arith
 number-some (BadBoolean a) = omega arith
 number-some (OverLimit a b) = omega arith
+number-some (InvalidListFixedBytesLen a) = omega arith
 number-some (BadLayout a) = omega arith
 number-some TooLarge = omega arith
 number-some (NoRoom a b) = omega arith

@@ -17,14 +17,15 @@ use lib.Seq.{drop-drop, take-at, drop-at}
 use lib.Dec.{leb, ltb}
 use Rattle.standard.specs.Choice.{pick, andAlso}
 use Rattle.standard.specs.Bytes.{le}
-use Rattle.standard.specs.Types.{Ty, Tys, Opts, number, boolean, fixedBytes, freeBytes, bitVector, bitList, container, union, end, field, over, bare, body, head}
-use Rattle.standard.specs.Parts.{Part, piece, fixedLengths, fronts, backs, join}
+use Rattle.standard.specs.Types.{Ty, Tys, Opts, number, boolean, fixedBytes, freeBytes, bitVector, bitList, container, union, list, vector, end, field, over, bare, body, head}
+use Rattle.standard.specs.Parts.{Part, piece, alike, fixedLengths, fronts, backs, join}
 use Rattle.standard.specs.Serialize.{Val, Vals, Option, serialize, parts, selected}
-use Rattle.standard.specs.Pieces.{Kind, offsetWord, selectorByte, Piece, standing, fieldAt, nextFixed, nextVariable, pieces, fieldPieces, optionPieces, inside, covers, StandsIn, AllStandIn}
+use Rattle.standard.specs.Pieces.{Kind, offsetWord, selectorByte, Piece, standing, fieldAt, nextFixed, nextVariable, pieces, fieldPieces, optionPieces, alikePieces, inside, covers, StandsIn, AllStandIn}
 use Rattle.standard.specs.declared.Head.{Head}
 use Rattle.standard.specs.declared.Head.the-variants.{Fixed, Variable}
 use Rattle.standard.proofs.Bytes.{length-le}
 use Rattle.standard.proofs.Join.{length-fronts, length-join}
+use Rattle.standard.proofs.Elements.{All, copies, all-copies, asList, by-copies, alike-copies, pieces-copies}
 
 -- Counting positions.
 abbrev spread : ℕ → ℕ → ℕ → ℕ
@@ -103,8 +104,38 @@ body-covers x k s b own e =
     let n : length (k ∷ b) ≡ 1 + length b = omega arith in
     rw (e, n) (adjoin s 1 (s + 1) (length b) x refl)
 
+-- The law about one type, from it that about a row of fields, and that about elements.
+module _ (x : ℕ) where
+  Covered : Ty → Type 0
+  Covered t = (v : Val t) (s : ℕ) → covers x (pieces t v s) ≡ spread s (length (serialize t v)) x
+
+  row-covers :
+      (ts : Tys) → All Covered ts → (vs : Vals ts) (s p q : ℕ)
+      → covers x (fieldPieces ts vs s p q) ≡ spread (s + p) (fixedLengths (parts ts vs)) x + spread (s + q) (length (backs (parts ts vs))) x
+  unfolding Covered pieces serialize covers fixedLengths backs
+  row-covers end f vs s p q = omega (arith, spread-none (s + p) x, spread-none (s + q) x)
+  row-covers (field t ts) f vs s p q =
+      let b = serialize t (vs .0) in
+      field-covers x b (parts ts (vs .1)) (λ (u : ℕ). pieces t (vs .0) u)
+      (fieldPieces ts (vs .1) s (nextFixed (head t) b p) (nextVariable (head t) b q))
+      s p q (head t) (λ (u : ℕ). f .0 (vs .0) u)
+      (row-covers ts (f .1) (vs .1) s (nextFixed (head t) b p) (nextVariable (head t) b q))
+
+  whole-covers :
+      (ts : Tys) → All Covered ts → (vs : Vals ts) (s : ℕ)
+      → covers x (fieldPieces ts vs s 0 (fixedLengths (parts ts vs))) ≡ spread s (length (join (parts ts vs))) x
+  whole-covers ts f vs s = row-covers ts f vs s 0 (fixedLengths (parts ts vs)) ∙ join-covers x (parts ts vs) s
+
+  elements-cover :
+      (t : ℕ) (e : Ty) (n : ℕ) → Covered e → (vs : List (Val e)) (s : ℕ)
+      → covers x (pieces (list t e n) vs s) ≡ spread s (length (serialize (list t e n) vs)) x
+  unfolding pieces serialize
+  elements-cover t e n f =
+      by-copies e _
+      (λ k vs s. rw (alike-copies e k vs, pieces-copies e k vs) (whole-covers (copies e k) (all-copies Covered e k f) vs s))
+
 mutual
-  unfolding pieces serialize covers fixedLengths backs
+  unfolding Covered pieces serialize covers
 
   item-covers : (x : ℕ) (t : Ty) (v : Val t) (s : ℕ) → covers x (pieces t v s) ≡ spread s (length (serialize t v)) x
   item-covers x (number t w) v s = add-zero _
@@ -113,19 +144,14 @@ mutual
   item-covers x (freeBytes t limit) v s = add-zero _
   item-covers x (bitVector t n) v s = add-zero _
   item-covers x (bitList t limit) v s = add-zero _
-  item-covers x (container t ts) vs s = fields-covers x ts vs s 0 (fixedLengths (parts ts vs)) ∙ join-covers x (parts ts vs) s
+  item-covers x (container t ts) vs s = whole-covers x ts (fields-covers x ts) vs s
   item-covers x (union t os) v s = option-covers x os v s
+  item-covers x (list t e limit) vs s = elements-cover x t e limit (λ v u. item-covers x e v u) vs s
+  item-covers x (vector t e n) vs s = elements-cover x t e n (λ v u. item-covers x e v u) vs s
 
-  fields-covers :
-      (x : ℕ) (ts : Tys) (vs : Vals ts) (s p q : ℕ)
-      → covers x (fieldPieces ts vs s p q) ≡ spread (s + p) (fixedLengths (parts ts vs)) x + spread (s + q) (length (backs (parts ts vs))) x
-  fields-covers x end vs s p q = omega (arith, spread-none (s + p) x, spread-none (s + q) x)
-  fields-covers x (field t ts) vs s p q =
-      let b = serialize t (vs .0) in
-      field-covers x b (parts ts (vs .1)) (λ (u : ℕ). pieces t (vs .0) u)
-      (fieldPieces ts (vs .1) s (nextFixed (head t) b p) (nextVariable (head t) b q))
-      s p q (head t) (λ (u : ℕ). item-covers x t (vs .0) u)
-      (fields-covers x ts (vs .1) s (nextFixed (head t) b p) (nextVariable (head t) b q))
+  fields-covers : (x : ℕ) (ts : Tys) → All (Covered x) ts
+  fields-covers x end = tt
+  fields-covers x (field t ts) = ((λ v s. item-covers x t v s), fields-covers x ts)
 
   option-covers : (x : ℕ) (os : Opts) (v : Option os) (s : ℕ) → covers x (optionPieces os v s) ≡ spread s (length (selected os v)) x
   option-covers x over v s = absurd v
@@ -199,8 +225,44 @@ module _ (m b : List ℕ) (xs : List Part) (own : ℕ → List Piece) (row : Lis
             (at-second m (s + q) (s + (q + length b)) b (backs xs) (omega arith) j)),
       )
 
+-- The same three steps: one type, a row of fields, elements.
+module _ (m : List ℕ) where
+  Standing : Ty → Type 0
+  Standing t = (v : Val t) (s : ℕ) → At m s (serialize t v) → AllStandIn m (pieces t v s)
+
+  row-stands :
+      (ts : Tys) → All Standing ts → (vs : Vals ts) (s p q : ℕ) → At m (s + p) (fronts (parts ts vs) q) → At m (s + q) (backs (parts ts vs))
+      → AllStandIn m (fieldPieces ts vs s p q)
+  unfolding Standing pieces serialize AllStandIn fronts backs
+  row-stands end f vs s p q g j = tt
+  row-stands (field t ts) f vs s p q g j =
+      let b = serialize t (vs .0) in
+      field-stands m b (parts ts (vs .1)) (λ (u : ℕ). pieces t (vs .0) u)
+      (fieldPieces ts (vs .1) s (nextFixed (head t) b p) (nextVariable (head t) b q))
+      s p q (head t) (λ (u : ℕ) (i : At m u b). f .0 (vs .0) u i)
+      (λ i k. row-stands ts (f .1) (vs .1) s (nextFixed (head t) b p) (nextVariable (head t) b q) i k)
+      g j
+
+  whole-stands :
+      (ts : Tys) → All Standing ts → (vs : Vals ts) (s : ℕ) → At m s (join (parts ts vs))
+      → AllStandIn m (fieldPieces ts vs s 0 (fixedLengths (parts ts vs)))
+  unfolding join
+  whole-stands ts f vs s g =
+      let xs = parts ts vs in
+      let n = fixedLengths xs in
+      row-stands ts f vs s 0 n
+      (rw add-zero (at-first m s (fronts xs n) (backs xs) g))
+      (at-second m s (s + n) (fronts xs n) (backs xs) (omega (arith, length-fronts xs n)) g)
+
+  elements-stand :
+      (t : ℕ) (e : Ty) (n : ℕ) → Standing e → (vs : List (Val e)) (s : ℕ) → At m s (serialize (list t e n) vs) → AllStandIn m (pieces (list t e n) vs s)
+  unfolding pieces serialize
+  elements-stand t e n f =
+      by-copies e _
+      (λ k vs s. rw (alike-copies e k vs, pieces-copies e k vs) (λ g. whole-stands (copies e k) (all-copies Standing e k f) vs s g))
+
 mutual
-  unfolding pieces serialize AllStandIn fronts backs join
+  unfolding Standing pieces serialize AllStandIn
 
   item-stands : (m : List ℕ) (t : Ty) (v : Val t) (s : ℕ) → At m s (serialize t v) → AllStandIn m (pieces t v s)
   item-stands m (number t w) v s g = (stands m _ s _ g, tt)
@@ -209,25 +271,14 @@ mutual
   item-stands m (freeBytes t limit) v s g = (stands m _ s _ g, tt)
   item-stands m (bitVector t n) v s g = (stands m _ s _ g, tt)
   item-stands m (bitList t limit) v s g = (stands m _ s _ g, tt)
-  item-stands m (container t ts) vs s g =
-      let xs = parts ts vs in
-      let n = fixedLengths xs in
-      fields-stand m ts vs s 0 n
-      (rw add-zero (at-first m s (fronts xs n) (backs xs) g))
-      (at-second m s (s + n) (fronts xs n) (backs xs) (omega (arith, length-fronts xs n)) g)
+  item-stands m (container t ts) vs s g = whole-stands m ts (fields-stand m ts) vs s g
   item-stands m (union t os) v s g = option-stands m os v s g
+  item-stands m (list t e limit) vs s g = elements-stand m t e limit (λ v u i. item-stands m e v u i) vs s g
+  item-stands m (vector t e n) vs s g = elements-stand m t e n (λ v u i. item-stands m e v u i) vs s g
 
-  fields-stand :
-      (m : List ℕ) (ts : Tys) (vs : Vals ts) (s p q : ℕ) → At m (s + p) (fronts (parts ts vs) q) → At m (s + q) (backs (parts ts vs))
-      → AllStandIn m (fieldPieces ts vs s p q)
-  fields-stand m end vs s p q g j = tt
-  fields-stand m (field t ts) vs s p q g j =
-      let b = serialize t (vs .0) in
-      field-stands m b (parts ts (vs .1)) (λ (u : ℕ). pieces t (vs .0) u)
-      (fieldPieces ts (vs .1) s (nextFixed (head t) b p) (nextVariable (head t) b q))
-      s p q (head t) (λ (u : ℕ) (i : At m u b). item-stands m t (vs .0) u i)
-      (λ i k. fields-stand m ts (vs .1) s (nextFixed (head t) b p) (nextVariable (head t) b q) i k)
-      g j
+  fields-stand : (m : List ℕ) (ts : Tys) → All (Standing m) ts
+  fields-stand m end = tt
+  fields-stand m (field t ts) = ((λ v s g. item-stands m t v s g), fields-stand m ts)
 
   option-stands : (m : List ℕ) (os : Opts) (v : Option os) (s : ℕ) → At m s (selected os v) → AllStandIn m (optionPieces os v s)
   option-stands m over v s g = tt

@@ -1,4 +1,4 @@
--- The parts of a container, joined and taken apart. Assumes nothing: these are definitions.
+-- The parts of a container, list or vector, joined and taken apart. Assumes nothing: these are definitions.
 use Prim.Native.Nat.{ℕ, _+_, _-_, _≤_}
 use mathlib.Core.List.{List, [], _∷_, _++_}
 use lib.ListN.{length, take, drop}
@@ -10,6 +10,11 @@ use Rattle.standard.specs.declared.Span.{Span}
 -- An element's serialization, and what stands for it in the fixed portion
 pub data Part : Type 0 where
   piece : Head → List ℕ → Part
+
+-- Elements of one type: each has this head, and `of` is its serialization.
+unfoldable pub alike : {A : Type 0} → Head → (A → List ℕ) → List A → List Part
+alike h of [] = []
+alike h of (v ∷ vs) = piece h (of v) ∷ alike h of vs
 
 -- fixed_lengths: the length of a fixed part, four for an offset
 unfoldable pub fixedLengths : List Part → ℕ

@@ -7,8 +7,8 @@ use lib.ListN.{length, take, drop}
 use lib.Dec.{leb, ltb}
 use Rattle.standard.specs.Choice.{pick, andAlso}
 use Rattle.standard.specs.Bytes.{le}
-use Rattle.standard.specs.Types.{Ty, Tys, Opts, number, boolean, fixedBytes, freeBytes, bitVector, bitList, container, union, end, field, over, bare, body, head}
-use Rattle.standard.specs.Parts.{fixedLengths}
+use Rattle.standard.specs.Types.{Ty, Tys, Opts, number, boolean, fixedBytes, freeBytes, bitVector, bitList, container, union, list, vector, end, field, over, bare, body, head}
+use Rattle.standard.specs.Parts.{alike, fixedLengths}
 use Rattle.standard.specs.Serialize.{Val, Vals, Option, serialize, parts}
 use Rattle.standard.specs.declared.Head.{Head}
 use Rattle.standard.specs.declared.Head.the-variants.{Fixed, Variable}
@@ -45,6 +45,12 @@ abbrev pub nextVariable : Head → List ℕ → ℕ → ℕ
 nextVariable (Fixed n) b q = q
 nextVariable Variable b q = q + length b
 
+-- The pieces of elements with this head, as those of fields: of is an element's serialization, own its pieces from a place on
+unfoldable pub alikePieces : {A : Type 0} → Head → (A → List ℕ) → (A → ℕ → List Piece) → List A → ℕ → ℕ → ℕ → List Piece
+alikePieces h of own [] s p q = []
+alikePieces h of own (v ∷ vs) s p q =
+    fieldAt h s p q (λ (u : ℕ). own v u) ++ alikePieces h of own vs s (nextFixed h (of v) p) (nextVariable h (of v) q)
+
 unfoldable mutual
   -- The pieces of a value's encoding that starts at s
   pub pieces : (t : Ty) → Val t → ℕ → List Piece
@@ -56,6 +62,12 @@ unfoldable mutual
   pieces (bitList t limit) v s = standing (leafBody t) s (serialize (bitList t limit) v) ∷ []
   pieces (container t ts) vs s = fieldPieces ts vs s 0 (fixedLengths (parts ts vs))
   pieces (union t os) v s = optionPieces os v s
+  pieces (list t e limit) vs s =
+      alikePieces (head e) (λ (v : Val e). serialize e v) (λ (v : Val e) (u : ℕ). pieces e v u) vs s 0
+      (fixedLengths (alike (head e) (λ (v : Val e). serialize e v) vs))
+  pieces (vector t e n) vs s =
+      alikePieces (head e) (λ (v : Val e). serialize e v) (λ (v : Val e) (u : ℕ). pieces e v u) vs s 0
+      (fixedLengths (alike (head e) (λ (v : Val e). serialize e v) vs))
 
   pub fieldPieces : (ts : Tys) → Vals ts → ℕ → ℕ → ℕ → List Piece
   fieldPieces end vs s p q = []

@@ -2,7 +2,7 @@
 use Prim.Native.Nat.{ℕ}
 use Rattle.standard.specs.declared.Numbers.{Numbers}
 use Rattle.standard.specs.declared.Refusal.{Refusal}
-use Rattle.standard.specs.declared.Refusal.the-variants.{InvalidByteLength, InvalidLengthPrefix, OutOfBoundsByte, OffsetIntoFixedPortion, OffsetSkipsVariableBytes, OffsetsAreDecreasing, OffsetOutOfBounds, UnionSelectorInvalid, OutOfBounds, MissingLengthInformation, ExcessBits, InvalidByteCount, BadBoolean, OverLimit, BadLayout, TooLarge, NoRoom, BadState, LimitsDiffer, BadValue, BuilderFull}
+use Rattle.standard.specs.declared.Refusal.the-variants.{InvalidByteLength, InvalidLengthPrefix, OutOfBoundsByte, OffsetIntoFixedPortion, OffsetSkipsVariableBytes, OffsetsAreDecreasing, OffsetOutOfBounds, UnionSelectorInvalid, OutOfBounds, MissingLengthInformation, ExcessBits, InvalidByteCount, BadBoolean, OverLimit, InvalidListFixedBytesLen, BadLayout, TooLarge, NoRoom, BadState, LimitsDiffer, BadValue, BuilderFull}
 
 abbrev pub numbersOf : Refusal → Numbers
 numbersOf (InvalidByteLength a b) = record { number = 1; a = a; b = b }
@@ -19,6 +19,7 @@ numbersOf ExcessBits = record { number = 11; a = 0; b = 0 }
 numbersOf (InvalidByteCount a b) = record { number = 12; a = a; b = b }
 numbersOf (BadBoolean a) = record { number = 13; a = a; b = 0 }
 numbersOf (OverLimit a b) = record { number = 14; a = a; b = b }
+numbersOf (InvalidListFixedBytesLen a) = record { number = 15; a = a; b = 0 }
 numbersOf (BadLayout a) = record { number = 20; a = a; b = 0 }
 numbersOf TooLarge = record { number = 21; a = 0; b = 0 }
 numbersOf (NoRoom a b) = record { number = 22; a = a; b = b }

@@ -7,8 +7,8 @@ use Prim.Native.Nat.{ℕ, _^_, _<_, _≤_}
 use lib.ListN.{length}
 use Rattle.standard.specs.Bytes.{Bytes, le}
 use Rattle.standard.specs.Bits.{bit, pack, marked}
-use Rattle.standard.specs.Types.{Ty, Tys, Opts, number, boolean, fixedBytes, freeBytes, bitVector, bitList, container, union, end, field, over, bare, body, head}
-use Rattle.standard.specs.Parts.{Part, piece, join}
+use Rattle.standard.specs.Types.{Ty, Tys, Opts, number, boolean, fixedBytes, freeBytes, bitVector, bitList, container, union, list, vector, end, field, over, bare, body, head}
+use Rattle.standard.specs.Parts.{Part, piece, alike, join}
 
 abbrev mutual
   -- A value of a type, as to its shape
@@ -21,6 +21,8 @@ abbrev mutual
   Val (bitList t limit) = List Bool
   Val (container t ts) = Vals ts
   Val (union t os) = Option os
+  Val (list t e limit) = List (Val e)
+  Val (vector t e n) = List (Val e)
 
   pub Vals : Tys → Type 0
   Vals end = Unit {0}
@@ -31,6 +33,11 @@ abbrev mutual
   Option over = ⊥
   Option (bare s os) = Unit {0} ⊎ Option os
   Option (body s t os) = Val t ⊎ Option os
+
+-- Each element has it.
+unfoldable pub Each : {A : Type 0} → (A → Type 0) → List A → Type 0
+Each P [] = Unit {0}
+Each P (v ∷ vs) = P v × Each P vs
 
 unfoldable mutual
   -- The value is within the bounds of its type.
@@ -43,6 +50,8 @@ unfoldable mutual
   Ok (bitList t limit) bs = length bs ≤ limit
   Ok (container t ts) vs = OkAll ts vs
   Ok (union t os) v = OkOption os v
+  Ok (list t e limit) vs = (length vs ≤ limit) × Each (λ (v : Val e). Ok e v) vs
+  Ok (vector t e n) vs = (length vs ≡ n) × Each (λ (v : Val e). Ok e v) vs
 
   pub OkAll : (ts : Tys) → Vals ts → Type 0
   OkAll end vs = Unit {0}
@@ -66,6 +75,8 @@ unfoldable mutual
   serialize (bitList t limit) bs = marked bs
   serialize (container t ts) vs = join (parts ts vs)
   serialize (union t os) v = selected os v
+  serialize (list t e limit) vs = join (alike (head e) (λ (v : Val e). serialize e v) vs)
+  serialize (vector t e n) vs = join (alike (head e) (λ (v : Val e). serialize e v) vs)
 
   pub parts : (ts : Tys) → Vals ts → List Part
   parts end vs = []

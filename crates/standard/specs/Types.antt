@@ -2,7 +2,7 @@
 use mathlib.Core.Path.{_≡_}
 use mathlib.Core.List.{List, [], _∷_}
 use mathlib.Core.Bool.{Bool, true}
-use Prim.Native.Nat.{ℕ, _+_, _/_, _≤_, _<_}
+use Prim.Native.Nat.{ℕ, _+_, _*_, _/_, _≤_, _<_}
 use lib.Dec.{eqb}
 use Rattle.standard.specs.Choice.{orElse}
 use Rattle.standard.specs.declared.Head.{Head}
@@ -24,6 +24,10 @@ mutual
     bitList : ℕ → ℕ → Ty
     container : ℕ → Tys → Ty
     union : ℕ → Opts → Ty
+    -- List[element, limit]
+    list : ℕ → Ty → ℕ → Ty
+    -- Vector[element, n]
+    vector : ℕ → Ty → ℕ → Ty
 
   -- The fields of a container, in order.
   pub data Tys : Type 0 where
@@ -42,7 +46,12 @@ joined (Fixed n) (Fixed m) = Fixed (n + m)
 joined (Fixed n) Variable = Variable
 joined Variable h = Variable
 
--- "Variable-size and fixed-size": lists of bytes, bit lists, unions and what holds one of them are of variable size.
+-- A vector is of fixed size if its element is: n of its length.
+unfoldable pub times : ℕ → Head → Head
+times n (Fixed k) = Fixed (n * k)
+times n Variable = Variable
+
+-- "Variable-size and fixed-size": lists, bit lists, unions and what holds one of them are of variable size.
 unfoldable mutual
   pub head : Ty → Head
   head (number t w) = Fixed w
@@ -53,6 +62,8 @@ unfoldable mutual
   head (bitList t limit) = Variable
   head (container t ts) = headAll ts
   head (union t os) = Variable
+  head (list t e limit) = Variable
+  head (vector t e n) = times n (head e)
 
   pub headAll : Tys → Head
   headAll end = Fixed 0
@@ -103,6 +114,8 @@ unfoldable mutual
   LegalTy (bitList t limit) = Unit {0}
   LegalTy (container t ts) = (NoFields ts → ⊥) × LegalAll ts
   LegalTy (union t os) = (NoOptions os → ⊥) × Rising 0 os × LegalOptions os
+  LegalTy (list t e limit) = LegalTy e
+  LegalTy (vector t e n) = (1 ≤ n) × LegalTy e
 
   pub LegalAll : Tys → Type 0
   LegalAll end = Unit {0}

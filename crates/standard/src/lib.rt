@@ -34,6 +34,8 @@ pub enum Refusal {
     BadBoolean(u8),
     // 14: length, limit
     OverLimit(usize, usize),
+    // 15: offset
+    InvalidListFixedBytesLen(usize),
     // 20: word
     BadLayout(usize),
     // 21: 2^32 or more
@@ -83,6 +85,7 @@ impl Refusal {
             Refusal::InvalidByteCount(a, b) => numbers_of(12, a, b),
             Refusal::BadBoolean(a) => numbers_of(13, a as usize, 0),
             Refusal::OverLimit(a, b) => numbers_of(14, a, b),
+            Refusal::InvalidListFixedBytesLen(a) => numbers_of(15, a, 0),
             Refusal::BadLayout(a) => numbers_of(20, a, 0),
             Refusal::TooLarge => numbers_of(21, 0, 0),
             Refusal::NoRoom(a, b) => numbers_of(22, a, b),

@@ -15,18 +15,20 @@ use lib.ListN.{length, take, drop, drop-of-length-le}
 use lib.Seq.{sets, take-at, drop-at}
 use Rattle.standard.specs.Choice.{pick}
 use Rattle.standard.specs.Bytes.{Bytes, num}
-use Rattle.standard.specs.Types.{Ty, Tys, Opts, number, boolean, fixedBytes, freeBytes, bitVector, bitList, container, union, end, field, over, bare, body}
+use Rattle.standard.specs.Types.{Ty, Tys, Opts, number, boolean, fixedBytes, freeBytes, bitVector, bitList, container, union, list, vector, end, field, over, bare, body}
 use Rattle.standard.specs.Types.{Rising, LegalTy, LegalAll, LegalOptions}
-use Rattle.standard.specs.Serialize.{Val, Vals, Option, Ok, OkAll, OkOption, serialize}
+use Rattle.standard.specs.Serialize.{Val, Vals, Option, Each, Ok, OkAll, OkOption, serialize}
 use Rattle.standard.specs.declared.Refusal.the-variants.{BadValue, TooLarge, NoRoom}
 use Rattle.standard.proofs.Bytes.{num-le}
 use Rattle.standard.proofs.Bits.{bitNum-injective}
-use Rattle.standard.proofs.Laws.{injective}
+use Rattle.standard.proofs.Elements.{All, copies, all-copies, asList, length-asList, by-copies, ok-copies}
+use Rattle.standard.proofs.Laws.{injective, legal-copies}
 use Rattle.layout.specs.Table.{tableOf}
 use Rattle.layout.specs.declared.Checked.the-variants.{Upto}
 use Rattle.message.specs.Check.{messageType}
 use Rattle.message.proofs.Theorem.{message-legal}
-use Rattle.message.specs.Form.{contents, contentsAll, contentsOption, bodies, bodiesAll, bodiesOption}
+use Rattle.message.proofs.Copies.{contents-copies, bodies-copies}
+use Rattle.message.specs.Form.{inOrder, contents, contentsAll, contentsOption, bodies, bodiesAll, bodiesOption}
 use Rattle.value.specs.Walk.{Walked, upto, wrong, walkItem}
 use Rattle.value.specs.Write.{whole, walkAll, writeItem, writtenOf, writeMessage, writtenBytes}
 use Rattle.value.specs.Steps.{IsUpto}
@@ -59,8 +61,62 @@ apart os s r v g l o e =
     absurd (omega (arith, f .from))
 
 -- Two values with one form are equal: a field's form ends where the walk ends, so it has the same length in both.
+FormOne : Ty → Type 0
+FormOne t = (v w : Val t) → LegalTy t → Ok t v → Ok t w → contents t v ≡ contents t w → bodies t v ≡ bodies t w → v ≡ w
+
+row-one :
+    (ts : Tys) → All FormOne ts → (vs ws : Vals ts) → LegalAll ts → OkAll ts vs → OkAll ts ws → contentsAll ts vs ≡ contentsAll ts ws
+    → bodiesAll ts vs ≡ bodiesAll ts ws → vs ≡ ws
+unfolding FormOne contents bodies serialize Ok LegalTy
+row-one end k vs ws l o p e f = refl
+row-one (field t ts) k vs ws l o p e f =
+    let c = contentsAll (field t ts) vs in
+    let b = bodiesAll (field t ts) vs in
+    let x = formed t (vs .0) (l .0) (o .0) c b 0 0 (contentsAll ts (vs .1)) (bodiesAll ts (vs .1)) refl refl (omega arith) in
+    let y = formed t (ws .0) (l .0) (p .0) c b 0 0 (contentsAll ts (ws .1)) (bodiesAll ts (ws .1)) e f (omega arith) in
+    let q = sym (x .walk) ∙ y .walk in
+    let i = same-start _ _ (contentsAll ts (vs .1)) (contentsAll ts (ws .1)) (upto-words q) e in
+    let j = same-start _ _ (bodiesAll ts (vs .1)) (bodiesAll ts (ws .1)) (upto-bytes q) f in
+    ap₂ (λ (u : Val t) (us : Vals ts). (u, us))
+    (k .0 (vs .0) (ws .0) (l .0) (o .0) (p .0) (i .0) (j .0))
+    (row-one ts (k .1) (vs .1) (ws .1) (l .1) (o .1) (p .1) (i .1) (j .1))
+
+-- As many elements with one form
+module _ (e : Ty) (k : FormOne e) (l : LegalTy e) where
+  counted-one :
+      (n m : ℕ) → n ≡ m → (vs : Vals (copies e n)) (ws : Vals (copies e m)) → OkAll (copies e n) vs → OkAll (copies e m) ws
+      → contentsAll (copies e n) vs ≡ contentsAll (copies e m) ws → bodiesAll (copies e n) vs ≡ bodiesAll (copies e m) ws
+      → asList e n vs ≡ asList e m ws
+  counted-one n m q =
+      rw q (λ vs ws o p d f. ap (asList e m) (row-one (copies e m) (all-copies FormOne e m k) vs ws (legal-copies e m l) o p d f))
+
+  abbrev Oks : List (Val e) → Type 0
+  Oks vs = Each (λ (v : Val e). Ok e v) vs
+
+  abbrev words : List (Val e) → List ℕ
+  words vs = inOrder (λ (v : Val e). contents e v) vs
+
+  abbrev bytes : List (Val e) → List ℕ
+  bytes vs = inOrder (λ (v : Val e). bodies e v) vs
+
+  elements-one : (vs ws : List (Val e)) → length vs ≡ length ws → Oks vs → Oks ws → words vs ≡ words ws → bytes vs ≡ bytes ws → vs ≡ ws
+  elements-one vs ws =
+      by-copies e (λ vs. length vs ≡ length ws → Oks vs → Oks ws → words vs ≡ words ws → bytes vs ≡ bytes ws → vs ≡ ws)
+      (λ n xs.
+      by-copies e
+      (λ ws. length (asList e n xs) ≡ length ws → Oks (asList e n xs) → Oks ws → words (asList e n xs) ≡ words ws → bytes (asList e n xs) ≡ bytes ws
+      → asList e n xs ≡ ws)
+      (λ m ys q o p d f.
+      counted-one n m (sym (length-asList e n xs) ∙ q ∙ length-asList e m ys) xs ys (ok-copies e n xs o) (ok-copies e m ys p)
+      (sym (contents-copies e n xs) ∙ d ∙ contents-copies e m ys) (sym (bodies-copies e n xs) ∙ f ∙ bodies-copies e m ys))
+      ws)
+      vs
+
+first-word : (n m : ℕ) (x y : List ℕ) → n ∷ x ≡ m ∷ y → (n ≡ m) × (x ≡ y)
+first-word n m x y e = (cc, cc)
+
 mutual
-  unfolding contents bodies serialize Ok LegalTy Rising
+  unfolding FormOne contents bodies serialize Ok LegalTy Rising
 
   pub form-one :
       (t : Ty) (v w : Val t) → LegalTy t → Ok t v → Ok t w → contents t v ≡ contents t w → bodies t v ≡ bodies t w → v ≡ w
@@ -70,24 +126,17 @@ mutual
   form-one (freeBytes t limit) x y l o p e f = f
   form-one (bitVector t n) x y l o p e f = bitNum-injective x y (o ∙ sym p) (sym (raw-num x) ∙ ap num f ∙ raw-num y)
   form-one (bitList t limit) x y l o p e f = bitNum-injective x y (cc) (sym (raw-num x) ∙ ap num f ∙ raw-num y)
-  form-one (container t ts) vs ws l o p e f = fields-one ts vs ws (l .1) o p e f
+  form-one (container t ts) vs ws l o p e f = row-one ts (all-one ts) vs ws (l .1) o p e f
   form-one (union t os) v w l o p e f = option-one os v w 0 (l .1) (l .2) o p e f
+  form-one (list t a limit) vs ws l o p e f =
+      let q = first-word (length vs) (length ws) _ _ e in
+      elements-one a (λ v w d g h i j. form-one a v w d g h i j) l vs ws (q .0) (o .1) (p .1) (q .1) f
+  form-one (vector t a n) vs ws l o p e f =
+      elements-one a (λ v w d g h i j. form-one a v w d g h i j) (l .1) vs ws (o .0 ∙ sym (p .0)) (o .1) (p .1) e f
 
-  fields-one :
-      (ts : Tys) (vs ws : Vals ts) → LegalAll ts → OkAll ts vs → OkAll ts ws → contentsAll ts vs ≡ contentsAll ts ws → bodiesAll ts vs ≡ bodiesAll ts ws
-      → vs ≡ ws
-  fields-one end vs ws l o p e f = refl
-  fields-one (field t ts) vs ws l o p e f =
-      let c = contentsAll (field t ts) vs in
-      let b = bodiesAll (field t ts) vs in
-      let x = formed t (vs .0) (l .0) (o .0) c b 0 0 (contentsAll ts (vs .1)) (bodiesAll ts (vs .1)) refl refl (omega arith) in
-      let y = formed t (ws .0) (l .0) (p .0) c b 0 0 (contentsAll ts (ws .1)) (bodiesAll ts (ws .1)) e f (omega arith) in
-      let q = sym (x .walk) ∙ y .walk in
-      let i = same-start _ _ (contentsAll ts (vs .1)) (contentsAll ts (ws .1)) (upto-words q) e in
-      let j = same-start _ _ (bodiesAll ts (vs .1)) (bodiesAll ts (ws .1)) (upto-bytes q) f in
-      ap₂ (λ (u : Val t) (us : Vals ts). (u, us))
-      (form-one t (vs .0) (ws .0) (l .0) (o .0) (p .0) (i .0) (j .0))
-      (fields-one ts (vs .1) (ws .1) (l .1) (o .1) (p .1) (i .1) (j .1))
+  all-one : (ts : Tys) → All FormOne ts
+  all-one end = tt
+  all-one (field t ts) = ((λ v w l o p e f. form-one t v w l o p e f), all-one ts)
 
   option-one :
       (os : Opts) (v w : Option os) (n : ℕ) → Rising n os → LegalOptions os → OkOption os v → OkOption os w
@@ -114,7 +163,7 @@ SomeForm t c b = (v : Val t) × IsForm t c b v
 
 -- The answer is 25.
 abbrev pub Is25 : Written → Type 0
-Is25 w = (list at : ℕ) × (w ≡ Refused (BadValue list at))
+Is25 w = (which at : ℕ) × (w ≡ Refused (BadValue which at))
 
 module _ (t : Ty) (c b : List ℕ) where
   -- What the walk of a whole message says: nothing is left over, or there is a fault.

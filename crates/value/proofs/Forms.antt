@@ -14,12 +14,14 @@ use lib.Seq.{sets, take-at, drop-at, drop-drop, getD-drop, drop-cons, drop-lengt
 use Rattle.standard.specs.Choice.{pick}
 use Rattle.standard.specs.Bytes.{Bytes, le, num}
 use Rattle.standard.specs.Bits.{bit, packs, pack, marked, bitNum}
-use Rattle.standard.specs.Types.{Ty, Tys, Opts, number, boolean, fixedBytes, freeBytes, bitVector, bitList, container, union, end, field, over, bare, body, head, Rising, LegalTy, LegalAll, LegalOptions}
+use Rattle.standard.specs.Types.{Ty, Tys, Opts, number, boolean, fixedBytes, freeBytes, bitVector, bitList, container, union, list, vector, end, field, over, bare, body, head, Rising, LegalTy, LegalAll, LegalOptions}
 use Rattle.standard.specs.Parts.{Part, piece, join}
 use Rattle.standard.specs.Serialize.{Val, Vals, Option, Ok, OkAll, OkOption, serialize, parts, selected}
 use Rattle.standard.specs.declared.Refusal.the-variants.{BadValue}
 use Rattle.standard.proofs.Bytes.{length-le, le-num, bytes-take, bytes-append}
 use Rattle.standard.proofs.Bits.{bit-bound, length-packs, bytes-packs, num-packs, packs-le, pow-bytes, bitNum-bound, bitNum-marked, num-append}
+use Rattle.standard.proofs.Elements.{All, copies, all-copies, asList, length-asList, by-copies, alike-copies, ok-copies}
+use Rattle.standard.proofs.Laws.{legal-copies}
 use Rattle.bitfield.proofs.Bodies.{cut-below}
 use Rattle.layout.specs.Table.{tableOf}
 use Rattle.layout.specs.declared.Checked.the-variants.{Upto}
@@ -27,9 +29,11 @@ use Rattle.message.specs.Read.{rawBytes}
 use Rattle.message.specs.Check.{messageType}
 use Rattle.message.specs.Form.{rawBits, contents, contentsAll, contentsOption, bodies, bodiesAll, bodiesOption}
 use Rattle.message.proofs.Theorem.{message-legal}
+use Rattle.message.proofs.Copies.{contents-copies, bodies-copies}
 use Rattle.value.specs.Walk.{Walked, upto, wrong, onward, lastBits, walkBits, walkItem, walkFields, walkOption}
 use Rattle.value.specs.Write.{wordAfter, byteAfter, bytesAt, withMark, writeItem, partsFrom, writeOption, walkAll, writeMessage, writtenBytes}
 use Rattle.value.specs.declared.Written.the-variants.{Length}
+use Rattle.value.proofs.Copies.{walk-copies, parts-copies}
 
 -- A part x that stands in b at j, and a word that stands in c at i.
 module _ (b : List ℕ) (j : ℕ) (x r : List ℕ) (e : drop j b ≡ x ++ r) (h : j ≤ length b) where
@@ -153,8 +157,73 @@ pub record FormedOption (n : ℕ) (os : Opts) (v : Option os) (c b : List ℕ) (
 more-rest : (c : List ℕ) (i : ℕ) (x r : List ℕ) → drop i c ≡ x ++ r → drop (i + length x) c ≡ r
 more-rest c i x r e = sym (drop-drop (length x) i c) ∙ rw e (drop-at x r (length x) refl)
 
+-- The law about one type, from it that about a row of fields, and that about elements
+module _ (c b : List ℕ) where
+  Forms : Ty → Type 0
+  Forms t =
+      (v : Val t) → LegalTy t → Ok t v → (i j : ℕ) (cs bs : List ℕ) → drop i c ≡ contents t v ++ cs → drop j b ≡ bodies t v ++ bs → j ≤ length b
+      → Formed t v c b i j
+
+  row-formed :
+      (ts : Tys) → All Forms ts → (vs : Vals ts) → LegalAll ts → OkAll ts vs → (i j : ℕ) (cs bs : List ℕ) → drop i c ≡ contentsAll ts vs ++ cs
+      → drop j b ≡ bodiesAll ts vs ++ bs → j ≤ length b → FormedAll ts vs c b i j
+  unfolding Forms walkItem writeItem contents bodies serialize Ok LegalTy
+  row-formed end p vs l o i j cs bs e f h = record { walk = rw (add-zero i, add-zero j); all = refl }
+  row-formed (field t ts) k vs l o i j cs bs e f h =
+      let x = contents t (vs .0) in
+      let y = bodies t (vs .0) in
+      let d = e ∙ append-assoc x (contentsAll ts (vs .1)) cs in
+      let g = f ∙ append-assoc y (bodiesAll ts (vs .1)) bs in
+      let p = k .0 (vs .0) (l .0) (o .0) i j _ _ d g h in
+      let q = row-formed ts (k .1) (vs .1) (l .1) (o .1) (i + length x) (j + length y) cs bs (more-rest c i x _ d) (more-rest b j y _ g) (at-there b j y _ g h) in
+      record {
+        walk =
+            rw (p .walk)
+            (q .walk ∙ ap₂ upto (omega (arith, length-append x (contentsAll ts (vs .1)))) (omega (arith, length-append y (bodiesAll ts (vs .1)))));
+        all = rw (p .walk, p .write) (ap (λ (xs : List Part). piece (head t) (serialize t (vs .0)) ∷ xs) (q .all));
+      }
+
+  module _ (t : ℕ) (e : Ty) (k : Forms e) (l : LegalTy e) where
+    vector-formed :
+        (m : ℕ) (vs : List (Val e)) → Ok (vector t e m) vs → (i j : ℕ) (cs bs : List ℕ) → drop i c ≡ contents (vector t e m) vs ++ cs
+        → drop j b ≡ bodies (vector t e m) vs ++ bs → j ≤ length b → Formed (vector t e m) vs c b i j
+    unfolding walkItem writeItem contents bodies serialize Ok
+    vector-formed m =
+        by-copies e _
+        (λ n vs o i j cs bs d f h.
+        let w = contents-copies e n vs in
+        let y = bodies-copies e n vs in
+        let q : m ≡ n = sym (o .0) ∙ length-asList e n vs in
+        let g = row-formed (copies e n) (all-copies Forms e n k) vs (legal-copies e n l) (ok-copies e n vs (o .1)) i j cs bs (rw w at d) (rw y at f) h in
+        record {
+          walk = rw (q, w, y, walk-copies e c b n i j) (g .walk);
+          write = rw (q, parts-copies e c b n i j, alike-copies e n vs) (ap join (g .all));
+        })
+
+    list-formed :
+        (limit : ℕ) (vs : List (Val e)) → Ok (list t e limit) vs → (i j : ℕ) (cs bs : List ℕ) → drop i c ≡ contents (list t e limit) vs ++ cs
+        → drop j b ≡ bodies (list t e limit) vs ++ bs → j ≤ length b → Formed (list t e limit) vs c b i j
+    unfolding walkItem writeItem contents bodies serialize Ok
+    list-formed limit =
+        by-copies e _
+        (λ n vs o i j cs bs d f h.
+        let w = contents-copies e n vs in
+        let y = bodies-copies e n vs in
+        let q = length-asList e n vs in
+        let r : drop i c ≡ n ∷ (contentsAll (copies e n) vs ++ cs) = rw (q, w) at d in
+        let z = at-word c i n (contentsAll (copies e n) vs ++ cs) r in
+        let g = row-formed (copies e n) (all-copies Forms e n k) vs (legal-copies e n l) (ok-copies e n vs (o .1)) (i + 1) j cs bs
+        (at-next c i n (contentsAll (copies e n) vs ++ cs) r) (rw y at f) h in
+        let u : i + 1 + length (contentsAll (copies e n) vs) ≡ i + length (n ∷ contentsAll (copies e n) vs) = omega arith in
+        record {
+          walk =
+              rw (z, lt-ltb i (length c) (at-in c i n _ r), le-leb n limit (rw q at (o .0)), walk-copies e c b n (i + 1) j, w, y)
+              (g .walk ∙ ap (λ (m : ℕ). upto m (j + length (bodiesAll (copies e n) vs))) u);
+          write = rw (z, parts-copies e c b n (i + 1) j, alike-copies e n vs) (ap join (g .all));
+        })
+
 mutual
-  unfolding walkItem writeItem contents bodies serialize Ok LegalTy Rising pack
+  unfolding Forms walkItem writeItem contents bodies serialize Ok LegalTy Rising pack
 
   pub formed : (t : Ty) (v : Val t) → LegalTy t → Ok t v → (c b : List ℕ) (i j : ℕ) (cs bs : List ℕ) → drop i c ≡ contents t v ++ cs →
       drop j b ≡ bodies t v ++ bs → j ≤ length b → Formed t v c b i j
@@ -190,28 +259,17 @@ mutual
         write = rw w (mark-form v b j bs f h);
       }
   formed (container t ts) vs l o c b i j cs bs e f h =
-      let g = formed-all ts vs (l .1) o c b i j cs bs e f h in
+      let g = row-formed c b ts (each-formed ts c b) vs (l .1) o i j cs bs e f h in
       record { walk = g .walk; write = ap join (g .all) }
   formed (union t os) v l o c b i j cs bs e f h =
       let g = formed-option os v 0 (l .1) (l .2) o c b i j cs bs e f h in
       record { walk = rw (lt-ltb i (length c) (g .there)) (g .walk); write = g .write }
+  formed (list t a limit) vs l o c b i j cs bs e f h = list-formed c b t a (λ v d q r s u w x y z. formed a v d q c b r s u w x y z) l limit vs o i j cs bs e f h
+  formed (vector t a n) vs l o c b i j cs bs e f h = vector-formed c b t a (λ v d q r s u w x y z. formed a v d q c b r s u w x y z) (l .1) n vs o i j cs bs e f h
 
-  pub formed-all : (ts : Tys) (vs : Vals ts) → LegalAll ts → OkAll ts vs → (c b : List ℕ) (i j : ℕ) (cs bs : List ℕ) →
-      drop i c ≡ contentsAll ts vs ++ cs → drop j b ≡ bodiesAll ts vs ++ bs → j ≤ length b → FormedAll ts vs c b i j
-  formed-all end vs l o c b i j cs bs e f h = record { walk = rw (add-zero i, add-zero j); all = refl }
-  formed-all (field t ts) vs l o c b i j cs bs e f h =
-      let x = contents t (vs .0) in
-      let y = bodies t (vs .0) in
-      let d = e ∙ append-assoc x (contentsAll ts (vs .1)) cs in
-      let g = f ∙ append-assoc y (bodiesAll ts (vs .1)) bs in
-      let p = formed t (vs .0) (l .0) (o .0) c b i j _ _ d g h in
-      let q = formed-all ts (vs .1) (l .1) (o .1) c b (i + length x) (j + length y) cs bs (more-rest c i x _ d) (more-rest b j y _ g) (at-there b j y _ g h) in
-      record {
-        walk =
-            rw (p .walk)
-            (q .walk ∙ ap₂ upto (omega (arith, length-append x (contentsAll ts (vs .1)))) (omega (arith, length-append y (bodiesAll ts (vs .1)))));
-        all = rw (p .walk, p .write) (ap (λ (xs : List Part). piece (head t) (serialize t (vs .0)) ∷ xs) (q .all));
-      }
+  each-formed : (ts : Tys) (c b : List ℕ) → All (Forms c b) ts
+  each-formed end c b = tt
+  each-formed (field t ts) c b = ((λ v l o i j cs bs e f h. formed t v l o c b i j cs bs e f h), each-formed ts c b)
 
   pub formed-option : (os : Opts) (v : Option os) (n : ℕ) → Rising n os → LegalOptions os → OkOption os v →
       (c b : List ℕ) (i j : ℕ) (cs bs : List ℕ) → drop i c ≡ contentsOption os v ++ cs → drop j b ≡ bodiesOption os v ++ bs → j ≤ length b →

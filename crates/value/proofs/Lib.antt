@@ -1,4 +1,7 @@
 -- What the proofs of several functions use, and the theorems on writing.
+pub mod Copies
+pub mod Repeats
+pub mod Elements
 pub mod Walks
 pub mod Selectors
 pub mod Unions
@@ -6,6 +9,7 @@ pub mod Rows
 pub mod Leaves
 pub mod Fills
 pub mod Plain
+pub mod Runs
 pub mod Calls
 pub mod Forms
 pub mod Values

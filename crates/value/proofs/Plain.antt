@@ -1,6 +1,6 @@
 -- Fields that a loop takes without looking at their type twice: a leaf by what the table says of it, a number or fixed bytes
 -- by their length alone. Assumes nothing.
-use mathlib.Core.Path.{_≡_, refl, sym, ap, _∙_}
+use mathlib.Core.Path.{_≡_, refl, ap, _∙_}
 use mathlib.Core.List.{List}
 use mathlib.Core.Bool.{Bool, true, false}
 use mathlib.Core.Logic.{_⊎_, inl, inr, ⊎-elim}
@@ -14,7 +14,6 @@ use Rattle.standard.specs.Choice.{pick}
 use Rattle.standard.specs.Bytes.{Room, wordAt}
 use Rattle.standard.specs.Types.{Ty, number, fixedBytes, head}
 use Rattle.standard.specs.Parts.{join}
-use Rattle.standard.specs.declared.Head.{Head}
 use Rattle.standard.specs.declared.Head.the-variants.{Fixed}
 use Rattle.standard.specs.declared.Refusal.the-variants.{BadValue}
 use Rattle.layout.specs.Tree.{nodeOf, treeOf, leafOf, lenOf, headOf}
@@ -22,10 +21,9 @@ use Rattle.layout.specs.declared.Node.{Node}
 use Rattle.layout.proofs.Facts.{as-leaf}
 use Rattle.message.specs.Steps.{Row, rowOf, isPlain}
 use Rattle.message.proofs.Rows.{row-below, row-head}
-use Rattle.message.proofs.Entries.{below-six}
 use Rattle.value.specs.Walk.{Walked, upto, wrong, withBody, walkItem, walkFields}
 use Rattle.value.specs.Write.{bytesAt, writeItem, partsFrom}
-use Rattle.value.specs.Steps.{cap, measured, extra, IsUpto}
+use Rattle.value.specs.Steps.{cap, measured, IsUpto}
 use Rattle.value.specs.Stores.{Put, Begun}
 use Rattle.value.specs.declared.store.Stop.{Stop}
 use Rattle.value.specs.declared.measure.Measured.{Measured}
@@ -38,10 +36,10 @@ use Rattle.value.proofs.Fills.{Writing, writing-upto, writing-room, wri
 module _ (l : List ℕ) (f : ℕ) (n : Node) (e : n ≡ nodeOf l f) (h : n .kind < 6) where
   module _ (c b : List ℕ) (i j : ℕ) where
     below-walk : walkItem (treeOf l f) c b i j ≡ walkItem (leafOf 0 n) c b i j
-    below-walk = let s = below-six (n .kind) h in tree-walk l f n e (s .0) (s .1) c b i j
+    below-walk = tree-walk l f n e h c b i j
 
     below-write : writeItem (treeOf l f) c b i j ≡ writeItem (leafOf 0 n) c b i j
-    below-write = let s = below-six (n .kind) h in tree-write l f n e (s .0) (s .1) c b i j
+    below-write = tree-write l f n e h c b i j
 
     pub below-measured : (r : Measured) → r ≡ measured (walkItem (leafOf 0 n) c b i j) (length (writeItem (leafOf 0 n) c b i j)) →
         r ≡ measured (walkItem (treeOf l f) c b i j) (length (writeItem (treeOf l f) c b i j))
@@ -88,57 +86,57 @@ unfolding leafOf
 plain-leaf t n h = ⊎-elim (λ (k : n .kind ≡ 0). rw k (number-plain t (n .second))) (λ (k : n .kind ≡ 2). rw k (fixed-plain t (n .second))) h
 
 -- The length of a plain field is what the table says.
-module _ (lens l : List ℕ) (t a left f : ℕ) (g : Row lens l t a left) (z : 0 < left) (e : f ≡ wordAt l a) (k : ℕ) (q : k ≡ getD lens f 0) where
+module _ (lens l : List ℕ) (t a step left f : ℕ) (g : Row lens l t a step left) (z : 0 < left) (e : f ≡ wordAt l a) (k : ℕ) (q : k ≡ getD lens f 0) where
   pub plain-field : (n : Node) → n ≡ nodeOf l f → isPlain (n .kind) ≡ true → Plain (treeOf l f) k
   plain-field n d h =
       let s = plain-kind (n .kind) h in
       let b : n .kind < 6 = ⊎-elim (λ (p : n .kind ≡ 0). omega arith) (λ (p : n .kind ≡ 2). omega arith) s in
-      let v = below-six (n .kind) b in
-      let x : Plain (treeOf l f) (n .second) = rw (as-leaf l f n d (v .0) (v .1)) (plain-leaf f n s) in
-      let y : k ≡ n .second = q ∙ g .under .found f (row-below lens l t a left f g z e) ∙ ap lenOf (x .head) in
+      let x : Plain (treeOf l f) (n .second) = rw (as-leaf l f n d b) (plain-leaf f n s) in
+      let y : k ≡ n .second = q ∙ g .under .found f (row-below lens l t a step left f g z e) ∙ ap lenOf (x .head) in
       rw y x
 
 -- A plain field is measured.
-module _ (lens l : List ℕ) (t a₀ n : ℕ) (c b : List ℕ) (i₀ j₀ : ℕ) (sum a left i j f : ℕ) (g : Measuring lens l t a₀ n c b i₀ j₀ sum a left i j)
+module _ (lens l : List ℕ) (t a₀ step n : ℕ) (c b : List ℕ) (i₀ j₀ : ℕ) (sum a left i j f : ℕ) (g : Measuring lens l t a₀ step n c b i₀ j₀ sum a left i j)
     (z : 0 < left) (e : f ≡ wordAt l a) (k : ℕ) (q : k ≡ getD lens f 0) (p : Plain (treeOf l f) k) where
-  pub measuring-plain : leb (j + k) (length b) ≡ true → Measuring lens l t a₀ n c b i₀ j₀ (cap (sum + k)) (a + 1) (left - 1) i (j + k)
+  pub measuring-plain : leb (j + k) (length b) ≡ true → Measuring lens l t a₀ step n c b i₀ j₀ (cap (sum + k)) (a + step) (left - 1) i (j + k)
   measuring-plain h =
       let y : length (writeItem (treeOf l f) c b i j) ≡ k = ap length (p .write c b i j) ∙ length-bytesAt b j k (leb-true _ _ h) in
       let w : walkItem (treeOf l f) c b i j ≡ upto i (j + k) = p .walk c b i j ∙ rw h in
-      let d : headOf k ≡ Fixed k = ap headOf q ∙ row-head lens l t a left f (g .row) z e ∙ p .head in
-      let x = measuring-next lens l t a₀ n c b i₀ j₀ sum a left i j f g z e (record { word = i; byte = j + k; len = cap k }) (rw (w, y)) k q (cap k)
+      let d : headOf k ≡ Fixed k = ap headOf q ∙ row-head lens l t a step left f (g .row) z e ∙ p .head in
+      let x = measuring-next lens l t a₀ step n c b i₀ j₀ sum a left i j f g z e (record { word = i; byte = j + k; len = cap k }) (rw (w, y)) k q (cap k)
       (rw d (omega arith)) in
       let v : cap (sum + cap k) ≡ cap (sum + k) = omega arith in
       rw v at x
 
   pub measuring-short : leb (j + k) (length b) ≡ false →
-      Measured.Wrong (BadValue 1 (length b)) ≡ measured (walkFields (rowOf l t a₀ n) c b i₀ j₀) (length (join (partsFrom (rowOf l t a₀ n) c b i₀ j₀)))
+      Measured.Wrong (BadValue 1 (length b)) ≡
+      measured (walkFields (rowOf l t a₀ step n) c b i₀ j₀) (length (join (partsFrom (rowOf l t a₀ step n) c b i₀ j₀)))
   measuring-short h =
       let w : walkItem (treeOf l f) c b i j ≡ wrong (BadValue 1 (length b)) = p .walk c b i j ∙ rw h in
-      measuring-stop lens l t a₀ n c b i₀ j₀ sum a left i j f g z e (BadValue 1 (length b)) (rw w)
+      measuring-stop lens l t a₀ step n c b i₀ j₀ sum a left i j f g z e (BadValue 1 (length b)) (rw w)
 
 -- A plain field is stored where its head is.
-module _ (lens l : List ℕ) (t : ℕ) (c b : List ℕ) (start own e : ℕ) (w : Walked) (z o₀ o : List ℕ) (p q a left i j f : ℕ) (u : IsUpto w)
-    (g : Writing lens l t c b start own e w z o₀ o p q a left i j) (y : 0 < left) (v : f ≡ wordAt l a) (k : ℕ) (n : k ≡ getD lens f 0)
+module _ (lens l : List ℕ) (t step : ℕ) (c b : List ℕ) (start own e : ℕ) (w : Walked) (z o₀ o : List ℕ) (p q a left i j f : ℕ) (u : IsUpto w)
+    (g : Writing lens l t step c b start own e w z o₀ o p q a left i j) (y : 0 < left) (v : f ≡ wordAt l a) (k : ℕ) (n : k ≡ getD lens f 0)
     (x : Plain (treeOf l f) k) where
   plain-form : PartForm (treeOf l f) c b i j i k
   plain-form =
-      let d = body-upto b j k (upto i (j + k)) (rw (x .walk c b i j) at (writing-upto lens l t c b start own e w z o₀ o p q a left i j f u g y v)) in
+      let d = body-upto b j k (upto i (j + k)) (rw (x .walk c b i j) at (writing-upto lens l t step c b start own e w z o₀ o p q a left i j f u g y v)) in
       record { walk = x .walk c b i j ∙ d .1; write = x .write c b i j; there = d .0 }
 
   plain-head : headOf k ≡ Fixed k
-  plain-head = ap headOf n ∙ row-head lens l t a left f (g .row) y v ∙ x .head
+  plain-head = ap headOf n ∙ row-head lens l t a step left f (g .row) y v ∙ x .head
 
   plain-begun : Begun (headOf k) o p q start p o
   plain-begun = rw plain-head (record { place = refl; list = refl })
 
   pub writing-there : (j + k ≤ length b) × (p + k ≤ length o)
   writing-there =
-      part-need (treeOf l f) c b i j i k o p plain-form (writing-room lens l t c b start own e w z o₀ o p q a left i j f u g y v k n p o plain-begun)
+      part-need (treeOf l f) c b i j i k o p plain-form (writing-room lens l t step c b start own e w z o₀ o p q a left i j f u g y v k n p o plain-begun)
 
   pub writing-plain : (o₂ : List ℕ) → o₂ ≡ sets o p (take (j + k - j) (drop j b)) →
-      Writing lens l t c b start own e w z o₀ o₂ (p + k) q (a + 1) (left - 1) i (j + k)
+      Writing lens l t step c b start own e w z o₀ o₂ (p + k) q (a + step) (left - 1) i (j + k)
   writing-plain o₂ d =
       let r : Stop = record { word = i; byte = j + k; to = p + k } in
       let s = part-done (treeOf l f) c b i j i k o p plain-form r o₂ (part-stored o p b i j k o₂ (plain-form .there) d) in
-      rw plain-head at (writing-next lens l t c b start own e w z o₀ o p q a left i j f u g y v k n p o plain-begun r o₂ s)
+      rw plain-head at (writing-next lens l t step c b start own e w z o₀ o p q a left i j f u g y v k n p o plain-begun r o₂ s)

@@ -13,23 +13,26 @@ use lib.Seq.{drop-drop, drop-cons}
 use Rattle.standard.specs.Choice.{pick}
 use Rattle.standard.specs.Bytes.{Bytes, num, numAt}
 use Rattle.standard.specs.Bits.{bit, bitsOf}
-use Rattle.standard.specs.Types.{Ty, Tys, Opts, number, boolean, fixedBytes, freeBytes, bitVector, bitList, container, union, end, field, over, bare, body}
+use Rattle.standard.specs.Types.{Ty, Tys, Opts, number, boolean, fixedBytes, freeBytes, bitVector, bitList, container, union, list, vector, end, field, over, bare, body}
 use Rattle.standard.specs.Serialize.{Val, Vals, Option, Ok, OkAll, OkOption}
 use Rattle.standard.specs.declared.Refusal.{Refusal}
 use Rattle.standard.specs.declared.Refusal.the-variants.{BadValue}
 use Rattle.standard.proofs.Bytes.{bytes-take, bytes-drop, le-num, le-numAt, numAt-bound}
 use Rattle.standard.proofs.Bits.{packs-le, length-bitsOf, bitNum-bitsOf}
+use Rattle.standard.proofs.Elements.{All, copies, all-copies, asList, length-asList, copies-ok}
 use Rattle.bitfield.proofs.Bodies.{below-cut}
 use Rattle.message.specs.Read.{rawBytes}
 use Rattle.message.specs.Form.{rawBits, contents, contentsAll, contentsOption, bodies, bodiesAll, bodiesOption}
-use Rattle.value.specs.Walk.{Walked, upto, wrong, onward, withWord, withBody, lastBits, walkBits, walkItem, walkFields, walkOption}
+use Rattle.message.proofs.Copies.{contents-copies, bodies-copies}
+use Rattle.value.specs.Walk.{Walked, upto, wrong, onward, withWord, withBody, lastBits, walkBits, walkEach, walkItem, walkFields, walkOption}
 use Rattle.value.specs.Write.{bytesAt}
+use Rattle.value.proofs.Copies.{walk-copies}
 use Rattle.value.proofs.Walks.{length-bytesAt}
 use Rattle.value.proofs.Forms.{at-byte, last-alone, num-one}
 
 -- What 25 names: which list, and the place in it
 abbrev pub Fault : Refusal → Type 0
-Fault r = (list at : ℕ) × (r ≡ BadValue list at)
+Fault r = (which at : ℕ) × (r ≡ BadValue which at)
 
 -- What a form is of: a value, the values of fields, or one of some options; with its bounds, its contents and its bodies
 pub record Formal : Type 1 where
@@ -59,9 +62,9 @@ module _ (c b : List ℕ) (h : Bytes b) where
 
   -- A test: where it does not hold, the walk ends at a fault.
   module _ (f : Formal) (i j : ℕ) where
-    tested : (q : Bool) (w : Walked) (list at : ℕ) → (q ≡ true → Says f i j w) → Says f i j (pick q w (wrong (BadValue list at)))
-    tested true w list at g = g refl
-    tested false w list at g = (list, at, refl)
+    tested : (q : Bool) (w : Walked) (which at : ℕ) → (q ≡ true → Says f i j w) → Says f i j (pick q w (wrong (BadValue which at)))
+    tested true w which at g = g refl
+    tested false w which at g = (which, at, refl)
 
     bodied : (n : ℕ) (w : Walked) → (j + n ≤ length b → Says f i j w) → Says f i j (withBody b j n w)
     bodied n w g = tested (leb (j + n) (length b)) w 1 (length b) (λ e. g (leb-true _ _ e))
@@ -158,9 +161,41 @@ module _ (c b : List ℕ) (h : Bytes b) where
       behind (item t) (chosen (body s t os)) i j (i + 1) j (s ∷ []) [] (f refl) refl inl (λ v o. o) (λ v. refl) (λ v. refl) u p
   body-said s t os i j false u w f p q = behind (chosen os) (chosen (body s t os)) i j i j [] [] refl refl inr (λ v o. o) (λ v. refl) (λ v. refl) w q
 
+  -- The law about one type, from it that about a row of fields, and that about elements
+  Said : Ty → Type 0
+  Said t = (i j : ℕ) → Says (item t) i j (walkItem t c b i j)
+
+  row-said : (ts : Tys) → All Said ts → (i j : ℕ) → Says (all ts) i j (walkFields ts c b i j)
+  unfolding Said walkItem contents bodies Ok
+  row-said end f i j = (tt, tt, refl, refl)
+  row-said (field t ts) f i j = onward-said t ts i j (walkItem t c b i j) (f .0 i j) (λ m n. row-said ts (f .1) m n)
+
+  module _ (t : ℕ) (e : Ty) (f : Said e) (n : ℕ) where
+    elements-said : (i j : ℕ) → Says (all (copies e n)) i j (walkEach (λ (m k : ℕ). walkItem e c b m k) n i j)
+    elements-said i j = rw (walk-copies e c b n i j) (row-said (copies e n) (all-copies Said e n f) i j)
+
+    vector-said : (i j : ℕ) → Says (item (vector t e n)) i j (walkItem (vector t e n) c b i j)
+    unfolding walkItem contents bodies Ok
+    vector-said i j =
+        behind (all (copies e n)) (item (vector t e n)) i j i j [] [] refl refl (asList e n)
+        (λ vs o. (length-asList e n vs, copies-ok e n vs o)) (λ vs. contents-copies e n vs) (λ vs. bodies-copies e n vs)
+        (walkEach (λ (m k : ℕ). walkItem e c b m k) n i j) (elements-said i j)
+
+    -- behind the word that says n
+    list-said :
+        (limit i j : ℕ) → n ≤ limit → drop i c ≡ (n ∷ []) ++ drop (i + 1) c
+        → Says (item (list t e limit)) i j (walkEach (λ (m k : ℕ). walkItem e c b m k) n (i + 1) j)
+    unfolding contents bodies Ok
+    list-said limit i j h d =
+        behind (all (copies e n)) (item (list t e limit)) i j (i + 1) j (n ∷ []) [] d refl (asList e n)
+        (λ vs o. (rw (length-asList e n vs) h, copies-ok e n vs o))
+        (λ vs. rw (length-asList e n vs) (ap (λ (x : List ℕ). n ∷ x) (contents-copies e n vs)))
+        (λ vs. bodies-copies e n vs)
+        (walkEach (λ (m k : ℕ). walkItem e c b m k) n (i + 1) j) (elements-said (i + 1) j)
+
   -- An item, the fields of a container, and the option that the word at i selects
   mutual
-    unfolding walkItem contents bodies Ok numAt
+    unfolding Said walkItem contents bodies Ok numAt
 
     pub item-said : (t : Ty) (i j : ℕ) → Says (item t) i j (walkItem t c b i j)
     item-said (number t w) i j =
@@ -191,14 +226,18 @@ module _ (c b : List ℕ) (h : Bytes b) where
         (λ p q.
         bits-said (Ok (bitList t limit)) (contents (bitList t limit)) i j (i + 1) (getD c i 0)
         (λ v l. (rw l q, word-here i (length v) p (sym l))))
-    item-said (container t ts) i j = fields-said ts i j
+    item-said (container t ts) i j = row-said ts (all-said ts) i j
     item-said (union t os) i j =
         tested (item (union t os)) i j (ltb i (length c)) _ 0 (length c)
         (λ e. option-said os i j (ltb-true _ _ e))
+    item-said (list t e limit) i j =
+        worded (item (list t e limit)) i j limit _
+        (λ p q. list-said t e (λ m k. item-said e m k) (getD c i 0) limit i j q (word-here i _ p refl))
+    item-said (vector t e n) i j = vector-said t e (λ m k. item-said e m k) n i j
 
-    fields-said : (ts : Tys) (i j : ℕ) → Says (all ts) i j (walkFields ts c b i j)
-    fields-said end i j = (tt, tt, refl, refl)
-    fields-said (field t ts) i j = onward-said t ts i j (walkItem t c b i j) (item-said t i j) (λ m n. fields-said ts m n)
+    all-said : (ts : Tys) → All Said ts
+    all-said end = tt
+    all-said (field t ts) = ((λ i j. item-said t i j), all-said ts)
 
     option-said : (os : Opts) (i j : ℕ) → i < length c → Says (chosen os) i j (walkOption os (getD c i 0) c b i j)
     option-said over i j p = (0, i, refl)

@@ -1,11 +1,11 @@
 -- The form of a value, walked: document 01, "25 names the first fault in preorder". Assumes nothing: these are definitions.
-use Prim.Native.Nat.{ℕ, _+_, _-_, _*_, _^_}
+use Prim.Native.Nat.{ℕ, zero, suc, _+_, _-_, _*_, _^_}
 use mathlib.Core.List.{List}
 use mathlib.Core.Bool.{Bool}
 use lib.ListN.{length, getD}
 use lib.Dec.{eqb, ltb, leb}
 use Rattle.standard.specs.Choice.{pick}
-use Rattle.standard.specs.Types.{Ty, Tys, Opts, number, boolean, fixedBytes, freeBytes, bitVector, bitList, container, union, end, field, over, bare, body}
+use Rattle.standard.specs.Types.{Ty, Tys, Opts, number, boolean, fixedBytes, freeBytes, bitVector, bitList, container, union, list, vector, end, field, over, bare, body}
 use Rattle.standard.specs.declared.Refusal.{Refusal}
 use Rattle.standard.specs.declared.Refusal.the-variants.{BadValue}
 use Rattle.message.specs.Read.{rawBytes}
@@ -39,6 +39,11 @@ walkBits b k i j =
     (upto i (j + rawBytes k))
     (wrong (BadValue 1 (j + rawBytes k - 1))))
 
+-- The forms of n elements, one behind another, each walked by `item`
+unfoldable pub walkEach : (ℕ → ℕ → Walked) → ℕ → ℕ → ℕ → Walked
+walkEach item zero i j = upto i j
+walkEach item (suc n) i j = onward (item i j) (λ m k. walkEach item n m k)
+
 unfoldable mutual
   -- The form of an item, from the contents word i and the body byte j on
   pub walkItem : Ty → List ℕ → List ℕ → ℕ → ℕ → Walked
@@ -51,6 +56,10 @@ unfoldable mutual
   walkItem (bitList t limit) c b i j = withWord c i (leb (getD c i 0) limit) (walkBits b (getD c i 0) (i + 1) j)
   walkItem (container t ts) c b i j = walkFields ts c b i j
   walkItem (union t os) c b i j = pick (ltb i (length c)) (walkOption os (getD c i 0) c b i j) (wrong (BadValue 0 (length c)))
+  -- "a contents word for a list's count, missing or over the limit 25 as at a leaf, before its elements"
+  walkItem (list t e limit) c b i j =
+      withWord c i (leb (getD c i 0) limit) (walkEach (λ (m k : ℕ). walkItem e c b m k) (getD c i 0) (i + 1) j)
+  walkItem (vector t e n) c b i j = walkEach (λ (m k : ℕ). walkItem e c b m k) n i j
 
   pub walkFields : Tys → List ℕ → List ℕ → ℕ → ℕ → Walked
   walkFields end c b i j = upto i j

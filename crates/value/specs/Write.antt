@@ -1,12 +1,13 @@
 -- The message that the form of a value says, and the call that writes it. Assumes nothing: these are definitions.
-use Prim.Native.Nat.{ℕ, _+_, _/_, _%_, _^_}
+use Prim.Native.Nat.{ℕ, zero, suc, _+_, _/_, _%_, _^_}
 use mathlib.Core.List.{List, [], _∷_, _++_}
 use lib.ListN.{length, getD, take, drop}
 use lib.Seq.{sets}
 use lib.Dec.{eqb, ltb}
 use Rattle.standard.specs.Choice.{pick}
-use Rattle.standard.specs.Types.{Ty, Tys, Opts, number, boolean, fixedBytes, freeBytes, bitVector, bitList, container, union, end, field, over, bare, body, head}
+use Rattle.standard.specs.Types.{Ty, Tys, Opts, number, boolean, fixedBytes, freeBytes, bitVector, bitList, container, union, list, vector, end, field, over, bare, body, head}
 use Rattle.standard.specs.Parts.{Part, piece, join}
+use Rattle.standard.specs.declared.Head.{Head}
 use Rattle.standard.specs.declared.Refusal.the-variants.{BadLayout, TooLarge, NoRoom, BadValue}
 use Rattle.layout.specs.Table.{tableOf}
 use Rattle.layout.specs.declared.Checked.{Checked}
@@ -34,6 +35,11 @@ bytesAt b j n = take n (drop j b)
 abbrev pub withMark : List ℕ → ℕ → ℕ → List ℕ
 withMark b j k = bytesAt b j (k / 8) ++ (pick (eqb (k % 8) 0) 1 (getD b (j + k / 8) 0 + 2 ^ (k % 8)) ∷ [])
 
+-- The parts of n elements with this head, each behind the form of the one before, which `walk` walks and `write` writes
+unfoldable pub partsEach : Head → (ℕ → ℕ → Walked) → (ℕ → ℕ → List ℕ) → ℕ → ℕ → ℕ → List Part
+partsEach h walk write zero i j = []
+partsEach h walk write (suc n) i j = piece h (write i j) ∷ partsEach h walk write n (wordAfter (walk i j)) (byteAfter (walk i j))
+
 unfoldable mutual
   -- The bytes of an item whose form starts at the contents word i and the body byte j
   pub writeItem : Ty → List ℕ → List ℕ → ℕ → ℕ → List ℕ
@@ -45,6 +51,9 @@ unfoldable mutual
   writeItem (bitList t limit) c b i j = withMark b j (getD c i 0)
   writeItem (container t ts) c b i j = join (partsFrom ts c b i j)
   writeItem (union t os) c b i j = getD c i 0 ∷ writeOption os (getD c i 0) c b i j
+  writeItem (list t e limit) c b i j =
+      join (partsEach (head e) (λ (m k : ℕ). walkItem e c b m k) (λ (m k : ℕ). writeItem e c b m k) (getD c i 0) (i + 1) j)
+  writeItem (vector t e n) c b i j = join (partsEach (head e) (λ (m k : ℕ). walkItem e c b m k) (λ (m k : ℕ). writeItem e c b m k) n i j)
 
   -- The fields, each behind the form of the one before
   pub partsFrom : Tys → List ℕ → List ℕ → ℕ → ℕ → List Part

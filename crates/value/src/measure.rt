@@ -15,7 +15,7 @@ ghost use Rattle.standard.specs.Choice.{pick};
 ghost use Rattle.standard.specs.Types.{freeBytes, bitList};
 ghost use Rattle.standard.specs.Parts.{join};
 ghost use Rattle.standard.specs.declared.Refusal.the-variants.{BadValue};
-ghost use Rattle.layout.specs.Tree.{leafOf, treeOf, headOf};
+ghost use Rattle.layout.specs.Tree.{nodeOf, leafOf, treeOf, headOf};
 ghost use Rattle.message.specs.Read.{rawBytes};
 ghost use Rattle.message.specs.Steps.{Under, Row, rowOf, isPlain};
 ghost use Rattle.value.specs.Walk.{upto, wrong, withBody, walkBits, walkItem, walkFields};
@@ -294,7 +294,7 @@ pub(crate) fn measure_item(
     let n = look_in(layout, t);
     let first = n.at + 2;
     if n.kind == 6 {
-        measure_fields(lens, layout, t, first, n.second, contents, bodies, i, j)
+        measure_fields(lens, layout, t, first, 1, n.second, contents, bodies, i, j)
     } else if n.kind == 7 {
         let c = select(layout, first, n.second, contents, i);
         match c {
@@ -313,26 +313,92 @@ pub(crate) fn measure_item(
             }
             Choice::Wrong(x) => Measured::Wrong(x),
         }
-    } else {
+    } else if n.kind < 6 {
         measure_leaf(n, contents, bodies, i, j)
+    } else {
+        measure_elements(lens, layout, n, t, contents, bodies, i, j)
     }
 }
 
-// Measures the forms of the n fields of type t that the words from a0 on name. Most fields are numbers or fixed bytes, which need no call,
-// and another kind below 6 has no lower types: only a container or a union is measured as an item.
+// Measures the form of a list or vector of the type t, whose words are n: a list's count stands before its elements.
+fn measure_elements(
+    lens: &[u32; 64],
+    layout: &[u8],
+    n: Node,
+    t: usize,
+    contents: &[u32],
+    bodies: &[u8],
+    i: usize,
+    j: usize,
+) -> Measured
+    requires { ⌜ Under (now lens) (now layout) (t + 1) × (n ≡ nodeOf (now layout) t) × (8 ≤ n .kind) ⌝ }
+    ensures { λ r. ⌜ r ≡ measured (walkItem (treeOf (now (layout .entry)) t) (now (contents .entry)) (now (bodies .entry)) i j) (length (writeItem (treeOf (now (layout .entry)) t) (now (contents .entry)) (now (bodies .entry)) i j)) ⌝ }
+{
+    let third = word_in(layout, n.at + 2);
+    if n.kind == 9 {
+        return measure_many(lens, layout, n, t, third, contents, bodies, i, j);
+    }
+    if i >= contents.len() {
+        return Measured::Wrong(Refusal::BadValue(0, contents.len()));
+    }
+    let m = contents[i] as usize;
+    if m > third {
+        return Measured::Wrong(Refusal::BadValue(0, i));
+    }
+    let word = i + 1;
+    measure_many(lens, layout, n, t, m, contents, bodies, word, j)
+}
+
+// Measures the forms of m elements of a list or vector of the type t, whose words are n. Numbers and fixed bytes are measured at once.
+fn measure_many(
+    lens: &[u32; 64],
+    layout: &[u8],
+    n: Node,
+    t: usize,
+    m: usize,
+    contents: &[u32],
+    bodies: &[u8],
+    i: usize,
+    j: usize,
+) -> Measured
+    requires { ⌜ Under (now lens) (now layout) (t + 1) × (n ≡ nodeOf (now layout) t) × (8 ≤ n .kind) × (m < 2 ^ 32) ⌝ }
+    ensures { λ r. ⌜ r ≡ measured (walkFields (rowOf (now (layout .entry)) t (n .at + 1) 0 m) (now (contents .entry)) (now (bodies .entry)) i j) (length (join (partsFrom (rowOf (now (layout .entry)) t (n .at + 1) 0 m) (now (contents .entry)) (now (bodies .entry)) i j))) ⌝ }
+{
+    if m == 0 {
+        return Measured::Upto(Mark {
+            word: i,
+            byte: j,
+            len: 0,
+        });
+    }
+    let f = n.second;
+    let e = look_in(layout, f);
+    if is_plain(e.kind) {
+        let k = lens[f] as usize;
+        let size = m * k;
+        return measure_exact(bodies, i, j, size);
+    }
+    let first = n.at + 1;
+    measure_fields(lens, layout, t, first, 0, m, contents, bodies, i, j)
+}
+
+// Measures the forms of the n fields of type t that the words from a0 on name, which stand step words apart: 1 for fields, 0 for elements,
+// which share one. Most are numbers or fixed bytes, which need no call, and another kind below 6 has no lower types: only what has lower
+// types is measured as an item.
 fn measure_fields(
     lens: &[u32; 64],
     layout: &[u8],
     t: usize,
     a0: usize,
+    step: usize,
     n: usize,
     contents: &[u32],
     bodies: &[u8],
     i0: usize,
     j0: usize,
 ) -> Measured
-    requires { ⌜ Row (now lens) (now layout) t a0 n ⌝ }
-    ensures { λ r. ⌜ r ≡ measured (walkFields (rowOf (now (layout .entry)) t a0 n) (now (contents .entry)) (now (bodies .entry)) i0 j0) (length (join (partsFrom (rowOf (now (layout .entry)) t a0 n) (now (contents .entry)) (now (bodies .entry)) i0 j0))) ⌝ }
+    requires { ⌜ Row (now lens) (now layout) t a0 step n ⌝ }
+    ensures { λ r. ⌜ r ≡ measured (walkFields (rowOf (now (layout .entry)) t a0 step n) (now (contents .entry)) (now (bodies .entry)) i0 j0) (length (join (partsFrom (rowOf (now (layout .entry)) t a0 step n) (now (contents .entry)) (now (bodies .entry)) i0 j0))) ⌝ }
 {
     let mut sum: usize = 0;
     let mut a = a0;
@@ -343,7 +409,7 @@ fn measure_fields(
         let f = word_in(layout, a);
         let n = look_in(layout, f);
         let k = lens[f] as usize;
-        a += 1;
+        a += step;
         left -= 1;
         if is_plain(n.kind) {
             if !has(bodies, j, k) {

@@ -17,13 +17,14 @@ ghost use Rattle.standard.specs.Choice.{pick};
 ghost use Rattle.standard.specs.Bytes.{Stored, Room};
 ghost use Rattle.standard.specs.Types.{width, portion};
 ghost use Rattle.standard.specs.Parts.{join};
-ghost use Rattle.layout.specs.Tree.{leafOf, treeOf, headOf};
+ghost use Rattle.layout.specs.Table.{count};
+ghost use Rattle.layout.specs.Tree.{nodeOf, leafOf, treeOf, headOf};
 ghost use Rattle.message.specs.Read.{rawBytes};
-ghost use Rattle.message.specs.Steps.{Under, rowOf, headsOf};
+ghost use Rattle.message.specs.Steps.{Under, Row, rowOf, headsOf};
 ghost use Rattle.value.specs.Walk.{upto, lastBits, walkItem, walkFields};
 ghost use Rattle.value.specs.Write.{bytesAt, withMark, writeItem, partsFrom};
 ghost use Rattle.value.specs.Steps.{IsUpto};
-ghost use Rattle.value.specs.Stores.{Put, Begun, headAfter, tailAfter, Owned, Fields};
+ghost use Rattle.value.specs.Stores.{Put, Begun, headAfter, tailAfter, Owned, Fields, Counted};
 
 // How far the contents and the bodies are used, and where what was written ends.
 pub(crate) struct Stop {
@@ -131,14 +132,30 @@ fn put_selector(out: &mut [u8], at: usize, contents: &[u32], i: usize)
     out[at] = k as u8;
 }
 
-// The fixed portion of the n fields of type t that the words from a0 on name: the type's own length where it has one.
-fn portion_of(lens: &[u32; 64], layout: &[u8], t: usize, a0: usize, n: usize) -> usize
-    requires { ⌜ Owned (now lens) (now layout) t a0 n ⌝ }
-    ensures { λ r. ⌜ r ≡ portion (headsOf (now (layout .entry)) t a0 n) ⌝ }
+// The fixed portion of n elements of type t, which share the word a: there may be very many, so they are not added up one by one.
+fn shared_portion(lens: &[u32; 64], layout: &[u8], t: usize, a: usize, n: usize) -> usize
+    requires { ⌜ Row (now lens) (now layout) t a 0 n × (portion (headsOf (now layout) t a 0 n) < 2 ^ 64) ⌝ }
+    ensures { λ r. ⌜ r ≡ portion (headsOf (now (layout .entry)) t a 0 n) ⌝ }
+{
+    if n == 0 {
+        return 0;
+    }
+    let f = word_in(layout, a);
+    let k = width_of(lens[f] as usize);
+    n * k
+}
+
+// The fixed portion of the n fields of type t that the words from a0 on name, step words apart: the type's own length where it has one.
+fn portion_of(lens: &[u32; 64], layout: &[u8], t: usize, a0: usize, step: usize, n: usize) -> usize
+    requires { ⌜ Owned (now lens) (now layout) t a0 step n × (portion (headsOf (now layout) t a0 step n) < 2 ^ 64) ⌝ }
+    ensures { λ r. ⌜ r ≡ portion (headsOf (now (layout .entry)) t a0 step n) ⌝ }
 {
     let own = lens[t] as usize;
     if own > 0 {
         return own;
+    }
+    if step == 0 {
+        return shared_portion(lens, layout, t, a0, n);
     }
     let mut a = a0;
     let mut left = n;
@@ -147,7 +164,7 @@ fn portion_of(lens: &[u32; 64], layout: &[u8], t: usize, a0: usize, n: usize) ->
         let f = word_in(layout, a);
         let k = width_of(lens[f] as usize);
         sum += k;
-        a += 1;
+        a += step;
         left -= 1;
     }
     sum
@@ -204,12 +221,12 @@ pub(crate) fn write_item(
     ensures { λ r. ⌜ Put (now (out .entry)) at (writeItem (treeOf (now (layout .entry)) t) (now (contents .entry)) (now (bodies .entry)) i j) (walkItem (treeOf (now (layout .entry)) t) (now (contents .entry)) (now (bodies .entry)) i j) r (now (out .exit)) ⌝ }
 {
     let n = look_in(layout, t);
-    let first = n.at + 2;
+    let a = n.at + 2;
     let k = n.second;
     if n.kind == 6 {
-        write_fields(out, at, lens, layout, t, first, k, contents, bodies, i, j)
+        write_fields(out, at, lens, layout, t, a, 1, k, contents, bodies, i, j)
     } else if n.kind == 7 {
-        let c = select(layout, first, k, contents, i);
+        let c = select(layout, a, k, contents, i);
         match c {
             Choice::Bare => {
                 put_selector(out, at, contents, i);
@@ -229,13 +246,79 @@ pub(crate) fn write_item(
                 to: at,
             },
         }
-    } else {
+    } else if n.kind < 6 {
         put_leaf(out, at, n, contents, bodies, i, j)
+    } else {
+        write_elements(out, at, lens, layout, n, t, contents, bodies, i, j)
     }
 }
 
-// Stores the n fields of type t that the words from a0 on name: each head in the fixed portion, each body of variable size behind it.
-// A number or fixed bytes are copied at once, another kind below 6 has no lower types: only a container or a union is stored as an item.
+// How many elements a list or vector has, and the contents word that theirs start with.
+struct Run {
+    many: usize,
+    word: usize,
+}
+
+// A vector's count is in the table, a list's is the contents word before its elements.
+fn run_of(layout: &[u8], n: Node, contents: &[u32], i: usize) -> Run
+    requires { ⌜ (n .at + 2 < count (now layout)) × ((n .kind ≡ 9 → ⊥) → i < length (now contents)) ⌝ }
+    ensures { λ r. ⌜ Counted (now (layout .entry)) n (now (contents .entry)) i r ⌝ }
+{
+    if n.kind == 9 {
+        let many = word_in(layout, n.at + 2);
+        return Run { many, word: i };
+    }
+    let many = contents[i] as usize;
+    let word = i + 1;
+    Run { many, word }
+}
+
+// Stores the list or vector of the type t, whose words are n. Elements of a kind below 3 are body bytes alone: all of them are copied at
+// once. Without any, nothing says that j is within the bodies.
+fn write_elements(
+    out: &mut [u8],
+    at: usize,
+    lens: &[u32; 64],
+    layout: &[u8],
+    n: Node,
+    t: usize,
+    contents: &[u32],
+    bodies: &[u8],
+    i: usize,
+    j: usize,
+) -> Stop
+    requires { ⌜ Under (now lens) (now layout) (t + 1) × (n ≡ nodeOf (now layout) t) × (8 ≤ n .kind) × IsUpto (walkItem (treeOf (now layout) t) (now contents) (now bodies) i j) × Room (now out) at (writeItem (treeOf (now layout) t) (now contents) (now bodies) i j) ⌝ }
+    ensures { λ r. ⌜ Put (now (out .entry)) at (writeItem (treeOf (now (layout .entry)) t) (now (contents .entry)) (now (bodies .entry)) i j) (walkItem (treeOf (now (layout .entry)) t) (now (contents .entry)) (now (bodies .entry)) i j) r (now (out .exit)) ⌝ }
+{
+    let run = run_of(layout, n, contents, i);
+    let m = run.many;
+    let word = run.word;
+    let f = n.second;
+    let e = look_in(layout, f);
+    if m > 0 && e.kind < 3 {
+        let len = m * (lens[f] as usize);
+        return put_part(out, at, bodies, word, j, len);
+    }
+    let first = n.at + 1;
+    write_fields(
+        out,
+        at,
+        lens,
+        layout,
+        t,
+        first,
+        0,
+        m,
+        contents,
+        bodies,
+        word,
+        j,
+    )
+}
+
+// Stores the n fields of type t that the words from a0 on name, step words apart: each head in the fixed portion, each body of variable
+// size behind it. A number or fixed bytes are copied at once, another kind below 6 has no lower types: only a type that has some is
+// stored as an item.
 fn write_fields(
     out: &mut [u8],
     start: usize,
@@ -243,16 +326,17 @@ fn write_fields(
     layout: &[u8],
     t: usize,
     a0: usize,
+    step: usize,
     n: usize,
     contents: &[u32],
     bodies: &[u8],
     i0: usize,
     j0: usize,
 ) -> Stop
-    requires { ⌜ Fields (now lens) (now layout) t a0 n (now contents) (now bodies) i0 j0 (now out) start ⌝ }
-    ensures { λ r. ⌜ Put (now (out .entry)) start (join (partsFrom (rowOf (now (layout .entry)) t a0 n) (now (contents .entry)) (now (bodies .entry)) i0 j0)) (walkFields (rowOf (now (layout .entry)) t a0 n) (now (contents .entry)) (now (bodies .entry)) i0 j0) r (now (out .exit)) ⌝ }
+    requires { ⌜ Fields (now lens) (now layout) t a0 step n (now contents) (now bodies) i0 j0 (now out) start ⌝ }
+    ensures { λ r. ⌜ Put (now (out .entry)) start (join (partsFrom (rowOf (now (layout .entry)) t a0 step n) (now (contents .entry)) (now (bodies .entry)) i0 j0)) (walkFields (rowOf (now (layout .entry)) t a0 step n) (now (contents .entry)) (now (bodies .entry)) i0 j0) r (now (out .exit)) ⌝ }
 {
-    let own = portion_of(lens, layout, t, a0, n);
+    let own = portion_of(lens, layout, t, a0, step, n);
     let mut p = start;
     let mut q = start + own;
     let mut a = a0;
@@ -263,7 +347,7 @@ fn write_fields(
         let f = word_in(layout, a);
         let n = look_in(layout, f);
         let k = lens[f] as usize;
-        a += 1;
+        a += step;
         left -= 1;
         if is_plain(n.kind) {
             let byte = j + k;

@@ -8,10 +8,10 @@ use borrow.Author.Tests.{lt-ltb, not-true, not-false}
 use Rattle.layout.specs.Table.{count}
 use Rattle.layout.proofs.Facts.{length-filled, legal-node, legal-below}
 use Rattle.layout.proofs.Trees.{leaf-length, len-small}
-use Rattle.layout.proofs.Tables.{known-len, known-small}
+use Rattle.layout.proofs.Tables.{known-len, known-small, below-nine}
 use Rattle.layout.proofs.Lengths.{Taking, taking-start, taking-missing, taking-wrong, taking-lower, taking-width}
 use Rattle.layout.proofs.Lengths.{taking-fixed, taking-variable, taking-end, no-sizes}
-use Rattle.layout.proofs.Lengths.{sizes-len, legal-refs, lengthened}
+use Rattle.layout.proofs.Lengths.{sizes-len, legal-refs, lengthened, vector-lower, vector-small, vector-found}
 use Prim.Native.Nat.{ℕ, _<_}
 use borrow.Fn.Kinds.{In}
 use borrow.Fn.PlainCycle.{Measures, is, falls, and}
@@ -67,7 +67,18 @@ fields-len-calls t = (
 )
 
 abbrev fixed-len-calls : ℕ → fixed-len-lts.Claims
-fixed-len-calls t = (look-reads.Asked, look-reads.Learnt, leaf-len-reads.Asked, leaf-len-reads.Learnt, fields-len-below t, fields-len.Post)
+fixed-len-calls t = (
+  look-reads.Asked,
+  look-reads.Learnt,
+  word-at-reads.Asked,
+  word-at-reads.Learnt,
+  fixed-len-below t,
+  fixed-len.Post,
+  leaf-len-reads.Asked,
+  leaf-len-reads.Learnt,
+  fields-len-below t,
+  fields-len.Post,
+)
 
 abbrev fields-len-Inv-loop : fields-len-lts.InvT-loop
 fields-len-Inv-loop lens₀ known layout t a0 n words a₀ left₀ portion₀ fixed₀ lens a left portion fixed =
@@ -242,81 +253,149 @@ fixed-len-returns t c =
 fixed-len-look-requires : (t : ℕ) → fixed-len-lts.Need-look-requires (fixed-len-calls t) (fixed-len-at t) fixed-len.Post
 fixed-len-look-requires t c κs = search needs
 
-fixed-len-leaf-len-requires : (t : ℕ) → fixed-len-lts.Need-leaf-len-requires (fixed-len-calls t) (fixed-len-at t) fixed-len.Post
-fixed-len-leaf-len-requires t c κs =
+fixed-len-add-word-at : (t : ℕ) → fixed-len-lts.Need-add-word-at (fixed-len-calls t) (fixed-len-at t) fixed-len.Post
+fixed-len-add-word-at t c =
+    let c3 = c .before .before .before in
+    let start = c3 .before .before .before in
+    let g = legal-node _ _ _ (c3 .look .ensures) (start .pre .1 .1) in omega (arith, g .near)
+
+fixed-len-word-at-requires : (t : ℕ) → fixed-len-lts.Need-word-at-requires (fixed-len-calls t) (fixed-len-at t) fixed-len.Post
+fixed-len-word-at-requires t c κs = search needs
+
+fixed-len-fixed-len-requires : (t : ℕ) → fixed-len-lts.Need-fixed-len-requires (fixed-len-calls t) (fixed-len-at t) fixed-len.Post
+fixed-len-fixed-len-requires t c κs =
+    let c3 = c .before .before .before in
+    let c5 = c3 .before .before in
+    let start = c5 .before .before .before in
+    let h = vector-lower _ 0 _ _ (c5 .look .ensures) (start .pre .1 .1) (c3 .if2 .taken) in (
+      rw (← start .pre .0) (omega (arith, h)),
+      (
+        start .pre .1 .0,
+        legal-below _ _ _ (omega (arith, h)) (start .pre .1 .1),
+        omega (arith, h, start .pre .1 .2),
+        omega (arith, h, start .pre .1 .3),
+      ),
+    )
+
+fixed-len-mul-len : (t : ℕ) → fixed-len-lts.Need-mul-len (fixed-len-calls t) (fixed-len-at t) fixed-len.Post
+fixed-len-mul-len t c =
     let c2 = c .before .before in
-    let c5 = c2 .before .before .before in
-    legal-node _ _ _ (c2 .look .ensures) (c5 .pre .1 .1) .small
+    let c4 = c2 .before .before in
+    let c6 = c4 .before .before in
+    let start = c6 .before .before .before in
+    let small = vector-small _ 0 _ _ (c6 .look .ensures) (start .pre .1 .1) (c4 .if2 .taken) _ _ (c2 .word-at .ensures .0) (c .fixed-len .ensures .gives) in
+    omega (arith, small)
 
 fixed-len-cast-lens : (t : ℕ) → fixed-len-lts.Need-cast-lens (fixed-len-calls t) (fixed-len-at t) fixed-len.Post
 fixed-len-cast-lens t c =
-    let c1 = c .before in
-    let c3 = c1 .before .before in
-    let c6 = c3 .before .before .before in
-    let e = c .leaf-len .ensures ∙ leaf-length _ _ _ (c3 .look .ensures) (c1 .if2 .taken) in
-    omega (arith, e, len-small _ _ (legal-node _ _ _ refl (c6 .pre .1 .1)))
+    let c2 = c .before .before in
+    let c4 = c2 .before .before in
+    let c6 = c4 .before .before in
+    let start = c6 .before .before .before in
+    let small = vector-small _ 0 _ _ (c6 .look .ensures) (start .pre .1 .1) (c4 .if2 .taken) _ _ (c2 .word-at .ensures .0) (c .fixed-len .ensures .gives) in
+    omega (arith, small)
 
 fixed-len-mul-lens : (t : ℕ) → fixed-len-lts.Need-mul-lens (fixed-len-calls t) (fixed-len-at t) fixed-len.Post
 fixed-len-mul-lens t c =
-    let c6 = c .before .before .before .before .before .before in
-    omega (arith, c6 .pre .1 .3)
+    let start = c .before .before .before .before .before .before .before .before .before in
+    omega (arith, start .pre .1 .3)
 
 fixed-len-element-write-lens : (t : ℕ) → fixed-len-lts.Need-element-write-lens (fixed-len-calls t) (fixed-len-at t) fixed-len.Post
 fixed-len-element-write-lens t c =
-    let c6 = c .before .before .before .before .before .before in
-    c6 .pre .1 .3
+    let start = c .before .before .before .before .before .before .before .before .before in
+    start .pre .1 .3
 
 fixed-len-returns-2 : (t : ℕ) → fixed-len-lts.Need-returns-2 (fixed-len-calls t) (fixed-len-at t) fixed-len.Post
 fixed-len-returns-2 t c =
+    let c2 = c .before .before in
+    let c4 = c2 .before .before in
+    let c6 = c4 .before .before in
+    let start = c6 .before .before .before in
+    let c7 = c6 .before in
+    vector-found _ _ _ _ (c6 .look .ensures) (start .pre .1 .1) (c4 .if2 .taken) _ _ (c2 .word-at .ensures .0) (c .fixed-len .ensures .gives) _
+    (c .fixed-len .ensures .found) (start .pre .1 .2) (c7 .if1 .left) (start .pre .1 .3)
+
+fixed-len-leaf-len-requires : (t : ℕ) → fixed-len-lts.Need-leaf-len-requires (fixed-len-calls t) (fixed-len-at t) fixed-len.Post
+fixed-len-leaf-len-requires t c κs =
+    let c4 = c .before .before .before .before in
+    let start = c4 .before .before .before in
+    legal-node _ _ _ (c4 .look .ensures) (start .pre .1 .1) .small
+
+fixed-len-cast-lens-2 : (t : ℕ) → fixed-len-lts.Need-cast-lens-2 (fixed-len-calls t) (fixed-len-at t) fixed-len.Post
+fixed-len-cast-lens-2 t c =
     let c1 = c .before in
     let c3 = c1 .before .before in
-    let c4 = c3 .before in
-    let c6 = c4 .before .before in
-    let e = c .leaf-len .ensures ∙ leaf-length _ _ _ (c3 .look .ensures) (c1 .if2 .taken) in
-    lengthened _ _ _ _ _ (c6 .pre .1 .0 .found) (c6 .pre .1 .2) (c4 .if1 .left) (c6 .pre .1 .3) e
+    let c5 = c3 .before .before in
+    let c6 = c5 .before in
+    let start = c6 .before .before in
+    let g = legal-node _ _ _ (c5 .look .ensures) (start .pre .1 .1) in
+    let e = c .leaf-len .ensures ∙ leaf-length _ _ _ (c5 .look .ensures) (below-nine _ (g .known) (c3 .if2 .left)) (c1 .if3 .taken) in
+    omega (arith, e, len-small _ _ (legal-node _ _ _ refl (start .pre .1 .1)))
+
+fixed-len-mul-lens-2 : (t : ℕ) → fixed-len-lts.Need-mul-lens-2 (fixed-len-calls t) (fixed-len-at t) fixed-len.Post
+fixed-len-mul-lens-2 t c =
+    let start = c .before .before .before .before .before .before .before .before in
+    omega (arith, start .pre .1 .3)
+
+fixed-len-element-write-lens-2 : (t : ℕ) → fixed-len-lts.Need-element-write-lens-2 (fixed-len-calls t) (fixed-len-at t) fixed-len.Post
+fixed-len-element-write-lens-2 t c =
+    let start = c .before .before .before .before .before .before .before .before in
+    start .pre .1 .3
+
+fixed-len-returns-3 : (t : ℕ) → fixed-len-lts.Need-returns-3 (fixed-len-calls t) (fixed-len-at t) fixed-len.Post
+fixed-len-returns-3 t c =
+    let c1 = c .before in
+    let c3 = c1 .before .before in
+    let c5 = c3 .before .before in
+    let c6 = c5 .before in
+    let start = c6 .before .before in
+    let g = legal-node _ _ _ (c5 .look .ensures) (start .pre .1 .1) in
+    let e = c .leaf-len .ensures ∙ leaf-length _ _ _ (c5 .look .ensures) (below-nine _ (g .known) (c3 .if2 .left)) (c1 .if3 .taken) in
+    lengthened _ _ _ _ _ (start .pre .1 .0 .found) (start .pre .1 .2) (c6 .if1 .left) (start .pre .1 .3) e
 
 fixed-len-add-first : (t : ℕ) → fixed-len-lts.Need-add-first (fixed-len-calls t) (fixed-len-at t) fixed-len.Post
 fixed-len-add-first t c =
-    let c3 = c .before .before .before in
-    let c6 = c3 .before .before .before in
-    let g = legal-node _ _ _ (c3 .look .ensures) (c6 .pre .1 .1) in omega (arith, g .near)
+    let c5 = c .before .before .before .before .before in
+    let start = c5 .before .before .before in
+    let g = legal-node _ _ _ (c5 .look .ensures) (start .pre .1 .1) in omega (arith, g .near)
 
 fixed-len-fields-len-requires : (t : ℕ) → fixed-len-lts.Need-fields-len-requires (fixed-len-calls t) (fixed-len-at t) fixed-len.Post
 fixed-len-fields-len-requires t c κs =
     let c2 = c .before .before in
-    let c4 = c2 .before .before in
-    let c7 = c4 .before .before .before in
-    let g = legal-node _ _ _ (c4 .look .ensures) (c7 .pre .1 .1) in
-    (rw (← c7 .pre .0) (omega arith), (c7 .pre .1 .0, c7 .pre .1 .2, g .few (c2 .if2 .left), omega (arith, g .near)))
+    let c6 = c2 .before .before .before .before in
+    let start = c6 .before .before .before in
+    let g = legal-node _ _ _ (c6 .look .ensures) (start .pre .1 .1) in
+    (rw (← start .pre .0) (omega arith), (start .pre .1 .0, start .pre .1 .2, g .few (c2 .if3 .left), omega (arith, g .near)))
 
-fixed-len-cast-lens-2 : (t : ℕ) → fixed-len-lts.Need-cast-lens-2 (fixed-len-calls t) (fixed-len-at t) fixed-len.Post
-fixed-len-cast-lens-2 t c =
+fixed-len-cast-lens-3 : (t : ℕ) → fixed-len-lts.Need-cast-lens-3 (fixed-len-calls t) (fixed-len-at t) fixed-len.Post
+fixed-len-cast-lens-3 t c =
     let c3 = c .before .before .before in
-    let c5 = c3 .before .before in
-    let c8 = c5 .before .before .before in
-    let g = legal-node _ _ _ (c5 .look .ensures) (c8 .pre .1 .1) in
-    let e = sizes-len _ _ _ _ _ (c5 .look .ensures) (c3 .if2 .left) (c .fields-len .ensures .0) (legal-refs _ _ _ g (c3 .if2 .left)) in
-    omega (arith, e, len-small _ _ (legal-node _ _ _ refl (c8 .pre .1 .1)))
+    let c7 = c3 .before .before .before .before in
+    let c8 = c7 .before in
+    let start = c8 .before .before in
+    let g = legal-node _ _ _ (c7 .look .ensures) (start .pre .1 .1) in
+    let e = sizes-len _ _ _ _ _ (c7 .look .ensures) (c3 .if3 .left) (c .fields-len .ensures .0) (legal-refs _ _ _ g (c3 .if3 .left)) in
+    omega (arith, e, len-small _ _ (legal-node _ _ _ refl (start .pre .1 .1)))
 
-fixed-len-mul-lens-2 : (t : ℕ) → fixed-len-lts.Need-mul-lens-2 (fixed-len-calls t) (fixed-len-at t) fixed-len.Post
-fixed-len-mul-lens-2 t c =
-    let c8 = c .before .before .before .before .before .before .before .before in
-    omega (arith, c8 .pre .1 .3)
+fixed-len-mul-lens-3 : (t : ℕ) → fixed-len-lts.Need-mul-lens-3 (fixed-len-calls t) (fixed-len-at t) fixed-len.Post
+fixed-len-mul-lens-3 t c =
+    let start = c .before .before .before .before .before .before .before .before .before .before in
+    omega (arith, start .pre .1 .3)
 
-fixed-len-element-write-lens-2 : (t : ℕ) → fixed-len-lts.Need-element-write-lens-2 (fixed-len-calls t) (fixed-len-at t) fixed-len.Post
-fixed-len-element-write-lens-2 t c =
-    let c8 = c .before .before .before .before .before .before .before .before in
-    c8 .pre .1 .3
+fixed-len-element-write-lens-3 : (t : ℕ) → fixed-len-lts.Need-element-write-lens-3 (fixed-len-calls t) (fixed-len-at t) fixed-len.Post
+fixed-len-element-write-lens-3 t c =
+    let start = c .before .before .before .before .before .before .before .before .before .before in
+    start .pre .1 .3
 
-fixed-len-returns-3 : (t : ℕ) → fixed-len-lts.Need-returns-3 (fixed-len-calls t) (fixed-len-at t) fixed-len.Post
-fixed-len-returns-3 t c =
+fixed-len-returns-4 : (t : ℕ) → fixed-len-lts.Need-returns-4 (fixed-len-calls t) (fixed-len-at t) fixed-len.Post
+fixed-len-returns-4 t c =
     let c3 = c .before .before .before in
-    let c5 = c3 .before .before in
-    let c6 = c5 .before in
-    let c8 = c6 .before .before in
-    let g = legal-node _ _ _ (c5 .look .ensures) (c8 .pre .1 .1) in
-    let e = sizes-len _ _ _ _ _ (c5 .look .ensures) (c3 .if2 .left) (c .fields-len .ensures .0) (legal-refs _ _ _ g (c3 .if2 .left)) in
-    lengthened _ _ _ _ _ (c .fields-len .ensures .1 ∙ c8 .pre .1 .0 .found) (c8 .pre .1 .2) (c6 .if1 .left) (c8 .pre .1 .3) e
+    let c7 = c3 .before .before .before .before in
+    let c8 = c7 .before in
+    let start = c8 .before .before in
+    let g = legal-node _ _ _ (c7 .look .ensures) (start .pre .1 .1) in
+    let e = sizes-len _ _ _ _ _ (c7 .look .ensures) (c3 .if3 .left) (c .fields-len .ensures .0) (legal-refs _ _ _ g (c3 .if3 .left)) in
+    lengthened _ _ _ _ _ (c .fields-len .ensures .1 ∙ start .pre .1 .0 .found) (start .pre .1 .2) (c8 .if1 .left) (start .pre .1 .3) e
 
 pub +fields-len+fixed-len-spec : {M : Type 1} → statement M
 +fields-len+fixed-len-spec = close μ-fields-len μ-fixed-len (λ t. fields-len-lts.spec (fields-len-calls t)
@@ -348,14 +427,22 @@ pub +fields-len+fixed-len-spec : {M : Type 1} → statement M
     (fixed-len-cast-result t)
     (fixed-len-returns t)
     (fixed-len-look-requires t)
-    (fixed-len-leaf-len-requires t)
+    (fixed-len-add-word-at t)
+    (fixed-len-word-at-requires t)
+    (fixed-len-fixed-len-requires t)
+    (fixed-len-mul-len t)
     (fixed-len-cast-lens t)
     (fixed-len-mul-lens t)
     (fixed-len-element-write-lens t)
     (fixed-len-returns-2 t)
-    (fixed-len-add-first t)
-    (fixed-len-fields-len-requires t)
+    (fixed-len-leaf-len-requires t)
     (fixed-len-cast-lens-2 t)
     (fixed-len-mul-lens-2 t)
     (fixed-len-element-write-lens-2 t)
     (fixed-len-returns-3 t)
+    (fixed-len-add-first t)
+    (fixed-len-fields-len-requires t)
+    (fixed-len-cast-lens-3 t)
+    (fixed-len-mul-lens-3 t)
+    (fixed-len-element-write-lens-3 t)
+    (fixed-len-returns-4 t)

@@ -44,7 +44,8 @@ returns-3 c =
     let two : start .args .n .at + 1 + 1 ≡ start .args .n .at + 2 = omega arith in
     ended _ _ _ _ _
     (rw (lt-ltb _ _ (c4 .if1 .left), ← start .pre .0 .kind, ← start .pre .0 .second, ← c2 .before .leaf-ok .ensures, not-false (c2 .before .leaf-ok .result) (c2 .if2 .left), two))
-    (c .keep .ensures ∙ leaf-found _ _ _ (start .pre .0 .start) _ _ _ _ (start .pre .0 .kind) (start .pre .0 .second) (λ z. omega (arith, start .pre .1)) refl
+    (c .keep .ensures ∙ leaf-found _ _ _ (start .pre .0 .start) _ _ _ _ (start .pre .0 .kind) (start .pre .0 .second)
+    (omega (arith, start .pre .1)) (λ z. omega (arith, start .pre .1)) refl
     (start .pre .0 .known .found) (start .pre .0 .few))
 
 pub leaf-end-spec : {M : Type 1} → statement M

@@ -9,16 +9,16 @@ use Rattle.message.proofs.fields.lay_out.Statement.{statement}
 use Rattle.message.proofs.fields.lay_out.Tie as tie
 
 abbrev Inv-loop : tie.InvT-loop
-Inv-loop lens layout t a0 n b len p₀ first₀ previous₀ a₀ left₀ p first previous a left = Counting lens layout t a0 n b first previous p a left
+Inv-loop lens layout t a0 step n b len p₀ first₀ previous₀ a₀ left₀ p first previous a left = Counting lens layout t a0 step n b first previous p a left
 
 abbrev μ-loop : tie.MeasureT-loop
-μ-loop lens layout t a0 n b len p₀ first₀ previous₀ a₀ left₀ p first previous a left = left
+μ-loop lens layout t a0 step n b len p₀ first₀ previous₀ a₀ left₀ p first previous a left = left
 
 loop-holds : tie.Need-loop-holds Inv-loop μ-loop
 loop-holds c = counting-new (c .before .before .pre .0)
 
 word-in-requires : tie.Need-word-in-requires Inv-loop μ-loop
-word-in-requires c κs = row-there _ _ _ _ _ (c .before .loop .inv .laying .row) (c .loop-test .taken)
+word-in-requires c κs = row-there _ _ _ _ _ _ (c .before .loop .inv .laying .row) (c .loop-test .taken)
 
 mul-k : tie.Need-mul-k Inv-loop μ-loop
 mul-k c = omega (arith, c .word-in .ensures .1)
@@ -27,19 +27,20 @@ element-copy-out-k : tie.Need-element-copy-out-k Inv-loop μ-loop
 element-copy-out-k c =
     let c1 = c .before in
     let c2 = c1 .before in
-    row-few _ _ _ _ _ _ (c2 .loop .inv .laying .row) (c1 .loop-test .taken) (c .word-in .ensures .0)
+    row-few _ _ _ _ _ _ _ (c2 .loop .inv .laying .row) (c1 .loop-test .taken) (c .word-in .ensures .0)
 
 cast-k : tie.Need-cast-k Inv-loop μ-loop
 cast-k c =
     let c1 = c .before in
     let c2 = c1 .before in
     let c3 = c2 .before in
-    omega (arith, row-small _ _ _ _ _ _ (c3 .loop .inv .laying .row) (c2 .loop-test .taken) (c1 .word-in .ensures .0))
+    omega (arith, row-small _ _ _ _ _ _ _ (c3 .loop .inv .laying .row) (c2 .loop-test .taken) (c1 .word-in .ensures .0))
 
 add-a : tie.Need-add-a Inv-loop μ-loop
 add-a c =
     let c3 = c .before .before .before in
-    omega (arith, c3 .loop .inv .laying .row .near)
+    let r = c3 .loop .inv .laying .row in
+    omega (arith, r .near, r .steps)
 
 sub-left : tie.Need-sub-left Inv-loop μ-loop
 sub-left c =
@@ -52,7 +53,7 @@ add-p c =
     let c3 = c2 .before in
     let c4 = c3 .before in
     let c7 = c4 .before .before .before in
-    let s = row-small _ _ _ _ _ _ (c4 .loop .inv .laying .row) (c3 .loop-test .taken) (c2 .word-in .ensures .0) in
+    let s = row-small _ _ _ _ _ _ _ (c4 .loop .inv .laying .row) (c3 .loop-test .taken) (c2 .word-in .ensures .0) in
     omega (arith, s, c4 .loop .inv .laying .within, c7 .pre .1)
 
 returns : tie.Need-returns Inv-loop μ-loop
@@ -83,8 +84,8 @@ add-next c =
     let c7 = c4 .before .before .before in
     omega (arith, c4 .loop .inv .laying .within, c7 .pre .1)
 
-sub-t24 : tie.Need-sub-t24 Inv-loop μ-loop
-sub-t24 c =
+sub-t25 : tie.Need-sub-t25 Inv-loop μ-loop
+sub-t25 c =
     let c5 = c .before .before .before .before .before in
     c5 .loop .inv .laying .within
 
@@ -185,7 +186,7 @@ lay-out-spec =
     loop-less
     loop-again
     add-next
-    sub-t24
+    sub-t25
     returns-2
     four-in-requires
     returns-3

@@ -9,7 +9,8 @@ use Rattle.standard.proofs.Store.{stored-then, stored-none, room-then}
 use Rattle.message.proofs.Rows.{Lies, span-lies, row-there, row-legal, row-below, row-under, under-below}
 use Rattle.message.proofs.Bodies.{node-ok, container-row, body-below}
 use Rattle.message.proofs.Entries.{Storing, storing-accepted, storing-room, storing-next, storing-end, stored-length, room-long, list-container, list-leaf, container-accepted, union-bare, union-body, union-never, body-accepted}
-use Rattle.message.proofs.Entries.{leaf-stored}
+use Rattle.message.proofs.Entries.{leaf-stored, accepted-start}
+use Rattle.message.proofs.Manys.{several, many-held, many-ranges, many-row}
 use Prim.Native.Nat.{ℕ, _<_}
 use borrow.Fn.Kinds.{In}
 use borrow.Fn.PlainCycle.{Measures, is, falls, and}
@@ -22,6 +23,7 @@ use Rattle.message.proofs.listing.+list_fields+list_item.Lts-list_item 
 use Rattle.message.proofs.words.look_in.Reads as look-in-reads
 use Rattle.message.proofs.fields.locate.Reads as locate-reads
 use Rattle.message.proofs.items.select.Reads as select-reads
+use Rattle.message.proofs.elements.many_in.Reads as many-in-reads
 use Rattle.message.proofs.listing.put_entry.Reads as put-entry-reads
 use Rattle.message.proofs.words.word_in.Reads as word-in-reads
 use Rattle.message.proofs.listing.+list_fields+list_item.{statement}
@@ -49,10 +51,10 @@ list-item-below t =
     and 4 list-item-kinds.ps (falls 4 list-item-kinds.ps _<_ μ-list-item t) list-item.Pre
 
 abbrev list-fields-Inv-loop : list-fields-lts.InvT-loop
-list-fields-Inv-loop out₀ at0 lens layout t a0 n b start at₀ a₀ left₀ p₀ out at a left p = Storing lens layout t a0 n b start out₀ at0 out at a left p
+list-fields-Inv-loop out₀ at0 lens layout t a0 step n b start at₀ a₀ left₀ p₀ out at a left p = Storing lens layout t a0 step n b start out₀ at0 out at a left p
 
 abbrev list-fields-μ-loop : list-fields-lts.MeasureT-loop
-list-fields-μ-loop out₀ at0 lens layout t a0 n b start at₀ a₀ left₀ p₀ out at a left p = left
+list-fields-μ-loop out₀ at0 lens layout t a0 step n b start at₀ a₀ left₀ p₀ out at a left p = left
 
 -- what `list_fields` calls, at the measure t
 abbrev list-fields-calls : ℕ → list-fields-lts.Claims
@@ -82,6 +84,8 @@ list-item-calls t = (
   select-reads.Learnt,
   list-item-below t,
   list-item.Post,
+  many-in-reads.Asked,
+  many-in-reads.Learnt,
 )
 
 -- where the field lies that was located
@@ -91,7 +95,7 @@ list-fields-lies t c =
     let c1 = c .before in
     let c2 = c1 .before in
     let c3 = c2 .before in
-    span-lies _ _ _ _ _ _ _ _ (c3 .loop .inv .row) (c2 .loop-test .taken) (c1 .word-in .ensures .0) (c3 .loop .inv .ranges) _ (c .locate .ensures)
+    span-lies _ _ _ _ _ _ _ _ _ (c3 .loop .inv .row) (c2 .loop-test .taken) (c1 .word-in .ensures .0) (c3 .loop .inv .ranges) _ (c .locate .ensures)
 
 list-fields-loop-holds : (t : ℕ) → list-fields-lts.Need-loop-holds (list-fields-calls t) (list-fields-at t) list-fields.Post
     list-fields-Inv-loop list-fields-μ-loop
@@ -111,7 +115,7 @@ list-fields-word-in-requires : (t : ℕ) → list-fields-lts.Need-word-in-requir
     list-fields-Inv-loop list-fields-μ-loop
 list-fields-word-in-requires t c κs =
     let c1 = c .before in
-    row-there _ _ _ _ _ (c1 .loop .inv .row) (c .loop-test .taken)
+    row-there _ _ _ _ _ _ (c1 .loop .inv .row) (c .loop-test .taken)
 
 list-fields-locate-requires : (t : ℕ) → list-fields-lts.Need-locate-requires (list-fields-calls t) (list-fields-at t) list-fields.Post
     list-fields-Inv-loop list-fields-μ-loop
@@ -129,7 +133,7 @@ list-fields-add-place t c =
 list-fields-add-a : (t : ℕ) → list-fields-lts.Need-add-a (list-fields-calls t) (list-fields-at t) list-fields.Post list-fields-Inv-loop list-fields-μ-loop
 list-fields-add-a t c =
     let c3 = c .before .before .before in
-    omega (arith, c3 .loop .inv .row .near)
+    omega (arith, c3 .loop .inv .row .near, c3 .loop .inv .row .steps)
 
 list-fields-sub-left : (t : ℕ) → list-fields-lts.Need-sub-left (list-fields-calls t) (list-fields-at t) list-fields.Post
     list-fields-Inv-loop list-fields-μ-loop
@@ -141,7 +145,7 @@ list-fields-look-in-requires t c κs =
     let c1 = c .before in
     let c2 = c1 .before in
     let c3 = c2 .before in
-    row-legal _ _ _ _ _ _ (c3 .loop .inv .row) (c2 .loop-test .taken) (c1 .word-in .ensures .0)
+    row-legal _ _ _ _ _ _ _ (c3 .loop .inv .row) (c2 .loop-test .taken) (c1 .word-in .ensures .0)
 
 list-fields-sub-put-entry : (t : ℕ) → list-fields-lts.Need-sub-put-entry (list-fields-calls t) (list-fields-at t) list-fields.Post
     list-fields-Inv-loop list-fields-μ-loop
@@ -169,7 +173,7 @@ list-fields-put-entry-requires t c κs =
     let c7 = c6 .before in
     let c8 = c7 .before in
     let c12 = c8 .before .before .before .before in
-    (room-long _ _ _ _ _ (storing-room _ _ _ _ _ _ _ _ _ _ _ _ _ _ _ (c8 .loop .inv) (c7 .loop-test .taken) (c6 .word-in .ensures .0) _ (c5 .locate .ensures)), omega (arith, list-fields-lies t c5, c12 .pre .1 .1))
+    (room-long _ _ _ _ _ (storing-room _ _ _ _ _ _ _ _ _ _ _ _ _ _ _ _ (c8 .loop .inv) (c7 .loop-test .taken) (c6 .word-in .ensures .0) _ (c5 .locate .ensures)), omega (arith, list-fields-lies t c5, c12 .pre .1 .1))
 
 list-fields-add-at : (t : ℕ) → list-fields-lts.Need-add-at (list-fields-calls t) (list-fields-at t) list-fields.Post list-fields-Inv-loop list-fields-μ-loop
 list-fields-add-at t c =
@@ -178,7 +182,7 @@ list-fields-add-at t c =
     let c10 = c9 .before in
     let c11 = c10 .before in
     let c15 = c11 .before .before .before .before in
-    let room = room-long _ _ _ _ _ (storing-room _ _ _ _ _ _ _ _ _ _ _ _ _ _ _ (c11 .loop .inv) (c10 .loop-test .taken) (c9 .word-in .ensures .0) _ (c8 .locate .ensures)) in
+    let room = room-long _ _ _ _ _ (storing-room _ _ _ _ _ _ _ _ _ _ _ _ _ _ _ _ (c11 .loop .inv) (c10 .loop-test .taken) (c9 .word-in .ensures .0) _ (c8 .locate .ensures)) in
     omega (arith, room, stored-length _ _ _ _ _ (c11 .loop .inv .stored), c15 .good)
 
 list-fields-loop-less : (t : ℕ) → list-fields-lts.Need-loop-less (list-fields-calls t) (list-fields-at t) list-fields.Post
@@ -195,7 +199,7 @@ list-fields-loop-again t c =
     let c9 = c8 .before in
     let c10 = c9 .before in
     let c11 = c10 .before in
-    storing-next _ _ _ _ _ _ _ _ _ _ _ _ _ _ _ (c11 .loop .inv) (c10 .loop-test .taken) (c9 .word-in .ensures .0) _ (c8 .locate .ensures) _ _
+    storing-next _ _ _ _ _ _ _ _ _ _ _ _ _ _ _ _ (c11 .loop .inv) (c10 .loop-test .taken) (c9 .word-in .ensures .0) _ (c8 .locate .ensures) _ _
     (leaf-stored _ _ _ (c7 .look-in .ensures) (c5 .if1 .taken) _ _ _ _ _ _ (c2 .put-entry .ensures))
 
 list-fields-sub-list-item : (t : ℕ) → list-fields-lts.Need-sub-list-item (list-fields-calls t) (list-fields-at t) list-fields.Post
@@ -224,14 +228,14 @@ list-fields-list-item-requires t c κs =
     let c7 = c6 .before in
     let c8 = c7 .before in
     let c12 = c8 .before .before .before .before in
-    let lower = row-below _ _ _ _ _ _ (c8 .loop .inv .row) (c7 .loop-test .taken) (c6 .word-in .ensures .0) in
-    let under = row-under _ _ _ _ _ _ (c8 .loop .inv .row) (c7 .loop-test .taken) (c6 .word-in .ensures .0) in (
+    let lower = row-below _ _ _ _ _ _ _ (c8 .loop .inv .row) (c7 .loop-test .taken) (c6 .word-in .ensures .0) in
+    let under = row-under _ _ _ _ _ _ _ (c8 .loop .inv .row) (c7 .loop-test .taken) (c6 .word-in .ensures .0) in (
       omega (arith, lower, c12 .pre .0),
       (
         under,
         omega (arith, list-fields-lies t c5, c12 .pre .1 .1),
-        storing-accepted _ _ _ _ _ _ _ _ _ _ _ _ _ _ _ (c8 .loop .inv) (c7 .loop-test .taken) (c6 .word-in .ensures .0) _ (c5 .locate .ensures),
-        storing-room _ _ _ _ _ _ _ _ _ _ _ _ _ _ _ (c8 .loop .inv) (c7 .loop-test .taken) (c6 .word-in .ensures .0) _ (c5 .locate .ensures),
+        storing-accepted _ _ _ _ _ _ _ _ _ _ _ _ _ _ _ _ (c8 .loop .inv) (c7 .loop-test .taken) (c6 .word-in .ensures .0) _ (c5 .locate .ensures),
+        storing-room _ _ _ _ _ _ _ _ _ _ _ _ _ _ _ _ (c8 .loop .inv) (c7 .loop-test .taken) (c6 .word-in .ensures .0) _ (c5 .locate .ensures),
       ),
     )
 
@@ -247,7 +251,7 @@ list-fields-loop-again-2 t c =
     let c9 = c8 .before in
     let c10 = c9 .before in
     let c11 = c10 .before in
-    storing-next _ _ _ _ _ _ _ _ _ _ _ _ _ _ _ (c11 .loop .inv) (c10 .loop-test .taken) (c9 .word-in .ensures .0) _ (c8 .locate .ensures) _ _
+    storing-next _ _ _ _ _ _ _ _ _ _ _ _ _ _ _ _ (c11 .loop .inv) (c10 .loop-test .taken) (c9 .word-in .ensures .0) _ (c8 .locate .ensures) _ _
     (c2 .list-item .ensures)
 
 list-fields-same-length : (t : ℕ) → list-fields-lts.Need-same-length (list-fields-calls t) (list-fields-at t) list-fields.Post
@@ -259,7 +263,7 @@ list-fields-same-length t c =
 list-fields-returns : (t : ℕ) → list-fields-lts.Need-returns (list-fields-calls t) (list-fields-at t) list-fields.Post list-fields-Inv-loop list-fields-μ-loop
 list-fields-returns t c =
     let c1 = c .before in
-    storing-end _ _ _ _ _ _ _ _ _ _ _ _ _ _ (c1 .loop .inv) (c .loop-test .left)
+    storing-end _ _ _ _ _ _ _ _ _ _ _ _ _ _ _ (c1 .loop .inv) (c .loop-test .left)
 
 list-item-put-entry-requires : (t : ℕ) → list-item-lts.Need-put-entry-requires (list-item-calls t) (list-item-at t) list-item.Post
 list-item-put-entry-requires t c κs =
@@ -368,6 +372,43 @@ list-item-list-item-requires t c κs =
 list-item-enum-told-2 : (t : ℕ) → list-item-lts.Need-enum-told-2 (list-item-calls t) (list-item-at t) list-item.Post
 list-item-enum-told-2 t c = search needs
 
+list-item-many-in-requires : (t : ℕ) → list-item-lts.Need-many-in-requires (list-item-calls t) (list-item-at t) list-item.Post
+list-item-many-in-requires t c κs =
+    let c2 = c .before .before in
+    let c4 = c2 .before .before in
+    let c7 = c4 .before .before .before in
+    let c15 = c7 .before .before .before .before .before .before .before .before in
+    (c15 .pre .1 .0, c7 .look-in .ensures, several _ (c .if3 .left) (c4 .if1 .left) (c2 .if2 .left), accepted-start _ _ _ 0 (c15 .pre .1 .2))
+
+list-item-add-list-fields : (t : ℕ) → list-item-lts.Need-add-list-fields (list-item-calls t) (list-item-at t) list-item.Post
+list-item-add-list-fields t c =
+    let c10 = c .before .before .before .before .before .before .before .before .before .before in
+    let c18 = c10 .before .before .before .before .before .before .before .before in
+    omega (arith, node-ok _ _ _ _ (c10 .look-in .ensures) (c18 .pre .1 .0) .near)
+
+list-item-list-fields-requires-2 : (t : ℕ) → list-item-lts.Need-list-fields-requires-2 (list-item-calls t) (list-item-at t) list-item.Post
+list-item-list-fields-requires-2 t c κs =
+    let c2 = c .before .before in
+    let c3 = c2 .before in
+    let c5 = c3 .before .before in
+    let c7 = c5 .before .before in
+    let c10 = c7 .before .before .before in
+    let c13 = c10 .before .before .before in
+    let c18 = c13 .before .before .before .before .before in
+    let k = several _ (c3 .if3 .left) (c7 .if1 .left) (c5 .if2 .left) in
+    let held = many-held _ _ _ _ (c10 .look-in .ensures) (c18 .pre .1 .0) k _ _ (c18 .pre .1 .2) in (
+      omega (arith, c18 .pre .0),
+      (
+        rw (c2 .many-in .ensures)
+            (many-row _ _ _ _ (c10 .look-in .ensures) (c18 .pre .1 .0) k _ _ (c18 .pre .1 .2) (omega (arith, c18 .pre .1 .1))),
+        c18 .pre .1 .1,
+        rw (c2 .many-in .ensures)
+            (many-ranges _ _ _ _ (c10 .look-in .ensures) (c18 .pre .1 .0) k _ _ (c18 .pre .1 .2)),
+        rw (c2 .many-in .ensures) (held .accepted),
+        rw (c2 .many-in .ensures) (room-then _ _ _ _ _ _ _ (c18 .pre .1 .3) (held .listed) (c13 .put-entry .ensures)),
+      ),
+    )
+
 list-item-same-length : (t : ℕ) → list-item-lts.Need-same-length (list-item-calls t) (list-item-at t) list-item.Post
 list-item-same-length t c =
     let c2 = c .before .before in
@@ -432,15 +473,34 @@ list-item-returns-4 t c =
 
 list-item-same-length-5 : (t : ℕ) → list-item-lts.Need-same-length-5 (list-item-calls t) (list-item-at t) list-item.Post
 list-item-same-length-5 t c =
-    let c8 = c .before .before .before .before .before .before .before .before in
-    stored-length _ _ _ _ _ (c8 .put-entry .ensures)
+    let c10 = c .before .before .before .before .before .before .before .before .before .before in
+    stored-length _ _ _ _ _ (c10 .put-entry .ensures)
 
 list-item-returns-5 : (t : ℕ) → list-item-lts.Need-returns-5 (list-item-calls t) (list-item-at t) list-item.Post
 list-item-returns-5 t c =
+    let c7 = c .before .before .before .before .before .before .before in
+    let c10 = c7 .before .before .before in
+    rw (list-leaf _ _ _ (c7 .look-in .ensures) _ _ (c .if3 .taken)) (c10 .put-entry .ensures)
+
+list-item-same-length-6 : (t : ℕ) → list-item-lts.Need-same-length-6 (list-item-calls t) (list-item-at t) list-item.Post
+list-item-same-length-6 t c =
+    let c2 = c .before .before in
+    let c16 = c2 .before .before .before .before .before .before .before .before .before .before .before .before .before .before in
+    stored-length _ _ _ _ _ (c2 .list-fields2 .ensures) ∙ stored-length _ _ _ _ _ (c16 .put-entry .ensures)
+
+list-item-returns-6 : (t : ℕ) → list-item-lts.Need-returns-6 (list-item-calls t) (list-item-at t) list-item.Post
+list-item-returns-6 t c =
     let c2 = c .before .before in
     let c5 = c2 .before .before .before in
-    let c8 = c5 .before .before .before in
-    rw (list-leaf _ _ _ (c5 .look-in .ensures) _ _ (c2 .if1 .left) (c .if2 .left)) (c8 .put-entry .ensures)
+    let c6 = c5 .before in
+    let c8 = c6 .before .before in
+    let c10 = c8 .before .before in
+    let c13 = c10 .before .before .before in
+    let c16 = c13 .before .before .before in
+    let c21 = c16 .before .before .before .before .before in
+    let k = several _ (c6 .if3 .left) (c10 .if1 .left) (c8 .if2 .left) in
+    let held = many-held _ _ _ _ (c13 .look-in .ensures) (c21 .pre .1 .0) k _ _ (c21 .pre .1 .2) in
+    stored-then _ _ _ _ _ _ _ _ _ (c16 .put-entry .ensures) (c2 .list-fields2 .ensures) (rw (c5 .many-in .ensures) (held .listed))
 
 pub +list-fields+list-item-spec : {M : Type 1} → statement M
 +list-fields+list-item-spec = close μ-list-fields μ-list-item (λ t. list-fields-lts.spec (list-fields-calls t)
@@ -487,6 +547,9 @@ pub +list-fields+list-item-spec : {M : Type 1} → statement M
     (list-item-part-list-item-end t)
     (list-item-list-item-requires t)
     (list-item-enum-told-2 t)
+    (list-item-many-in-requires t)
+    (list-item-add-list-fields t)
+    (list-item-list-fields-requires-2 t)
     (list-item-same-length t)
     (list-item-returns t)
     (list-item-same-length-2 t)
@@ -497,3 +560,5 @@ pub +list-fields+list-item-spec : {M : Type 1} → statement M
     (list-item-returns-4 t)
     (list-item-same-length-5 t)
     (list-item-returns-5 t)
+    (list-item-same-length-6 t)
+    (list-item-returns-6 t)

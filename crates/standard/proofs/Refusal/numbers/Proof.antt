@@ -99,32 +99,32 @@ enum-known-self-13 c = search needs
 numbers-of-requires-15 : tie.Need-numbers-of-requires-15
 numbers-of-requires-15 c κs = search needs
 
-enum-told-3 : tie.Need-enum-told-3
-enum-told-3 c = search needs
+enum-known-self-14 : tie.Need-enum-known-self-14
+enum-known-self-14 c = search needs
 
 numbers-of-requires-16 : tie.Need-numbers-of-requires-16
 numbers-of-requires-16 c κs = search needs
 
-enum-known-self-14 : tie.Need-enum-known-self-14
-enum-known-self-14 c = search needs
+enum-told-3 : tie.Need-enum-told-3
+enum-told-3 c = search needs
 
 numbers-of-requires-17 : tie.Need-numbers-of-requires-17
 numbers-of-requires-17 c κs = search needs
 
-enum-told-4 : tie.Need-enum-told-4
-enum-told-4 c = search needs
+enum-known-self-15 : tie.Need-enum-known-self-15
+enum-known-self-15 c = search needs
 
 numbers-of-requires-18 : tie.Need-numbers-of-requires-18
 numbers-of-requires-18 c κs = search needs
 
-enum-told-5 : tie.Need-enum-told-5
-enum-told-5 c = search needs
+enum-told-4 : tie.Need-enum-told-4
+enum-told-4 c = search needs
 
 numbers-of-requires-19 : tie.Need-numbers-of-requires-19
 numbers-of-requires-19 c κs = search needs
 
-enum-known-self-15 : tie.Need-enum-known-self-15
-enum-known-self-15 c = search needs
+enum-told-5 : tie.Need-enum-told-5
+enum-told-5 c = search needs
 
 numbers-of-requires-20 : tie.Need-numbers-of-requires-20
 numbers-of-requires-20 c κs = search needs
@@ -134,6 +134,12 @@ enum-known-self-16 c = search needs
 
 numbers-of-requires-21 : tie.Need-numbers-of-requires-21
 numbers-of-requires-21 c κs = search needs
+
+enum-known-self-17 : tie.Need-enum-known-self-17
+enum-known-self-17 c = search needs
+
+numbers-of-requires-22 : tie.Need-numbers-of-requires-22
+numbers-of-requires-22 c κs = search needs
 
 returns : tie.Need-returns
 returns c = rw (c .before .before .self .given .1) (c .numbers-of .ensures)
@@ -181,22 +187,25 @@ returns-15 : tie.Need-returns-15
 returns-15 c = rw (c .before .before .self13 .given .1) (c .numbers-of15 .ensures)
 
 returns-16 : tie.Need-returns-16
-returns-16 c = rw (c .before .enum-told3 .given .1) (c .numbers-of16 .ensures)
+returns-16 c = rw (c .before .before .self14 .given .1) (c .numbers-of16 .ensures)
 
 returns-17 : tie.Need-returns-17
-returns-17 c = rw (c .before .before .self14 .given .1) (c .numbers-of17 .ensures)
+returns-17 c = rw (c .before .enum-told3 .given .1) (c .numbers-of17 .ensures)
 
 returns-18 : tie.Need-returns-18
-returns-18 c = rw (c .before .enum-told4 .given .1) (c .numbers-of18 .ensures)
+returns-18 c = rw (c .before .before .self15 .given .1) (c .numbers-of18 .ensures)
 
 returns-19 : tie.Need-returns-19
-returns-19 c = rw (c .before .enum-told5 .given .1) (c .numbers-of19 .ensures)
+returns-19 c = rw (c .before .enum-told4 .given .1) (c .numbers-of19 .ensures)
 
 returns-20 : tie.Need-returns-20
-returns-20 c = rw (c .before .before .self15 .given .1) (c .numbers-of20 .ensures)
+returns-20 c = rw (c .before .enum-told5 .given .1) (c .numbers-of20 .ensures)
 
 returns-21 : tie.Need-returns-21
 returns-21 c = rw (c .before .before .self16 .given .1) (c .numbers-of21 .ensures)
+
+returns-22 : tie.Need-returns-22
+returns-22 c = rw (c .before .before .self17 .given .1) (c .numbers-of22 .ensures)
 
 pub numbers-spec : {M : Type 1} → statement M
 numbers-spec =
@@ -234,18 +243,20 @@ numbers-spec =
     numbers-of-requires-14
     enum-known-self-13
     numbers-of-requires-15
-    enum-told-3
-    numbers-of-requires-16
     enum-known-self-14
+    numbers-of-requires-16
+    enum-told-3
     numbers-of-requires-17
-    enum-told-4
-    numbers-of-requires-18
-    enum-told-5
-    numbers-of-requires-19
     enum-known-self-15
+    numbers-of-requires-18
+    enum-told-4
+    numbers-of-requires-19
+    enum-told-5
     numbers-of-requires-20
     enum-known-self-16
     numbers-of-requires-21
+    enum-known-self-17
+    numbers-of-requires-22
     returns
     returns-2
     returns-3
@@ -266,4 +277,5 @@ numbers-spec =
     returns-18
     returns-19
     returns-20
-    returns-21)
+    returns-21
+    returns-22)

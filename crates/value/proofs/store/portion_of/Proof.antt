@@ -1,45 +1,54 @@
 -- The loop keeps `Adding`. Assumes nothing.
 use native.Mathlib.Omega.{arith}
 use borrow.Author.Needs.{needs}
-use native.Mathlib.Nat.{zero-add}
-use Rattle.message.proofs.Rows.{under-small, row-there, row-small, row-few}
-use Rattle.value.proofs.Fills.{Adding, adding-same, adding-next, adding-end}
+use Rattle.message.proofs.Rows.{row-there, row-small, row-few}
+use Rattle.value.proofs.Fills.{Adding, adding-none, adding-same, adding-next, adding-end}
 use Rattle.value.proofs.store.portion_of.Statement.{statement}
 use Rattle.value.proofs.store.portion_of.Tie as tie
 
 abbrev Inv-loop : tie.InvT-loop
-Inv-loop lens layout t a0 n own a₀ left₀ sum₀ a left sum = Adding lens layout t a0 n a left sum
+Inv-loop lens layout t a0 step n own a₀ left₀ sum₀ a left sum = Adding lens layout t a0 step n a left sum
 
 abbrev μ-loop : tie.MeasureT-loop
-μ-loop lens layout t a0 n own a₀ left₀ sum₀ a left sum = left
+μ-loop lens layout t a0 step n own a₀ left₀ sum₀ a left sum = left
 
 mul-own : tie.Need-mul-own Inv-loop μ-loop
 mul-own c =
     let c1 = c .before in
-    omega (arith, c1 .pre .few)
+    omega (arith, c1 .pre .0 .few)
 
 element-copy-out-own : tie.Need-element-copy-out-own Inv-loop μ-loop
 element-copy-out-own c =
     let c1 = c .before in
-    c1 .pre .few
+    c1 .pre .0 .few
 
 cast-own : tie.Need-cast-own Inv-loop μ-loop
-cast-own c = omega (arith, c .before .before .pre .small)
+cast-own c = omega (arith, c .before .before .pre .0 .small)
 
 returns : tie.Need-returns Inv-loop μ-loop
 returns c =
     let c3 = c .before .before .before in
-    c3 .pre .whole (c .if1 .taken)
+    c3 .pre .0 .whole (c .if1 .taken)
+
+shared-portion-requires : tie.Need-shared-portion-requires Inv-loop μ-loop
+shared-portion-requires c κs =
+    let c4 = c .before .before .before .before in
+    (rw (c .if2 .taken) at (c4 .pre .0 .row), rw (c .if2 .taken) at (c4 .pre .1))
+
+returns-2 : tie.Need-returns-2 Inv-loop μ-loop
+returns-2 c =
+    let c1 = c .before in
+    rw (c1 .if2 .taken) (c .shared-portion .ensures)
 
 loop-holds : tie.Need-loop-holds Inv-loop μ-loop
 loop-holds c =
-    let c3 = c .before .before .before in
-    record { row = c3 .pre .row; same = zero-add _ }
+    let c4 = c .before .before .before .before in
+    adding-none _ _ _ _ _ _ (c4 .pre .0 .row)
 
 word-in-requires : tie.Need-word-in-requires Inv-loop μ-loop
 word-in-requires c κs =
     let c1 = c .before in
-    row-there _ _ _ _ _ (c1 .loop .inv .row) (c .loop-test .taken)
+    row-there _ _ _ _ _ _ (c1 .loop .inv .row) (c .loop-test .taken)
 
 mul-width-of : tie.Need-mul-width-of Inv-loop μ-loop
 mul-width-of c = omega (arith, c .word-in .ensures .1)
@@ -48,14 +57,14 @@ element-copy-out-width-of : tie.Need-element-copy-out-width-of Inv-loop μ-loop
 element-copy-out-width-of c =
     let c1 = c .before in
     let c2 = c1 .before in
-    row-few _ _ _ _ _ _ (c2 .loop .inv .row) (c1 .loop-test .taken) (c .word-in .ensures .0)
+    row-few _ _ _ _ _ _ _ (c2 .loop .inv .row) (c1 .loop-test .taken) (c .word-in .ensures .0)
 
 cast-width-of : tie.Need-cast-width-of Inv-loop μ-loop
 cast-width-of c =
     let c1 = c .before in
     let c2 = c1 .before in
     let c3 = c2 .before in
-    omega (arith, row-small _ _ _ _ _ _ (c3 .loop .inv .row) (c2 .loop-test .taken) (c1 .word-in .ensures .0))
+    omega (arith, row-small _ _ _ _ _ _ _ (c3 .loop .inv .row) (c2 .loop-test .taken) (c1 .word-in .ensures .0))
 
 width-of-requires : tie.Need-width-of-requires Inv-loop μ-loop
 width-of-requires c κs = search needs
@@ -65,13 +74,13 @@ add-sum c =
     let c2 = c .before .before in
     let c3 = c2 .before in
     let c4 = c3 .before in
-    let c8 = c4 .before .before .before .before in
-    omega (arith, adding-same _ _ _ _ _ _ _ _ _ _ (c4 .loop .inv) (c3 .loop-test .taken) (c2 .word-in .ensures .0) (c .width-of .ensures), c8 .pre .short)
+    let c9 = c4 .before .before .before .before .before in
+    omega (arith, adding-same _ _ _ _ _ _ _ _ _ _ _ (c4 .loop .inv) (c3 .loop-test .taken) (c2 .word-in .ensures .0) (c .width-of .ensures), c9 .pre .1)
 
 add-a : tie.Need-add-a Inv-loop μ-loop
 add-a c =
     let c4 = c .before .before .before .before in
-    omega (arith, c4 .loop .inv .row .near)
+    omega (arith, c4 .loop .inv .row .near, c4 .loop .inv .row .steps)
 
 sub-left : tie.Need-sub-left Inv-loop μ-loop
 sub-left c = omega arith
@@ -84,12 +93,12 @@ loop-again c =
     let c2 = c .before .before in
     let c3 = c2 .before in
     let c4 = c3 .before in
-    adding-next _ _ _ _ _ _ _ _ _ _ (c4 .loop .inv) (c3 .loop-test .taken) (c2 .word-in .ensures .0) (c .width-of .ensures)
+    adding-next _ _ _ _ _ _ _ _ _ _ _ (c4 .loop .inv) (c3 .loop-test .taken) (c2 .word-in .ensures .0) (c .width-of .ensures)
 
-returns-2 : tie.Need-returns-2 Inv-loop μ-loop
-returns-2 c =
+returns-3 : tie.Need-returns-3 Inv-loop μ-loop
+returns-3 c =
     let c1 = c .before in
-    adding-end _ _ _ _ _ _ _ _ (c1 .loop .inv) (c .loop-test .left)
+    adding-end _ _ _ _ _ _ _ _ _ (c1 .loop .inv) (c .loop-test .left)
 
 pub portion-of-spec : {M : Type 1} → statement M
 portion-of-spec =
@@ -101,6 +110,8 @@ portion-of-spec =
     element-copy-out-own
     cast-own
     returns
+    shared-portion-requires
+    returns-2
     loop-holds
     word-in-requires
     mul-width-of
@@ -112,4 +123,4 @@ portion-of-spec =
     sub-left
     loop-less
     loop-again
-    returns-2)
+    returns-3)

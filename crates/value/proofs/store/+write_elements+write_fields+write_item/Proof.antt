@@ -1,30 +1,40 @@
--- Items and fields call each other; the type number falls. The loop over the fields keeps `Writing`. Assumes nothing.
-use mathlib.Core.Path.{_≡_, refl, sym, ap, _∙_}
+-- Items, elements and fields call each other; the type number falls. The loop over the fields keeps `Writing`. Assumes nothing.
+use mathlib.Core.Path.{refl, sym, _∙_}
 use native.Mathlib.Omega.{arith}
 use borrow.Author.Needs.{needs}
+use borrow.Author.Tests.{ltb-true}
 use Prim.Native.Nat.{_+_, _*_}
 use lib.Seq.{sets}
 use Rattle.standard.specs.Parts.{join}
+use Rattle.layout.specs.Tree.{treeOf}
+use Rattle.layout.proofs.Facts.{legal-below}
 use Rattle.message.specs.Steps.{rowOf}
 use Rattle.message.proofs.Rows.{row-there, row-legal, row-below, row-under, row-small, row-few, under-below}
 use Rattle.message.proofs.Bodies.{node-ok}
+use Rattle.message.proofs.Repeats.{third-there, element-below, element-small}
+use Rattle.message.proofs.Manys.{several}
 use Rattle.value.specs.Walk.{walkFields}
 use Rattle.value.specs.Write.{partsFrom}
 use Rattle.value.proofs.Unions.{bare-item, body-item, wrong-item}
 use Rattle.value.proofs.Rows.{container-walk, container-write}
-use Rattle.value.proofs.Fills.{Writing, writing-none, writing-upto, writing-order, writing-four, writing-room, writing-next, writing-end, fields-fit, container-ready, selector-need, bare-done, body-room, body-done, tree-walk, tree-write}
+use Rattle.value.proofs.Fills.{Writing, writing-none, writing-upto, writing-order, writing-four, writing-room, writing-next, writing-end, fields-fit, container-ready, selector-need, bare-done, body-room, body-done}
+use Rattle.value.proofs.Leaves.{PartForm, part-need, part-done}
+use Rattle.value.proofs.Runs.{count-there, elements-ready, elements-put, elements-copied}
 use Rattle.value.proofs.Plain.{below-asked, below-put, plain-field, put-as, writing-there, writing-plain}
 use mathlib.Core.Logic.{⊎-elim}
-use lib.ListN.{length, length-take, length-drop}
+use lib.ListN.{length, getD, length-take, length-drop}
 use Prim.Native.Nat.{ℕ, _<_}
 use borrow.Fn.Kinds.{In}
 use borrow.Fn.PlainCycle.{Measures, is, falls, and}
+use Rattle.value.proofs.store.write_elements.Reads as write-elements
+use Rattle.value.proofs.store.write_elements.Kinds as write-elements-kinds
+use Rattle.value.proofs.store.+write_elements+write_fields+write_item.Lts-write_elements as write-elements-lts
 use Rattle.value.proofs.store.write_fields.Reads as write-fields
 use Rattle.value.proofs.store.write_fields.Kinds as write-fields-kinds
-use Rattle.value.proofs.store.+write_fields+write_item.Lts-write_fields as write-fields-lts
+use Rattle.value.proofs.store.+write_elements+write_fields+write_item.Lts-write_fields as write-fields-lts
 use Rattle.value.proofs.store.write_item.Reads as write-item
 use Rattle.value.proofs.store.write_item.Kinds as write-item-kinds
-use Rattle.value.proofs.store.+write_fields+write_item.Lts-write_item as write-item-lts
+use Rattle.value.proofs.store.+write_elements+write_fields+write_item.Lts-write_item as write-item-lts
 use Rattle.value.proofs.words.look_in.Reads as look-in-reads
 use Rattle.value.proofs.words.word_in.Reads as word-in-reads
 use Rattle.value.proofs.measure.is_plain.Reads as is-plain-reads
@@ -36,14 +46,25 @@ use Rattle.value.proofs.store.next_tail.Reads as next-tail-reads
 use Rattle.value.proofs.store.portion_of.Reads as portion-of-reads
 use Rattle.value.proofs.store.put_leaf.Reads as put-leaf-reads
 use Rattle.value.proofs.store.put_selector.Reads as put-selector-reads
-use Rattle.value.proofs.store.+write_fields+write_item.{statement}
-use Rattle.value.proofs.store.+write_fields+write_item.Tie.{close}
+use Rattle.value.proofs.store.put_part.Reads as put-part-reads
+use Rattle.value.proofs.store.run_of.Reads as run-of-reads
+use Rattle.value.proofs.store.+write_elements+write_fields+write_item.{statement}
+use Rattle.value.proofs.store.+write_elements+write_fields+write_item.Tie.{close}
+
+abbrev μ-write-elements : Measures 5 write-elements-kinds.ps ℕ
+μ-write-elements κs a = 3 * a .1 .1 .1 .1 .1 .0 + 1
 
 abbrev μ-write-fields : Measures 5 write-fields-kinds.ps ℕ
-μ-write-fields κs a = 2 * a .1 .1 .1 .1 .0
+μ-write-fields κs a = 3 * a .1 .1 .1 .1 .0
 
 abbrev μ-write-item : Measures 5 write-item-kinds.ps ℕ
-μ-write-item κs a = 2 * a .1 .1 .1 .1 .0 + 1
+μ-write-item κs a = 3 * a .1 .1 .1 .1 .0 + 2
+
+abbrev write-elements-at : ℕ → In 5 write-elements-kinds.ps
+write-elements-at t = and 5 write-elements-kinds.ps (is 5 write-elements-kinds.ps μ-write-elements t) write-elements.Pre
+
+abbrev write-elements-below : ℕ → In 5 write-elements-kinds.ps
+write-elements-below t = and 5 write-elements-kinds.ps (falls 5 write-elements-kinds.ps _<_ μ-write-elements t) write-elements.Pre
 
 abbrev write-fields-at : ℕ → In 5 write-fields-kinds.ps
 write-fields-at t =
@@ -66,13 +87,26 @@ write-item-below t =
     and 5 write-item-kinds.ps (falls 5 write-item-kinds.ps _<_ μ-write-item t) write-item.Pre
 
 abbrev write-fields-Inv-loop : write-fields-lts.InvT-loop
-write-fields-Inv-loop out₀ start lens layout t a0 n contents bodies i0 j0 own p₀ q₀ a₀ left₀ i₀ j₀ out p q a left i j =
-    Writing lens layout t contents bodies start own (start + length (join (partsFrom (rowOf layout t a0 n) contents bodies i0 j0)))
-    (walkFields (rowOf layout t a0 n) contents bodies i0 j0) (sets out₀ start (join (partsFrom (rowOf layout t a0 n) contents bodies i0 j0))) out₀
+write-fields-Inv-loop out₀ start lens layout t a0 step n contents bodies i0 j0 own p₀ q₀ a₀ left₀ i₀ j₀ out p q a left i j =
+    Writing lens layout t step contents bodies start own (start + length (join (partsFrom (rowOf layout t a0 step n) contents bodies i0 j0)))
+    (walkFields (rowOf layout t a0 step n) contents bodies i0 j0) (sets out₀ start (join (partsFrom (rowOf layout t a0 step n) contents bodies i0 j0))) out₀
     out p q a left i j
 
 abbrev write-fields-μ-loop : write-fields-lts.MeasureT-loop
-write-fields-μ-loop out₀ start lens layout t a0 n contents bodies i0 j0 own p₀ q₀ a₀ left₀ i₀ j₀ out p q a left i j = left
+write-fields-μ-loop out₀ start lens layout t a0 step n contents bodies i0 j0 own p₀ q₀ a₀ left₀ i₀ j₀ out p q a left i j = left
+
+-- what `write_elements` calls, at the measure t
+abbrev write-elements-calls : ℕ → write-elements-lts.Claims
+write-elements-calls t = (
+  run-of-reads.Asked,
+  run-of-reads.Learnt,
+  look-in-reads.Asked,
+  look-in-reads.Learnt,
+  put-part-reads.Asked,
+  put-part-reads.Learnt,
+  write-fields-below t,
+  write-fields.Post,
+)
 
 -- what `write_fields` calls, at the measure t
 abbrev write-fields-calls : ℕ → write-fields-lts.Claims
@@ -114,38 +148,126 @@ write-item-calls t = (
   write-item.Post,
   put-leaf-reads.Asked,
   put-leaf-reads.Learnt,
+  write-elements-below t,
+  write-elements.Post,
 )
+
+write-elements-run-of-requires : (t : ℕ) → write-elements-lts.Need-run-of-requires (write-elements-calls t) (write-elements-at t) write-elements.Post
+write-elements-run-of-requires t c κs =
+    let c4 = c .before .before .before .before in (
+      third-there _ _ _ _ (c4 .pre .1 .1) (c4 .pre .1 .0) (c4 .pre .1 .2),
+      count-there _ _ _ _ (c4 .pre .1 .1) (c4 .pre .1 .0) (c4 .pre .1 .2) _ _ _ _ (c4 .pre .1 .3),
+    )
+
+write-elements-look-in-requires : (t : ℕ) → write-elements-lts.Need-look-in-requires (write-elements-calls t) (write-elements-at t) write-elements.Post
+write-elements-look-in-requires t c κs =
+    let c5 = c .before .before .before .before .before in
+    legal-below _ _ _ (omega (arith, element-below _ _ _ _ (c5 .pre .1 .1) (c5 .pre .1 .0) (c5 .pre .1 .2))) (c5 .pre .1 .0 .legal)
+
+-- elements of a kind below 3, some of them: the item is the bytes of all
+write-elements-copied : (t : ℕ) (c : write-elements-lts.Then2 (write-elements-calls t) (write-elements-at t) write-elements.Post) →
+    let s = c .before .before .before .before .before .before .before .before .before in
+    let r = c .before .before .before .before .run-of .result in
+    PartForm (treeOf (s .args .layout .now) (s .args .t)) (s .args .contents .now) (s .args .bodies .now) (s .args .i) (s .args .j) (r .word)
+    (r .many * getD (s .args .lens .now) (s .args .n .second) 0)
+write-elements-copied t c =
+    let c2 = c .before .before in
+    let c3 = c2 .before in
+    let c4 = c3 .before in
+    let c9 = c4 .before .before .before .before .before in
+    elements-copied _ _ _ _ (c9 .pre .1 .1) (c9 .pre .1 .0) (c9 .pre .1 .2) _ _ _ _ (c9 .pre .1 .3) _ (c4 .run-of .ensures) _
+    (c3 .look-in .ensures) (ltb-true _ _ (c .if2 .taken)) (c2 .if1 .taken)
+
+write-elements-mul-len : (t : ℕ) → write-elements-lts.Need-mul-len (write-elements-calls t) (write-elements-at t) write-elements.Post
+write-elements-mul-len t c =
+    let c9 = c .before .before .before .before .before .before .before .before .before in
+    omega (arith, element-below _ _ _ _ (c9 .pre .1 .1) (c9 .pre .1 .0) (c9 .pre .1 .2), c9 .pre .1 .0 .few)
+
+write-elements-element-copy-out-len : (t : ℕ) → write-elements-lts.Need-element-copy-out-len (write-elements-calls t) (write-elements-at t) write-elements.Post
+write-elements-element-copy-out-len t c =
+    let c9 = c .before .before .before .before .before .before .before .before .before in
+    omega (arith, element-below _ _ _ _ (c9 .pre .1 .1) (c9 .pre .1 .0) (c9 .pre .1 .2), c9 .pre .1 .0 .few)
+
+write-elements-cast-len : (t : ℕ) → write-elements-lts.Need-cast-len (write-elements-calls t) (write-elements-at t) write-elements.Post
+write-elements-cast-len t c =
+    let c10 = c .before .before .before .before .before .before .before .before .before .before in
+    omega (arith, element-small _ _ _ _ (c10 .pre .1 .1) (c10 .pre .1 .0) (c10 .pre .1 .2))
+
+write-elements-mul-len-2 : (t : ℕ) → write-elements-lts.Need-mul-len-2 (write-elements-calls t) (write-elements-at t) write-elements.Post
+write-elements-mul-len-2 t c =
+    let c1 = c .before in
+    let c10 = c1 .before .before .before .before .before .before .before .before .before in
+    omega (arith, write-elements-copied t c1 .there, c10 .good)
+
+write-elements-put-part-requires : (t : ℕ) → write-elements-lts.Need-put-part-requires (write-elements-calls t) (write-elements-at t) write-elements.Post
+write-elements-put-part-requires t c κs =
+    let c2 = c .before .before in
+    let c11 = c2 .before .before .before .before .before .before .before .before .before in
+    part-need _ _ _ _ _ _ _ _ _ (write-elements-copied t c2) (c11 .pre .1 .4)
+
+write-elements-same-length : (t : ℕ) → write-elements-lts.Need-same-length (write-elements-calls t) (write-elements-at t) write-elements.Post
+write-elements-same-length t c = search needs
+
+write-elements-returns : (t : ℕ) → write-elements-lts.Need-returns (write-elements-calls t) (write-elements-at t) write-elements.Post
+write-elements-returns t c =
+    let c2 = c .before .before in
+    let c5 = c2 .before .before .before in
+    part-done _ _ _ _ _ _ _ _ _ (write-elements-copied t c5) _ _ (c2 .put-part .ensures)
+
+write-elements-add-first : (t : ℕ) → write-elements-lts.Need-add-first (write-elements-calls t) (write-elements-at t) write-elements.Post
+write-elements-add-first t c =
+    let c8 = c .before .before .before .before .before .before .before .before in
+    omega (arith, node-ok _ _ _ _ (c8 .pre .1 .1) (c8 .pre .1 .0) .near)
+
+write-elements-write-fields-requires : (t : ℕ) → write-elements-lts.Need-write-fields-requires (write-elements-calls t) (write-elements-at t) write-elements.Post
+write-elements-write-fields-requires t c κs =
+    let c4 = c .before .before .before .before in
+    let c9 = c4 .before .before .before .before .before in (
+      omega (arith, c9 .pre .0),
+      elements-ready _ _ _ _ (c9 .pre .1 .1) (c9 .pre .1 .0) (c9 .pre .1 .2) _ _ _ _ (c9 .pre .1 .3) _ (c4 .run-of .ensures) _ _
+          (c9 .pre .1 .4),
+    )
+
+write-elements-same-length-2 : (t : ℕ) → write-elements-lts.Need-same-length-2 (write-elements-calls t) (write-elements-at t) write-elements.Post
+write-elements-same-length-2 t c = search needs
+
+write-elements-returns-2 : (t : ℕ) → write-elements-lts.Need-returns-2 (write-elements-calls t) (write-elements-at t) write-elements.Post
+write-elements-returns-2 t c =
+    let c2 = c .before .before in
+    let c7 = c2 .before .before .before .before .before in
+    let c12 = c7 .before .before .before .before .before in
+    elements-put _ _ _ _ (c12 .pre .1 .1) (c12 .pre .1 .0) (c12 .pre .1 .2) _ _ _ _ (c12 .pre .1 .3) _ (c7 .run-of .ensures) _ _ _ _ (c2 .write-fields .ensures)
 
 write-fields-portion-of-requires : (t : ℕ) → write-fields-lts.Need-portion-of-requires (write-fields-calls t) (write-fields-at t) write-fields.Post
     write-fields-Inv-loop write-fields-μ-loop
 write-fields-portion-of-requires t c κs =
     let c4 = c .before .before .before .before in
-    c4 .pre .1 .owned
+    (c4 .pre .1 .owned, omega (arith, fields-fit _ _ _ _ _ _ _ _ _ _ _ _ _ (c4 .pre .1) refl, c4 .good))
 
 write-fields-add-q : (t : ℕ) → write-fields-lts.Need-add-q (write-fields-calls t) (write-fields-at t) write-fields.Post write-fields-Inv-loop
     write-fields-μ-loop
 write-fields-add-q t c =
     let c5 = c .before .before .before .before .before in
-    omega (arith, fields-fit _ _ _ _ _ _ _ _ _ _ _ _ (c5 .pre .1) (c .portion-of .ensures), c5 .good)
+    omega (arith, fields-fit _ _ _ _ _ _ _ _ _ _ _ _ _ (c5 .pre .1) (c .portion-of .ensures), c5 .good)
 
 write-fields-loop-holds : (t : ℕ) → write-fields-lts.Need-loop-holds (write-fields-calls t) (write-fields-at t) write-fields.Post
     write-fields-Inv-loop write-fields-μ-loop
 write-fields-loop-holds t c =
     let c5 = c .before .before .before .before .before in
-    writing-none _ _ _ _ _ _ _ _ _ _ _ _ (c5 .pre .1) (c .portion-of .ensures)
+    writing-none _ _ _ _ _ _ _ _ _ _ _ _ _ (c5 .pre .1) (c .portion-of .ensures)
 
 write-fields-word-in-requires : (t : ℕ) → write-fields-lts.Need-word-in-requires (write-fields-calls t) (write-fields-at t) write-fields.Post
     write-fields-Inv-loop write-fields-μ-loop
 write-fields-word-in-requires t c κs =
     let c1 = c .before in
-    row-there _ _ _ _ _ (c1 .loop .inv .row) (c .loop-test .taken)
+    row-there _ _ _ _ _ _ (c1 .loop .inv .row) (c .loop-test .taken)
 
 write-fields-look-in-requires : (t : ℕ) → write-fields-lts.Need-look-in-requires (write-fields-calls t) (write-fields-at t) write-fields.Post
     write-fields-Inv-loop write-fields-μ-loop
 write-fields-look-in-requires t c κs =
     let c1 = c .before in
     let c2 = c1 .before in
-    row-legal _ _ _ _ _ _ (c2 .loop .inv .row) (c1 .loop-test .taken) (c .word-in .ensures .0)
+    row-legal _ _ _ _ _ _ _ (c2 .loop .inv .row) (c1 .loop-test .taken) (c .word-in .ensures .0)
 
 write-fields-mul-k : (t : ℕ) → write-fields-lts.Need-mul-k (write-fields-calls t) (write-fields-at t) write-fields.Post write-fields-Inv-loop
     write-fields-μ-loop
@@ -159,7 +281,7 @@ write-fields-element-copy-out-k t c =
     let c1 = c .before in
     let c2 = c1 .before in
     let c3 = c2 .before in
-    row-few _ _ _ _ _ _ (c3 .loop .inv .row) (c2 .loop-test .taken) (c1 .word-in .ensures .0)
+    row-few _ _ _ _ _ _ _ (c3 .loop .inv .row) (c2 .loop-test .taken) (c1 .word-in .ensures .0)
 
 write-fields-cast-k : (t : ℕ) → write-fields-lts.Need-cast-k (write-fields-calls t) (write-fields-at t) write-fields.Post write-fields-Inv-loop
     write-fields-μ-loop
@@ -167,13 +289,13 @@ write-fields-cast-k t c =
     let c2 = c .before .before in
     let c3 = c2 .before in
     let c4 = c3 .before in
-    omega (arith, row-small _ _ _ _ _ _ (c4 .loop .inv .row) (c3 .loop-test .taken) (c2 .word-in .ensures .0))
+    omega (arith, row-small _ _ _ _ _ _ _ (c4 .loop .inv .row) (c3 .loop-test .taken) (c2 .word-in .ensures .0))
 
 write-fields-add-a : (t : ℕ) → write-fields-lts.Need-add-a (write-fields-calls t) (write-fields-at t) write-fields.Post
     write-fields-Inv-loop write-fields-μ-loop
 write-fields-add-a t c =
     let c4 = c .before .before .before .before in
-    omega (arith, c4 .loop .inv .row .near)
+    omega (arith, c4 .loop .inv .row .near, c4 .loop .inv .row .steps)
 
 write-fields-sub-left : (t : ℕ) → write-fields-lts.Need-sub-left (write-fields-calls t) (write-fields-at t) write-fields.Post
     write-fields-Inv-loop write-fields-μ-loop
@@ -193,9 +315,9 @@ write-fields-add-byte t c =
     let c6 = c5 .before in
     let c12 = c6 .before .before .before .before .before .before in
     let field =
-    plain-field _ _ _ _ _ _ (c6 .loop .inv .row) (c5 .loop-test .taken) (c4 .word-in .ensures .0) _ refl _ (c3 .look-in .ensures)
+    plain-field _ _ _ _ _ _ _ (c6 .loop .inv .row) (c5 .loop-test .taken) (c4 .word-in .ensures .0) _ refl _ (c3 .look-in .ensures)
     (sym (c1 .is-plain .ensures) ∙ c .if1 .taken) in
-    let there = writing-there _ _ _ _ _ _ _ _ _ _ _ _ _ _ _ _ _ _ _ (c12 .pre .1 .walk) (c6 .loop .inv) (c5 .loop-test .taken)
+    let there = writing-there _ _ _ _ _ _ _ _ _ _ _ _ _ _ _ _ _ _ _ _ (c12 .pre .1 .walk) (c6 .loop .inv) (c5 .loop-test .taken)
     (c4 .word-in .ensures .0) _ refl field in
     omega (arith, there, c12 .good)
 
@@ -218,9 +340,9 @@ write-fields-part-copy-into-end t c =
     let c7 = c6 .before in
     let c13 = c7 .before .before .before .before .before .before in
     let field =
-    plain-field _ _ _ _ _ _ (c7 .loop .inv .row) (c6 .loop-test .taken) (c5 .word-in .ensures .0) _ refl _ (c4 .look-in .ensures)
+    plain-field _ _ _ _ _ _ _ (c7 .loop .inv .row) (c6 .loop-test .taken) (c5 .word-in .ensures .0) _ refl _ (c4 .look-in .ensures)
     (sym (c2 .is-plain .ensures) ∙ c1 .if1 .taken) in
-    let there = writing-there _ _ _ _ _ _ _ _ _ _ _ _ _ _ _ _ _ _ _ (c13 .pre .1 .walk) (c7 .loop .inv) (c6 .loop-test .taken)
+    let there = writing-there _ _ _ _ _ _ _ _ _ _ _ _ _ _ _ _ _ _ _ _ (c13 .pre .1 .walk) (c7 .loop .inv) (c6 .loop-test .taken)
     (c5 .word-in .ensures .0) _ refl field in
     there .0
 
@@ -235,9 +357,9 @@ write-fields-copy-into-requires t c κs =
     let c8 = c7 .before in
     let c14 = c8 .before .before .before .before .before .before in
     let field =
-    plain-field _ _ _ _ _ _ (c8 .loop .inv .row) (c7 .loop-test .taken) (c6 .word-in .ensures .0) _ refl _ (c5 .look-in .ensures)
+    plain-field _ _ _ _ _ _ _ (c8 .loop .inv .row) (c7 .loop-test .taken) (c6 .word-in .ensures .0) _ refl _ (c5 .look-in .ensures)
     (sym (c3 .is-plain .ensures) ∙ c2 .if1 .taken) in
-    let there = writing-there _ _ _ _ _ _ _ _ _ _ _ _ _ _ _ _ _ _ _ (c14 .pre .1 .walk) (c8 .loop .inv) (c7 .loop-test .taken)
+    let there = writing-there _ _ _ _ _ _ _ _ _ _ _ _ _ _ _ _ _ _ _ _ (c14 .pre .1 .walk) (c8 .loop .inv) (c7 .loop-test .taken)
     (c6 .word-in .ensures .0) _ refl field in
     simp (length-take, length-drop) (omega (arith, there))
 
@@ -252,9 +374,9 @@ write-fields-add-p t c =
     let c11 = c10 .before in
     let c17 = c11 .before .before .before .before .before .before in
     let field =
-    plain-field _ _ _ _ _ _ (c11 .loop .inv .row) (c10 .loop-test .taken) (c9 .word-in .ensures .0) _ refl _ (c8 .look-in .ensures)
+    plain-field _ _ _ _ _ _ _ (c11 .loop .inv .row) (c10 .loop-test .taken) (c9 .word-in .ensures .0) _ refl _ (c8 .look-in .ensures)
     (sym (c6 .is-plain .ensures) ∙ c5 .if1 .taken) in
-    let there = writing-there _ _ _ _ _ _ _ _ _ _ _ _ _ _ _ _ _ _ _ (c17 .pre .1 .walk) (c11 .loop .inv) (c10 .loop-test .taken)
+    let there = writing-there _ _ _ _ _ _ _ _ _ _ _ _ _ _ _ _ _ _ _ _ (c17 .pre .1 .walk) (c11 .loop .inv) (c10 .loop-test .taken)
     (c9 .word-in .ensures .0) _ refl field in
     omega (arith, there, c11 .loop .inv .long, c17 .good)
 
@@ -274,9 +396,9 @@ write-fields-loop-again t c =
     let c11 = c10 .before in
     let c17 = c11 .before .before .before .before .before .before in
     let field =
-    plain-field _ _ _ _ _ _ (c11 .loop .inv .row) (c10 .loop-test .taken) (c9 .word-in .ensures .0) _ refl _ (c8 .look-in .ensures)
+    plain-field _ _ _ _ _ _ _ (c11 .loop .inv .row) (c10 .loop-test .taken) (c9 .word-in .ensures .0) _ refl _ (c8 .look-in .ensures)
     (sym (c6 .is-plain .ensures) ∙ c5 .if1 .taken) in
-    writing-plain _ _ _ _ _ _ _ _ _ _ _ _ _ _ _ _ _ _ _ (c17 .pre .1 .walk) (c11 .loop .inv) (c10 .loop-test .taken)
+    writing-plain _ _ _ _ _ _ _ _ _ _ _ _ _ _ _ _ _ _ _ _ (c17 .pre .1 .walk) (c11 .loop .inv) (c10 .loop-test .taken)
     (c9 .word-in .ensures .0) _ refl field _ (c2 .copy-into .ensures)
 
 write-fields-begin-requires : (t : ℕ) → write-fields-lts.Need-begin-requires (write-fields-calls t) (write-fields-at t) write-fields.Post
@@ -286,7 +408,7 @@ write-fields-begin-requires t c κs =
     let c6 = c5 .before in
     let c7 = c6 .before in
     let c13 = c7 .before .before .before .before .before .before in
-    writing-order _ _ _ _ _ _ _ _ _ _ _ _ _ _ _ _ _ _ _ (c13 .pre .1 .walk) (c7 .loop .inv) (c6 .loop-test .taken) (c5 .word-in .ensures .0)
+    writing-order _ _ _ _ _ _ _ _ _ _ _ _ _ _ _ _ _ _ _ _ (c13 .pre .1 .walk) (c7 .loop .inv) (c6 .loop-test .taken) (c5 .word-in .ensures .0)
 
 write-fields-put-leaf-requires : (t : ℕ) → write-fields-lts.Need-put-leaf-requires (write-fields-calls t) (write-fields-at t) write-fields.Post
     write-fields-Inv-loop write-fields-μ-loop
@@ -299,8 +421,8 @@ write-fields-put-leaf-requires t c κs =
     let c13 = c12 .before in
     let c19 = c13 .before .before .before .before .before .before in
     below-asked _ _ _ (c10 .look-in .ensures) (c1 .if2 .taken) _ _ _ _ _ _
-    (writing-upto _ _ _ _ _ _ _ _ _ _ _ _ _ _ _ _ _ _ _ (c19 .pre .1 .walk) (c13 .loop .inv) (c12 .loop-test .taken) (c11 .word-in .ensures .0))
-    (writing-room _ _ _ _ _ _ _ _ _ _ _ _ _ _ _ _ _ _ _ (c19 .pre .1 .walk) (c13 .loop .inv) (c12 .loop-test .taken) (c11 .word-in .ensures .0) _ refl _ _
+    (writing-upto _ _ _ _ _ _ _ _ _ _ _ _ _ _ _ _ _ _ _ _ (c19 .pre .1 .walk) (c13 .loop .inv) (c12 .loop-test .taken) (c11 .word-in .ensures .0))
+    (writing-room _ _ _ _ _ _ _ _ _ _ _ _ _ _ _ _ _ _ _ _ (c19 .pre .1 .walk) (c13 .loop .inv) (c12 .loop-test .taken) (c11 .word-in .ensures .0) _ refl _ _
     (c5 .begin .ensures))
 
 write-fields-write-item-requires : (t : ℕ) → write-fields-lts.Need-write-item-requires (write-fields-calls t) (write-fields-at t) write-fields.Post
@@ -311,11 +433,11 @@ write-fields-write-item-requires t c κs =
     let c12 = c11 .before in
     let c13 = c12 .before in
     let c19 = c13 .before .before .before .before .before .before in (
-      omega (arith, row-below _ _ _ _ _ _ (c13 .loop .inv .row) (c12 .loop-test .taken) (c11 .word-in .ensures .0), c19 .pre .0),
+      omega (arith, row-below _ _ _ _ _ _ _ (c13 .loop .inv .row) (c12 .loop-test .taken) (c11 .word-in .ensures .0), c19 .pre .0),
       (
-        row-under _ _ _ _ _ _ (c13 .loop .inv .row) (c12 .loop-test .taken) (c11 .word-in .ensures .0),
-        writing-upto _ _ _ _ _ _ _ _ _ _ _ _ _ _ _ _ _ _ _ (c19 .pre .1 .walk) (c13 .loop .inv) (c12 .loop-test .taken) (c11 .word-in .ensures .0),
-        writing-room _ _ _ _ _ _ _ _ _ _ _ _ _ _ _ _ _ _ _ (c19 .pre .1 .walk) (c13 .loop .inv) (c12 .loop-test .taken)
+        row-under _ _ _ _ _ _ _ (c13 .loop .inv .row) (c12 .loop-test .taken) (c11 .word-in .ensures .0),
+        writing-upto _ _ _ _ _ _ _ _ _ _ _ _ _ _ _ _ _ _ _ _ (c19 .pre .1 .walk) (c13 .loop .inv) (c12 .loop-test .taken) (c11 .word-in .ensures .0),
+        writing-room _ _ _ _ _ _ _ _ _ _ _ _ _ _ _ _ _ _ _ _ (c19 .pre .1 .walk) (c13 .loop .inv) (c12 .loop-test .taken)
             (c11 .word-in .ensures .0) _ refl _ _ (c5 .begin .ensures),
       ),
     )
@@ -329,7 +451,7 @@ write-fields-next-head-requires t c κs =
     let c18 = c12 .before .before .before .before .before .before in
     λ z. omega (
       arith,
-      writing-four _ _ _ _ _ _ _ _ _ _ _ _ _ _ _ _ _ _ _ (c18 .pre .1 .walk) (c12 .loop .inv) (c11 .loop-test .taken)
+      writing-four _ _ _ _ _ _ _ _ _ _ _ _ _ _ _ _ _ _ _ _ (c18 .pre .1 .walk) (c12 .loop .inv) (c11 .loop-test .taken)
           (c10 .word-in .ensures .0) _ refl z,
       c12 .loop .inv .long,
       c18 .good,
@@ -361,7 +483,7 @@ write-fields-loop-again-2 t c =
     (λ h. put-as _ _ _ _ (c2 .if2 .s) _ (c2 .if2 .out) _ (h .5) (h .6) (h .2 .ensures))
     (c2 .if2 .came) in
     rw (c1 .next-head .ensures, c .next-tail .ensures)
-    (writing-next _ _ _ _ _ _ _ _ _ _ _ _ _ _ _ _ _ _ _ (c20 .pre .1 .walk) (c14 .loop .inv) (c13 .loop-test .taken) (c12 .word-in .ensures .0) _ refl _ _
+    (writing-next _ _ _ _ _ _ _ _ _ _ _ _ _ _ _ _ _ _ _ _ (c20 .pre .1 .walk) (c14 .loop .inv) (c13 .loop-test .taken) (c12 .word-in .ensures .0) _ refl _ _
     (c6 .begin .ensures) (c2 .if2 .s) (c2 .if2 .out) put)
 
 write-fields-same-length : (t : ℕ) → write-fields-lts.Need-same-length (write-fields-calls t) (write-fields-at t) write-fields.Post
@@ -374,15 +496,15 @@ write-fields-returns : (t : ℕ) → write-fields-lts.Need-returns (write-fields
     write-fields-Inv-loop write-fields-μ-loop
 write-fields-returns t c =
     let c1 = c .before in
-    writing-end _ _ _ _ _ _ _ _ _ _ _ _ _ _ _ _ _ _ (c1 .loop .inv) refl (c .loop-test .left)
+    writing-end _ _ _ _ _ _ _ _ _ _ _ _ _ _ _ _ _ _ _ (c1 .loop .inv) refl (c .loop-test .left)
 
 write-item-look-in-requires : (t : ℕ) → write-item-lts.Need-look-in-requires (write-item-calls t) (write-item-at t) write-item.Post
 write-item-look-in-requires t c κs =
     let c4 = c .before .before .before .before in
     c4 .pre .1 .0 .legal
 
-write-item-add-first : (t : ℕ) → write-item-lts.Need-add-first (write-item-calls t) (write-item-at t) write-item.Post
-write-item-add-first t c =
+write-item-add-a : (t : ℕ) → write-item-lts.Need-add-a (write-item-calls t) (write-item-at t) write-item.Post
+write-item-add-a t c =
     let c1 = c .before in
     let c6 = c1 .before .before .before .before .before in
     omega (arith, node-ok _ _ _ _ (c1 .look-in .ensures) (c6 .pre .1 .0) .near)
@@ -517,14 +639,26 @@ write-item-enum-told-2 t c = search needs
 write-item-put-leaf-requires : (t : ℕ) → write-item-lts.Need-put-leaf-requires (write-item-calls t) (write-item-at t) write-item.Post
 write-item-put-leaf-requires t c κs =
     let c1 = c .before in
+    let c8 = c1 .before .before .before .before .before .before .before in
+    let c13 = c8 .before .before .before .before .before in
+    below-asked _ _ _ (c8 .look-in .ensures) (c1 .if3 .taken) _ _ _ _ _ _ (c13 .pre .1 .1) (c13 .pre .1 .2)
+
+write-item-write-elements-requires : (t : ℕ) → write-item-lts.Need-write-elements-requires (write-item-calls t) (write-item-at t) write-item.Post
+write-item-write-elements-requires t c κs =
+    let c1 = c .before in
     let c3 = c1 .before .before in
-    let c6 = c3 .before .before .before in
-    let c11 = c6 .before .before .before .before .before in
-    let w = tree-walk _ _ _ (c6 .look-in .ensures) (c3 .if1 .left) (c1 .if2 .left) (c11 .args .contents .now) (c11 .args .bodies .now) (c11 .args .i)
-    (c11 .args .j) in
-    let x = tree-write _ _ _ (c6 .look-in .ensures) (c3 .if1 .left) (c1 .if2 .left) (c11 .args .contents .now) (c11 .args .bodies .now) (c11 .args .i)
-    (c11 .args .j) in
-    (rw w at (c11 .pre .1 .1), rw x at (c11 .pre .1 .2))
+    let c5 = c3 .before .before in
+    let c8 = c5 .before .before .before in
+    let c13 = c8 .before .before .before .before .before in (
+      omega (arith, c13 .pre .0),
+      (
+        c13 .pre .1 .0,
+        c8 .look-in .ensures,
+        several _ (c1 .if3 .left) (c5 .if1 .left) (c3 .if2 .left),
+        c13 .pre .1 .1,
+        c13 .pre .1 .2,
+      ),
+    )
 
 write-item-same-length : (t : ℕ) → write-item-lts.Need-same-length (write-item-calls t) (write-item-at t) write-item.Post
 write-item-same-length t c = search needs
@@ -583,13 +717,35 @@ write-item-returns-5 : (t : ℕ) → write-item-lts.Need-returns-5 (write-item-c
 write-item-returns-5 t c =
     let c2 = c .before .before in
     let c4 = c2 .before .before in
-    let c6 = c4 .before .before in
-    let c9 = c6 .before .before .before in
-    rw (tree-walk _ _ _ (c9 .look-in .ensures) (c6 .if1 .left) (c4 .if2 .left), tree-write _ _ _ (c9 .look-in .ensures) (c6 .if1 .left) (c4 .if2 .left))
-    (c2 .put-leaf .ensures)
+    let c11 = c4 .before .before .before .before .before .before .before in
+    below-put _ _ _ (c11 .look-in .ensures) (c4 .if3 .taken) _ _ _ _ _ _ _ _ (c2 .put-leaf .ensures)
 
-pub +write-fields+write-item-spec : {M : Type 1} → statement M
-+write-fields+write-item-spec = close μ-write-fields μ-write-item (λ t. write-fields-lts.spec (write-fields-calls t)
+write-item-same-length-5 : (t : ℕ) → write-item-lts.Need-same-length-5 (write-item-calls t) (write-item-at t) write-item.Post
+write-item-same-length-5 t c = search needs
+
+write-item-returns-6 : (t : ℕ) → write-item-lts.Need-returns-6 (write-item-calls t) (write-item-at t) write-item.Post
+write-item-returns-6 t c =
+    let c2 = c .before .before in
+    c2 .write-elements .ensures
+
+pub +write-elements+write-fields+write-item-spec : {M : Type 1} → statement M
++write-elements+write-fields+write-item-spec = close μ-write-elements μ-write-fields μ-write-item (λ t. write-elements-lts.spec (write-elements-calls t)
+    (write-elements-at t)
+    write-elements.Post
+    (write-elements-run-of-requires t)
+    (write-elements-look-in-requires t)
+    (write-elements-mul-len t)
+    (write-elements-element-copy-out-len t)
+    (write-elements-cast-len t)
+    (write-elements-mul-len-2 t)
+    (write-elements-put-part-requires t)
+    (write-elements-same-length t)
+    (write-elements-returns t)
+    (write-elements-add-first t)
+    (write-elements-write-fields-requires t)
+    (write-elements-same-length-2 t)
+    (write-elements-returns-2 t))
+    (λ t. write-fields-lts.spec (write-fields-calls t)
     (write-fields-at t)
     write-fields.Post
     write-fields-Inv-loop
@@ -626,7 +782,7 @@ pub +write-fields+write-item-spec : {M : Type 1} → statement M
     (write-item-at t)
     write-item.Post
     (write-item-look-in-requires t)
-    (write-item-add-first t)
+    (write-item-add-a t)
     (write-item-write-fields-requires t)
     (write-item-select-requires t)
     (write-item-enum-told t)
@@ -640,6 +796,7 @@ pub +write-fields+write-item-spec : {M : Type 1} → statement M
     (write-item-write-item-requires t)
     (write-item-enum-told-2 t)
     (write-item-put-leaf-requires t)
+    (write-item-write-elements-requires t)
     (write-item-same-length t)
     (write-item-returns t)
     (write-item-same-length-2 t)
@@ -649,3 +806,5 @@ pub +write-fields+write-item-spec : {M : Type 1} → statement M
     (write-item-returns-4 t)
     (write-item-same-length-4 t)
     (write-item-returns-5 t)
+    (write-item-same-length-5 t)
+    (write-item-returns-6 t)

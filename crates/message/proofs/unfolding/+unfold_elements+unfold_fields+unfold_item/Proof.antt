@@ -1,4 +1,4 @@
--- Items and fields call each other; the type number falls. The loop over the fields keeps `Filling`. Assumes nothing.
+-- Items, elements and fields call each other; the type number falls. The loop over the fields keeps `Filling`. Assumes nothing.
 use mathlib.Core.Path.{refl, sym, _∙_}
 use native.Mathlib.Omega.{arith}
 use borrow.Author.Needs.{needs}
@@ -7,34 +7,48 @@ use mathlib.Core.List.{[]}
 use lib.ListN.{length-take, length-drop}
 use Rattle.message.proofs.Rows.{Lies, span-lies, row-there, row-legal, row-below, row-under, under-below}
 use Rattle.message.proofs.Bodies.{node-ok, container-row, body-below}
-use Rattle.message.proofs.UnfoldLeaves.{stored-length}
-use Rattle.message.proofs.Unfolds.{Filling, filled-none, filled-then, rooms-then, selector-filled, filling-accepts, filling-rooms, filling-next, filling-end, fields-accepts, container-rooms, container-filled, leaf-accepts, leaf-rooms, leaf-filled, union-room, union-long, bare-filled, never, body-words, body-bytes, body-accepts}
-use Rattle.message.proofs.Entries.{below-six}
-use Rattle.message.proofs.Unfolds.{copied-room, copied-filled}
+use Rattle.layout.proofs.Facts.{legal-below}
+use Rattle.message.proofs.Repeats.{element-below}
+use Rattle.message.proofs.UnfoldLeaves.{stored-length, bytes-room, bytes-filled}
+use Rattle.message.proofs.Unfolds.{Filling, filled-none, filled-then, rooms-then, words-filled, filling-accepts, filling-rooms, filling-next, filling-end, fields-accepts, container-rooms, container-filled, elements-accept, count-room, elements-rooms, elements-filled, copied-elements, leaf-accepts, leaf-rooms, leaf-filled, union-room, union-long, bare-filled, never, body-words, body-bytes, body-accepts, copied-room, copied-filled}
 use Prim.Native.Nat.{ℕ, _<_}
 use borrow.Fn.Kinds.{In}
 use borrow.Fn.PlainCycle.{Measures, is, falls, and}
+use Rattle.message.proofs.unfolding.unfold_elements.Reads as unfold-elements
+use Rattle.message.proofs.unfolding.unfold_elements.Kinds as unfold-elements-kinds
+use Rattle.message.proofs.unfolding.+unfold_elements+unfold_fields+unfold_item.Lts-unfold_elements as unfold-elements-lts
 use Rattle.message.proofs.unfolding.unfold_fields.Reads as unfold-fields
 use Rattle.message.proofs.unfolding.unfold_fields.Kinds as unfold-fields-kinds
-use Rattle.message.proofs.unfolding.+unfold_fields+unfold_item.Lts-unfold_fields as unfold-fields-lts
+use Rattle.message.proofs.unfolding.+unfold_elements+unfold_fields+unfold_item.Lts-unfold_fields as unfold-fields-lts
 use Rattle.message.proofs.unfolding.unfold_item.Reads as unfold-item
 use Rattle.message.proofs.unfolding.unfold_item.Kinds as unfold-item-kinds
-use Rattle.message.proofs.unfolding.+unfold_fields+unfold_item.Lts-unfold_item as unfold-item-lts
+use Rattle.message.proofs.unfolding.+unfold_elements+unfold_fields+unfold_item.Lts-unfold_item as unfold-item-lts
 use Rattle.message.proofs.words.word_in.Reads as word-in-reads
+use Rattle.message.proofs.elements.many_in.Reads as many-in-reads
+use Rattle.message.proofs.unfolding.put_count.Reads as put-count-reads
 use Rattle.message.proofs.fields.locate.Reads as locate-reads
 use Rattle.message.proofs.words.look_in.Reads as look-in-reads
 use Rattle.message.proofs.items.select.Reads as select-reads
 use Rattle.message.proofs.unfolding.copy_into.Reads as copy-into-reads
 use Rattle.message.proofs.unfolding.put_selector.Reads as put-selector-reads
 use Rattle.message.proofs.unfolding.unfold_leaf.Reads as unfold-leaf-reads
-use Rattle.message.proofs.unfolding.+unfold_fields+unfold_item.{statement}
-use Rattle.message.proofs.unfolding.+unfold_fields+unfold_item.Tie.{close}
+use Rattle.message.proofs.unfolding.+unfold_elements+unfold_fields+unfold_item.{statement}
+use Rattle.message.proofs.unfolding.+unfold_elements+unfold_fields+unfold_item.Tie.{close}
+
+abbrev μ-unfold-elements : Measures 5 unfold-elements-kinds.ps ℕ
+μ-unfold-elements κs a = 3 * a .1 .1 .1 .1 .1 .1 .0 + 1
 
 abbrev μ-unfold-fields : Measures 5 unfold-fields-kinds.ps ℕ
-μ-unfold-fields κs a = 2 * a .1 .1 .1 .1 .1 .0
+μ-unfold-fields κs a = 3 * a .1 .1 .1 .1 .1 .0
 
 abbrev μ-unfold-item : Measures 5 unfold-item-kinds.ps ℕ
-μ-unfold-item κs a = 2 * a .1 .1 .1 .1 .1 .0 + 1
+μ-unfold-item κs a = 3 * a .1 .1 .1 .1 .1 .0 + 2
+
+abbrev unfold-elements-at : ℕ → In 5 unfold-elements-kinds.ps
+unfold-elements-at t = and 5 unfold-elements-kinds.ps (is 5 unfold-elements-kinds.ps μ-unfold-elements t) unfold-elements.Pre
+
+abbrev unfold-elements-below : ℕ → In 5 unfold-elements-kinds.ps
+unfold-elements-below t = and 5 unfold-elements-kinds.ps (falls 5 unfold-elements-kinds.ps _<_ μ-unfold-elements t) unfold-elements.Pre
 
 abbrev unfold-fields-at : ℕ → In 5 unfold-fields-kinds.ps
 unfold-fields-at t = and 5 unfold-fields-kinds.ps (is 5 unfold-fields-kinds.ps μ-unfold-fields t) unfold-fields.Pre
@@ -49,11 +63,26 @@ abbrev unfold-item-below : ℕ → In 5 unfold-item-kinds.ps
 unfold-item-below t = and 5 unfold-item-kinds.ps (falls 5 unfold-item-kinds.ps _<_ μ-unfold-item t) unfold-item.Pre
 
 abbrev unfold-fields-Inv-loop : unfold-fields-lts.InvT-loop
-unfold-fields-Inv-loop contents₀ bodies₀ lens layout t a0 n b at₀ a₀ left₀ p₀ contents bodies at a left p =
-    Filling lens layout t a0 n b contents₀ bodies₀ at₀ contents bodies at a left p
+unfold-fields-Inv-loop contents₀ bodies₀ lens layout t a0 step n b at₀ a₀ left₀ p₀ contents bodies at a left p =
+    Filling lens layout t a0 step n b contents₀ bodies₀ at₀ contents bodies at a left p
 
 abbrev unfold-fields-μ-loop : unfold-fields-lts.MeasureT-loop
-unfold-fields-μ-loop contents₀ bodies₀ lens layout t a0 n b at₀ a₀ left₀ p₀ contents bodies at a left p = left
+unfold-fields-μ-loop contents₀ bodies₀ lens layout t a0 step n b at₀ a₀ left₀ p₀ contents bodies at a left p = left
+
+-- what `unfold_elements` calls, at the measure t
+abbrev unfold-elements-calls : ℕ → unfold-elements-lts.Claims
+unfold-elements-calls t = (
+  many-in-reads.Asked,
+  many-in-reads.Learnt,
+  put-count-reads.Asked,
+  put-count-reads.Learnt,
+  look-in-reads.Asked,
+  look-in-reads.Learnt,
+  copy-into-reads.Asked,
+  copy-into-reads.Learnt,
+  unfold-fields-below t,
+  unfold-fields.Post,
+)
 
 -- what `unfold_fields` calls, at the measure t
 abbrev unfold-fields-calls : ℕ → unfold-fields-lts.Claims
@@ -87,7 +116,107 @@ unfold-item-calls t = (
   unfold-item.Post,
   unfold-leaf-reads.Asked,
   unfold-leaf-reads.Learnt,
+  unfold-elements-below t,
+  unfold-elements.Post,
 )
+
+unfold-elements-many-in-requires : (t : ℕ) → unfold-elements-lts.Need-many-in-requires (unfold-elements-calls t) (unfold-elements-at t) unfold-elements.Post
+unfold-elements-many-in-requires t c κs =
+    let c4 = c .before .before .before .before in
+    (c4 .pre .1 .0, c4 .pre .1 .2, c4 .pre .1 .3, c4 .pre .1 .4 .accepted)
+
+unfold-elements-put-count-requires : (t : ℕ) → unfold-elements-lts.Need-put-count-requires (unfold-elements-calls t) (unfold-elements-at t) unfold-elements.Post
+unfold-elements-put-count-requires t c κs =
+    let c1 = c .before in
+    let c6 = c1 .before .before .before .before .before in (
+      count-room _ _ _ _ (c6 .pre .1 .2) (c6 .pre .1 .0) _ (c6 .pre .1 .4) (c6 .pre .1 .3) _ (c1 .many-in .ensures) _ _ _
+          (c6 .pre .1 .5),
+      elements-accept _ _ _ _ (c6 .pre .1 .2) (c6 .pre .1 .0) _ (c6 .pre .1 .4) (c6 .pre .1 .3) _ (c1 .many-in .ensures) (c6 .pre .1 .1) .3,
+    )
+
+unfold-elements-look-in-requires : (t : ℕ) → unfold-elements-lts.Need-look-in-requires (unfold-elements-calls t) (unfold-elements-at t) unfold-elements.Post
+unfold-elements-look-in-requires t c κs =
+    let c9 = c .before .before .before .before .before .before .before .before .before in
+    legal-below _ _ _ (omega (arith, element-below _ _ _ _ (c9 .pre .1 .2) (c9 .pre .1 .0) (c9 .pre .1 .3))) (c9 .pre .1 .0 .legal)
+
+unfold-elements-copy-into-requires : (t : ℕ) → unfold-elements-lts.Need-copy-into-requires (unfold-elements-calls t) (unfold-elements-at t) unfold-elements.Post
+unfold-elements-copy-into-requires t c κs =
+    let c1 = c .before in
+    let c3 = c1 .before .before in
+    let c6 = c3 .before .before .before in
+    let c8 = c6 .before .before in
+    let c13 = c8 .before .before .before .before .before in
+    bytes-room _ _ _ (copied-elements _ _ _ _ (c13 .pre .1 .2) (c13 .pre .1 .0) _ (c13 .pre .1 .4) (c13 .pre .1 .3) _ (c8 .many-in .ensures)
+    _ (c3 .look-in .ensures) (c1 .if1 .taken)) _ _ _
+    (elements-rooms _ _ _ _ (c13 .pre .1 .2) (c13 .pre .1 .0) _ (c13 .pre .1 .4) (c13 .pre .1 .3) _ (c8 .many-in .ensures) _ _ _ _ _ (c13 .pre .1 .5)
+    (words-filled _ _ _ _ _ _ (c6 .put-count .ensures .0) (c6 .put-count .ensures .1)))
+
+unfold-elements-same-length : (t : ℕ) → unfold-elements-lts.Need-same-length (unfold-elements-calls t) (unfold-elements-at t) unfold-elements.Post
+unfold-elements-same-length t c =
+    let c9 = c .before .before .before .before .before .before .before .before .before in
+    stored-length _ _ _ _ _ (c9 .put-count .ensures .0)
+
+unfold-elements-same-length-2 : (t : ℕ) → unfold-elements-lts.Need-same-length-2 (unfold-elements-calls t) (unfold-elements-at t) unfold-elements.Post
+unfold-elements-same-length-2 t c =
+    let c2 = c .before .before in
+    stored-length _ _ _ _ _ (c2 .copy-into .ensures)
+
+unfold-elements-returns : (t : ℕ) → unfold-elements-lts.Need-returns (unfold-elements-calls t) (unfold-elements-at t) unfold-elements.Post
+unfold-elements-returns t c =
+    let c2 = c .before .before in
+    let c4 = c2 .before .before in
+    let c6 = c4 .before .before in
+    let c9 = c6 .before .before .before in
+    let c11 = c9 .before .before in
+    let c16 = c11 .before .before .before .before .before in
+    elements-filled _ _ _ _ (c16 .pre .1 .2) (c16 .pre .1 .0) _ (c16 .pre .1 .4) (c16 .pre .1 .3) _ (c11 .many-in .ensures) _ _ _ _ _ _ _ _
+    (words-filled _ _ _ _ _ _ (c9 .put-count .ensures .0) (c9 .put-count .ensures .1))
+    (bytes-filled _ _ _ (copied-elements _ _ _ _ (c16 .pre .1 .2) (c16 .pre .1 .0) _ (c16 .pre .1 .4) (c16 .pre .1 .3) _ (c11 .many-in .ensures)
+    _ (c6 .look-in .ensures) (c4 .if1 .taken)) _ _ _ _ _ (c2 .copy-into .ensures))
+
+unfold-elements-add-first : (t : ℕ) → unfold-elements-lts.Need-add-first (unfold-elements-calls t) (unfold-elements-at t) unfold-elements.Post
+unfold-elements-add-first t c =
+    let c13 = c .before .before .before .before .before .before .before .before .before .before .before .before .before in
+    omega (arith, node-ok _ _ _ _ (c13 .pre .1 .2) (c13 .pre .1 .0) .near)
+
+unfold-elements-unfold-fields-requires : (t : ℕ) → unfold-elements-lts.Need-unfold-fields-requires (unfold-elements-calls t) (unfold-elements-at t)
+    unfold-elements.Post
+unfold-elements-unfold-fields-requires t c κs =
+    let c8 = c .before .before .before .before .before .before .before .before in
+    let c10 = c8 .before .before in
+    let c15 = c10 .before .before .before .before .before in
+    let k = elements-accept _ _ _ _ (c15 .pre .1 .2) (c15 .pre .1 .0) _ (c15 .pre .1 .4) (c15 .pre .1 .3) _ (c10 .many-in .ensures) (c15 .pre .1 .1) in (
+      omega (arith, c15 .pre .0),
+      (
+        k .0,
+        c15 .pre .1 .1,
+        k .1,
+        k .2,
+        elements-rooms _ _ _ _ (c15 .pre .1 .2) (c15 .pre .1 .0) _ (c15 .pre .1 .4) (c15 .pre .1 .3) _ (c10 .many-in .ensures) _ _ _ _ _
+            (c15 .pre .1 .5) (words-filled _ _ _ _ _ _ (c8 .put-count .ensures .0) (c8 .put-count .ensures .1)),
+      ),
+    )
+
+unfold-elements-same-length-3 : (t : ℕ) → unfold-elements-lts.Need-same-length-3 (unfold-elements-calls t) (unfold-elements-at t) unfold-elements.Post
+unfold-elements-same-length-3 t c =
+    let c4 = c .before .before .before .before in
+    let c13 = c4 .before .before .before .before .before .before .before .before .before in
+    stored-length _ _ _ _ _ (c4 .unfold-fields .ensures .words) ∙ stored-length _ _ _ _ _ (c13 .put-count .ensures .0)
+
+unfold-elements-same-length-4 : (t : ℕ) → unfold-elements-lts.Need-same-length-4 (unfold-elements-calls t) (unfold-elements-at t) unfold-elements.Post
+unfold-elements-same-length-4 t c =
+    let c4 = c .before .before .before .before in
+    stored-length _ _ _ _ _ (c4 .unfold-fields .ensures .bytes)
+
+unfold-elements-returns-2 : (t : ℕ) → unfold-elements-lts.Need-returns-2 (unfold-elements-calls t) (unfold-elements-at t) unfold-elements.Post
+unfold-elements-returns-2 t c =
+    let c4 = c .before .before .before .before in
+    let c13 = c4 .before .before .before .before .before .before .before .before .before in
+    let c15 = c13 .before .before in
+    let c20 = c15 .before .before .before .before .before in
+    elements-filled _ _ _ _ (c20 .pre .1 .2) (c20 .pre .1 .0) _ (c20 .pre .1 .4) (c20 .pre .1 .3) _ (c15 .many-in .ensures) _ _ _ _ _ _ _ _
+    (words-filled _ _ _ _ _ _ (c13 .put-count .ensures .0) (c13 .put-count .ensures .1))
+    (c4 .unfold-fields .ensures)
 
 -- where the field lies that was located
 unfold-fields-lies : (t : ℕ)
@@ -97,7 +226,7 @@ unfold-fields-lies t c =
     let c1 = c .before in
     let c2 = c1 .before in
     let c3 = c2 .before in
-    span-lies _ _ _ _ _ _ _ _ (c3 .loop .inv .row) (c2 .loop-test .taken) (c1 .word-in .ensures .0) (c3 .loop .inv .ranges) _ (c .locate .ensures)
+    span-lies _ _ _ _ _ _ _ _ _ (c3 .loop .inv .row) (c2 .loop-test .taken) (c1 .word-in .ensures .0) (c3 .loop .inv .ranges) _ (c .locate .ensures)
 
 unfold-fields-loop-holds : (t : ℕ) → unfold-fields-lts.Need-loop-holds (unfold-fields-calls t) (unfold-fields-at t) unfold-fields.Post
     unfold-fields-Inv-loop unfold-fields-μ-loop
@@ -119,7 +248,7 @@ unfold-fields-word-in-requires : (t : ℕ) → unfold-fields-lts.Need-word-in-re
     unfold-fields-Inv-loop unfold-fields-μ-loop
 unfold-fields-word-in-requires t c κs =
     let c1 = c .before in
-    row-there _ _ _ _ _ (c1 .loop .inv .row) (c .loop-test .taken)
+    row-there _ _ _ _ _ _ (c1 .loop .inv .row) (c .loop-test .taken)
 
 unfold-fields-locate-requires : (t : ℕ) → unfold-fields-lts.Need-locate-requires (unfold-fields-calls t) (unfold-fields-at t) unfold-fields.Post
     unfold-fields-Inv-loop unfold-fields-μ-loop
@@ -132,7 +261,7 @@ unfold-fields-add-a : (t : ℕ) → unfold-fields-lts.Need-add-a (unfold-fields-
     unfold-fields-Inv-loop unfold-fields-μ-loop
 unfold-fields-add-a t c =
     let c3 = c .before .before .before in
-    omega (arith, c3 .loop .inv .row .near)
+    omega (arith, c3 .loop .inv .row .near, c3 .loop .inv .row .steps)
 
 unfold-fields-sub-left : (t : ℕ) → unfold-fields-lts.Need-sub-left (unfold-fields-calls t) (unfold-fields-at t) unfold-fields.Post
     unfold-fields-Inv-loop unfold-fields-μ-loop
@@ -144,7 +273,7 @@ unfold-fields-look-in-requires t c κs =
     let c1 = c .before in
     let c2 = c1 .before in
     let c3 = c2 .before in
-    row-legal _ _ _ _ _ _ (c3 .loop .inv .row) (c2 .loop-test .taken) (c1 .word-in .ensures .0)
+    row-legal _ _ _ _ _ _ _ (c3 .loop .inv .row) (c2 .loop-test .taken) (c1 .word-in .ensures .0)
 
 unfold-fields-sub-copy-into : (t : ℕ) → unfold-fields-lts.Need-sub-copy-into (unfold-fields-calls t) (unfold-fields-at t) unfold-fields.Post
     unfold-fields-Inv-loop unfold-fields-μ-loop
@@ -174,7 +303,7 @@ unfold-fields-copy-into-requires t c κs =
     let c7 = c6 .before in
     let c8 = c7 .before in
     copied-room _ _ _ (c4 .look-in .ensures) (c2 .if1 .taken) _ _ _ _
-    (filling-rooms _ _ _ _ _ _ _ _ _ _ _ _ _ _ _ _ (c8 .loop .inv) (c7 .loop-test .taken) (c6 .word-in .ensures .0) _ (c5 .locate .ensures))
+    (filling-rooms _ _ _ _ _ _ _ _ _ _ _ _ _ _ _ _ _ (c8 .loop .inv) (c7 .loop-test .taken) (c6 .word-in .ensures .0) _ (c5 .locate .ensures))
 
 unfold-fields-loop-less : (t : ℕ) → unfold-fields-lts.Need-loop-less (unfold-fields-calls t) (unfold-fields-at t) unfold-fields.Post
     unfold-fields-Inv-loop unfold-fields-μ-loop
@@ -190,7 +319,7 @@ unfold-fields-loop-again t c =
     let c9 = c8 .before in
     let c10 = c9 .before in
     let c11 = c10 .before in
-    filling-next _ _ _ _ _ _ _ _ _ _ _ _ _ _ _ _ (c11 .loop .inv) (c10 .loop-test .taken) (c9 .word-in .ensures .0) _ (c8 .locate .ensures) _ _ _
+    filling-next _ _ _ _ _ _ _ _ _ _ _ _ _ _ _ _ _ (c11 .loop .inv) (c10 .loop-test .taken) (c9 .word-in .ensures .0) _ (c8 .locate .ensures) _ _ _
     (copied-filled _ _ _ (c7 .look-in .ensures) (c5 .if1 .taken) _ _ _ _ _ _ (c2 .copy-into .ensures))
 
 unfold-fields-sub-unfold-leaf : (t : ℕ) → unfold-fields-lts.Need-sub-unfold-leaf (unfold-fields-calls t) (unfold-fields-at t) unfold-fields.Post
@@ -221,14 +350,14 @@ unfold-fields-unfold-leaf-requires t c κs =
     let c10 = c9 .before in
     let c11 = c10 .before in
     let c16 = c11 .before .before .before .before .before in
-    let under = row-under _ _ _ _ _ _ (c11 .loop .inv .row) (c10 .loop-test .taken) (c9 .word-in .ensures .0) in
-    let accepts = filling-accepts _ _ _ _ _ _ _ _ _ _ _ _ _ _ _ _ (c11 .loop .inv) (c10 .loop-test .taken) (c9 .word-in .ensures .0) _ (c8 .locate .ensures) in
-    let six = below-six _ (c3 .if2 .taken) in (
+    let under = row-under _ _ _ _ _ _ _ (c11 .loop .inv .row) (c10 .loop-test .taken) (c9 .word-in .ensures .0) in
+    let accepts = filling-accepts _ _ _ _ _ _ _ _ _ _ _ _ _ _ _ _ _ (c11 .loop .inv) (c10 .loop-test .taken) (c9 .word-in .ensures .0)
+    _ (c8 .locate .ensures) in (
       node-ok _ _ _ _ (c7 .look-in .ensures) under .small,
       omega (arith, unfold-fields-lies t c8, c16 .pre .1 .1),
-      leaf-accepts _ _ _ _ (c7 .look-in .ensures) under _ accepts (six .0) (six .1),
-      leaf-rooms _ _ _ _ (c7 .look-in .ensures) under _ accepts (six .0) (six .1) _ _ _
-          (filling-rooms _ _ _ _ _ _ _ _ _ _ _ _ _ _ _ _ (c11 .loop .inv) (c10 .loop-test .taken) (c9 .word-in .ensures .0) _ (c8 .locate .ensures)),
+      leaf-accepts _ _ _ _ (c7 .look-in .ensures) under _ accepts (c3 .if2 .taken),
+      leaf-rooms _ _ _ _ (c7 .look-in .ensures) under _ accepts (c3 .if2 .taken) _ _ _
+          (filling-rooms _ _ _ _ _ _ _ _ _ _ _ _ _ _ _ _ _ (c11 .loop .inv) (c10 .loop-test .taken) (c9 .word-in .ensures .0) _ (c8 .locate .ensures)),
     )
 
 unfold-fields-sub-unfold-item : (t : ℕ) → unfold-fields-lts.Need-sub-unfold-item (unfold-fields-calls t) (unfold-fields-at t) unfold-fields.Post
@@ -257,14 +386,14 @@ unfold-fields-unfold-item-requires t c κs =
     let c10 = c9 .before in
     let c11 = c10 .before in
     let c16 = c11 .before .before .before .before .before in
-    let lower = row-below _ _ _ _ _ _ (c11 .loop .inv .row) (c10 .loop-test .taken) (c9 .word-in .ensures .0) in
-    let under = row-under _ _ _ _ _ _ (c11 .loop .inv .row) (c10 .loop-test .taken) (c9 .word-in .ensures .0) in (
+    let lower = row-below _ _ _ _ _ _ _ (c11 .loop .inv .row) (c10 .loop-test .taken) (c9 .word-in .ensures .0) in
+    let under = row-under _ _ _ _ _ _ _ (c11 .loop .inv .row) (c10 .loop-test .taken) (c9 .word-in .ensures .0) in (
       omega (arith, lower, c16 .pre .0),
       (
         under,
         omega (arith, unfold-fields-lies t c8, c16 .pre .1 .1),
-        filling-accepts _ _ _ _ _ _ _ _ _ _ _ _ _ _ _ _ (c11 .loop .inv) (c10 .loop-test .taken) (c9 .word-in .ensures .0) _ (c8 .locate .ensures),
-        filling-rooms _ _ _ _ _ _ _ _ _ _ _ _ _ _ _ _ (c11 .loop .inv) (c10 .loop-test .taken) (c9 .word-in .ensures .0) _ (c8 .locate .ensures),
+        filling-accepts _ _ _ _ _ _ _ _ _ _ _ _ _ _ _ _ _ (c11 .loop .inv) (c10 .loop-test .taken) (c9 .word-in .ensures .0) _ (c8 .locate .ensures),
+        filling-rooms _ _ _ _ _ _ _ _ _ _ _ _ _ _ _ _ _ (c11 .loop .inv) (c10 .loop-test .taken) (c9 .word-in .ensures .0) _ (c8 .locate .ensures),
       ),
     )
 
@@ -282,11 +411,11 @@ unfold-fields-loop-again-2 t c =
     let c14 = c13 .before in
     let c15 = c14 .before in
     let c16 = c15 .before in
-    let under = row-under _ _ _ _ _ _ (c16 .loop .inv .row) (c15 .loop-test .taken) (c14 .word-in .ensures .0) in
-    let accepts = filling-accepts _ _ _ _ _ _ _ _ _ _ _ _ _ _ _ _ (c16 .loop .inv) (c15 .loop-test .taken) (c14 .word-in .ensures .0) _ (c13 .locate .ensures) in
-    let six = below-six _ (c8 .if2 .taken) in
-    filling-next _ _ _ _ _ _ _ _ _ _ _ _ _ _ _ _ (c16 .loop .inv) (c15 .loop-test .taken) (c14 .word-in .ensures .0) _ (c13 .locate .ensures) _ _ _
-    (leaf-filled _ _ _ _ (c12 .look-in .ensures) under _ accepts (six .0) (six .1) _ _ _ _ _ _ (c4 .unfold-leaf .ensures))
+    let under = row-under _ _ _ _ _ _ _ (c16 .loop .inv .row) (c15 .loop-test .taken) (c14 .word-in .ensures .0) in
+    let accepts = filling-accepts _ _ _ _ _ _ _ _ _ _ _ _ _ _ _ _ _ (c16 .loop .inv) (c15 .loop-test .taken) (c14 .word-in .ensures .0)
+    _ (c13 .locate .ensures) in
+    filling-next _ _ _ _ _ _ _ _ _ _ _ _ _ _ _ _ _ (c16 .loop .inv) (c15 .loop-test .taken) (c14 .word-in .ensures .0) _ (c13 .locate .ensures) _ _ _
+    (leaf-filled _ _ _ _ (c12 .look-in .ensures) under _ accepts (c8 .if2 .taken) _ _ _ _ _ _ (c4 .unfold-leaf .ensures))
 
 unfold-fields-loop-less-3 : (t : ℕ) → unfold-fields-lts.Need-loop-less-3 (unfold-fields-calls t) (unfold-fields-at t) unfold-fields.Post
     unfold-fields-Inv-loop unfold-fields-μ-loop
@@ -300,7 +429,7 @@ unfold-fields-loop-again-3 t c =
     let c14 = c13 .before in
     let c15 = c14 .before in
     let c16 = c15 .before in
-    filling-next _ _ _ _ _ _ _ _ _ _ _ _ _ _ _ _ (c16 .loop .inv) (c15 .loop-test .taken) (c14 .word-in .ensures .0) _ (c13 .locate .ensures) _ _ _
+    filling-next _ _ _ _ _ _ _ _ _ _ _ _ _ _ _ _ _ (c16 .loop .inv) (c15 .loop-test .taken) (c14 .word-in .ensures .0) _ (c13 .locate .ensures) _ _ _
     (c4 .unfold-item .ensures)
 
 unfold-fields-same-length : (t : ℕ) → unfold-fields-lts.Need-same-length (unfold-fields-calls t) (unfold-fields-at t) unfold-fields.Post
@@ -319,7 +448,7 @@ unfold-fields-returns : (t : ℕ) → unfold-fields-lts.Need-returns (unfold-fie
     unfold-fields-Inv-loop unfold-fields-μ-loop
 unfold-fields-returns t c =
     let c1 = c .before in
-    filling-end _ _ _ _ _ _ _ _ _ _ _ _ _ _ _ (c1 .loop .inv) (c .loop-test .left)
+    filling-end _ _ _ _ _ _ _ _ _ _ _ _ _ _ _ _ (c1 .loop .inv) (c .loop-test .left)
 
 unfold-item-look-in-requires : (t : ℕ) → unfold-item-lts.Need-look-in-requires (unfold-item-calls t) (unfold-item-at t) unfold-item.Post
 unfold-item-look-in-requires t c κs = c .before .before .before .before .pre .1 .0 .legal
@@ -418,7 +547,7 @@ unfold-item-unfold-item-requires t c κs =
             (body-words _ _ _ _ (c16 .look-in .ensures) (c21 .pre .1 .0) _ (c21 .pre .1 .2) (c11 .if2 .taken) _
             (sym (c8 .c .given .1) ∙ c10 .select .ensures)) (body-bytes _ _ _ _ (c16 .look-in .ensures) (c21 .pre .1 .0) _ (c21 .pre .1 .2)
             (c11 .if2 .taken) _ (sym (c8 .c .given .1) ∙ c10 .select .ensures))
-            (selector-filled _ _ _ _ _ _ (c5 .put-selector2 .ensures .0) (c5 .put-selector2 .ensures .1)),
+            (words-filled _ _ _ _ _ _ (c5 .put-selector2 .ensures .0) (c5 .put-selector2 .ensures .1)),
       ),
     )
 
@@ -428,15 +557,30 @@ unfold-item-enum-told-2 t c = search needs
 unfold-item-unfold-leaf-requires : (t : ℕ) → unfold-item-lts.Need-unfold-leaf-requires (unfold-item-calls t) (unfold-item-at t) unfold-item.Post
 unfold-item-unfold-leaf-requires t c κs =
     let c2 = c .before .before in
+    let c9 = c2 .before .before .before .before .before .before .before in
+    let c14 = c9 .before .before .before .before .before in (
+      node-ok _ _ _ _ (c9 .look-in .ensures) (c14 .pre .1 .0) .small,
+      c14 .pre .1 .1,
+      leaf-accepts _ _ _ _ (c9 .look-in .ensures) (c14 .pre .1 .0) _ (c14 .pre .1 .2) (c2 .if3 .taken),
+      leaf-rooms _ _ _ _ (c9 .look-in .ensures) (c14 .pre .1 .0) _ (c14 .pre .1 .2) (c2 .if3 .taken) _ _ _ (c14 .pre .1 .3),
+    )
+
+unfold-item-unfold-elements-requires : (t : ℕ) → unfold-item-lts.Need-unfold-elements-requires (unfold-item-calls t) (unfold-item-at t) unfold-item.Post
+unfold-item-unfold-elements-requires t c κs =
+    let c2 = c .before .before in
     let c4 = c2 .before .before in
-    let c7 = c4 .before .before .before in
-    let c12 = c7 .before .before .before .before .before in (
-      node-ok _ _ _ _ (c7 .look-in .ensures) (c12 .pre .1 .0) .small,
-      c12 .pre .1 .1,
-      leaf-accepts _ _ _ _ (c7 .look-in .ensures) (c12 .pre .1 .0) _
-          (c12 .pre .1 .2) (c4 .if1 .left) (c2 .if2 .left),
-      leaf-rooms _ _ _ _ (c7 .look-in .ensures) (c12 .pre .1 .0) _ (c12 .pre .1 .2) (c4 .if1 .left)
-          (c2 .if2 .left) _ _ _ (c12 .pre .1 .3),
+    let c6 = c4 .before .before in
+    let c9 = c6 .before .before .before in
+    let c14 = c9 .before .before .before .before .before in (
+      omega (arith, c14 .pre .0),
+      (
+        c14 .pre .1 .0,
+        c14 .pre .1 .1,
+        c9 .look-in .ensures,
+        omega (arith, c6 .if1 .left, c4 .if2 .left, c2 .if3 .left),
+        c14 .pre .1 .2,
+        c14 .pre .1 .3,
+      ),
     )
 
 unfold-item-same-length : (t : ℕ) → unfold-item-lts.Need-same-length (unfold-item-calls t) (unfold-item-at t) unfold-item.Post
@@ -471,7 +615,7 @@ unfold-item-returns-2 t c =
     let c12 = c7 .before .before .before .before .before in
     let c17 = c12 .before .before .before .before .before in
     bare-filled _ _ _ _ (c12 .look-in .ensures) (c17 .pre .1 .0) _ (c17 .pre .1 .2) (c7 .if2 .taken) (sym (c4 .enum-told .given .1) ∙ c6 .select .ensures) _ _ _
-    _ _ _ (selector-filled _ _ _ _ _ _ (c2 .put-selector .ensures .0) (c2 .put-selector .ensures .1))
+    _ _ _ (words-filled _ _ _ _ _ _ (c2 .put-selector .ensures .0) (c2 .put-selector .ensures .1))
 
 unfold-item-same-length-4 : (t : ℕ) → unfold-item-lts.Need-same-length-4 (unfold-item-calls t) (unfold-item-at t) unfold-item.Post
 unfold-item-same-length-4 t c =
@@ -493,7 +637,7 @@ unfold-item-returns-3 t c =
     let c16 = c15 .before in
     let c21 = c16 .before .before .before .before .before in
     let c26 = c21 .before .before .before .before .before in
-    filled-then _ _ _ _ _ _ _ _ _ _ _ _ _ _ _ (selector-filled _ _ _ _ _ _ (c10 .put-selector2 .ensures .0) (c10 .put-selector2 .ensures .1))
+    filled-then _ _ _ _ _ _ _ _ _ _ _ _ _ _ _ (words-filled _ _ _ _ _ _ (c10 .put-selector2 .ensures .0) (c10 .put-selector2 .ensures .1))
     (c4 .unfold-item .ensures)
     (body-words _ _ _ _ (c21 .look-in .ensures) (c26 .pre .1 .0) _ (c26 .pre .1 .2) (c16 .if2 .taken) _ (sym (c13 .c .given .1) ∙ c15 .select .ensures))
     (body-bytes _ _ _ _ (c21 .look-in .ensures) (c26 .pre .1 .0) _ (c26 .pre .1 .2) (c16 .if2 .taken) _ (sym (c13 .c .given .1) ∙ c15 .select .ensures))
@@ -520,13 +664,42 @@ unfold-item-returns-5 : (t : ℕ) → unfold-item-lts.Need-returns-5 (unfold-ite
 unfold-item-returns-5 t c =
     let c4 = c .before .before .before .before in
     let c7 = c4 .before .before .before in
-    let c9 = c7 .before .before in
-    let c12 = c9 .before .before .before in
-    let c17 = c12 .before .before .before .before .before in
-    leaf-filled _ _ _ _ (c12 .look-in .ensures) (c17 .pre .1 .0) _ (c17 .pre .1 .2) (c9 .if1 .left) (c7 .if2 .left) _ _ _ _ _ _ (c4 .unfold-leaf .ensures)
+    let c14 = c7 .before .before .before .before .before .before .before in
+    let c19 = c14 .before .before .before .before .before in
+    leaf-filled _ _ _ _ (c14 .look-in .ensures) (c19 .pre .1 .0) _ (c19 .pre .1 .2) (c7 .if3 .taken) _ _ _ _ _ _ (c4 .unfold-leaf .ensures)
 
-pub +unfold-fields+unfold-item-spec : {M : Type 1} → statement M
-+unfold-fields+unfold-item-spec = close μ-unfold-fields μ-unfold-item (λ t. unfold-fields-lts.spec (unfold-fields-calls t)
+unfold-item-same-length-8 : (t : ℕ) → unfold-item-lts.Need-same-length-8 (unfold-item-calls t) (unfold-item-at t) unfold-item.Post
+unfold-item-same-length-8 t c =
+    let c4 = c .before .before .before .before in
+    stored-length _ _ _ _ _ (c4 .unfold-elements .ensures .words)
+
+unfold-item-same-length-9 : (t : ℕ) → unfold-item-lts.Need-same-length-9 (unfold-item-calls t) (unfold-item-at t) unfold-item.Post
+unfold-item-same-length-9 t c =
+    let c4 = c .before .before .before .before in
+    stored-length _ _ _ _ _ (c4 .unfold-elements .ensures .bytes)
+
+unfold-item-returns-6 : (t : ℕ) → unfold-item-lts.Need-returns-6 (unfold-item-calls t) (unfold-item-at t) unfold-item.Post
+unfold-item-returns-6 t c =
+    let c4 = c .before .before .before .before in
+    c4 .unfold-elements .ensures
+
+pub +unfold-elements+unfold-fields+unfold-item-spec : {M : Type 1} → statement M
++unfold-elements+unfold-fields+unfold-item-spec = close μ-unfold-elements μ-unfold-fields μ-unfold-item (λ t. unfold-elements-lts.spec (unfold-elements-calls t)
+    (unfold-elements-at t)
+    unfold-elements.Post
+    (unfold-elements-many-in-requires t)
+    (unfold-elements-put-count-requires t)
+    (unfold-elements-look-in-requires t)
+    (unfold-elements-copy-into-requires t)
+    (unfold-elements-same-length t)
+    (unfold-elements-same-length-2 t)
+    (unfold-elements-returns t)
+    (unfold-elements-add-first t)
+    (unfold-elements-unfold-fields-requires t)
+    (unfold-elements-same-length-3 t)
+    (unfold-elements-same-length-4 t)
+    (unfold-elements-returns-2 t))
+    (λ t. unfold-fields-lts.spec (unfold-fields-calls t)
     (unfold-fields-at t)
     unfold-fields.Post
     unfold-fields-Inv-loop
@@ -575,6 +748,7 @@ pub +unfold-fields+unfold-item-spec : {M : Type 1} → statement M
     (unfold-item-unfold-item-requires t)
     (unfold-item-enum-told-2 t)
     (unfold-item-unfold-leaf-requires t)
+    (unfold-item-unfold-elements-requires t)
     (unfold-item-same-length t)
     (unfold-item-same-length-2 t)
     (unfold-item-returns t)
@@ -587,3 +761,6 @@ pub +unfold-fields+unfold-item-spec : {M : Type 1} → statement M
     (unfold-item-same-length-6 t)
     (unfold-item-same-length-7 t)
     (unfold-item-returns-5 t)
+    (unfold-item-same-length-8 t)
+    (unfold-item-same-length-9 t)
+    (unfold-item-returns-6 t)
