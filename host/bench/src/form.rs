@@ -28,8 +28,8 @@ pub fn of(table: &[u8], message: &[u8]) -> Form {
     for record in records {
         let body = record.bytes(message);
         match layout.kind(record.type_handle()).expect("a type of the table") {
-            Kind::Container(_) => {}
-            Kind::Union(_) => form.words += 1,
+            Kind::Container(_) | Kind::Vector(..) => {}
+            Kind::Union(_) | Kind::List(..) => form.words += 1,
             Kind::FreeBytes(_) => {
                 form.words += 1;
                 form.bodies.extend(body);

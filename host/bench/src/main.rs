@@ -78,10 +78,10 @@ fn run(arguments: &[&str]) -> Result<(), String> {
         ["count", name, side, times] => messages::count(name, side, number(times)?)?,
         ["count-bits", name, times] => bit_case(name)?.count(number(times)?),
         ["plan", name, "unfold", times, file] => {
-            write(file, messages::find(name)?.plan(73).file(number(times)?))?;
+            write(file, messages::find(name)?.planned(73)?.file(number(times)?))?;
         }
         ["plan", name, "write", times, file] => {
-            write(file, messages::find(name)?.plan(74).file(number(times)?))?;
+            write(file, messages::find(name)?.planned(74)?.file(number(times)?))?;
         }
         ["plan-bits", name, times, file] => {
             write(file, bit_case(name)?.plan().file(number(times)?))?;

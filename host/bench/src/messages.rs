@@ -90,6 +90,11 @@ impl Case {
         start.elapsed()
     }
 
+    /// Whether our program has room for the message and what comes of it.
+    pub fn fits(&self) -> bool {
+        self.message.len() <= 1 << 20
+    }
+
     /// What our program does with the message: 71 to 74 of docs/CASES.md.
     pub fn plan(&self, operation: u32) -> Plan {
         let form = form::of(&self.table, &self.message);
@@ -102,6 +107,15 @@ impl Case {
             _ => Adds { number: self.message.len() as u64, bytes: self.message.clone() },
         };
         Plan { operation, parts: vec![self.table.clone(), self.message.clone()], adds }
+    }
+
+    /// The plan, if our program has room for it.
+    pub fn planned(&self, operation: u32) -> Result<Plan, String> {
+        if self.fits() {
+            Ok(self.plan(operation))
+        } else {
+            Err(format!("{} is too long for measure", self.name))
+        }
     }
 
     /// The bytes of the listing.
@@ -121,7 +135,7 @@ impl Case {
         let write = |rounds| writing.timed(rounds);
         let mut calls: Vec<measure::Timed> = Vec::new();
         sides.iter().for_each(|side| calls.push(side));
-        if ours::is_built() {
+        if ours::is_built() && self.fits() {
             calls.push(&unfold);
             calls.push(&write);
         }
@@ -236,6 +250,25 @@ fn free_bytes(length: usize) -> Case {
     Case::new("1 MiB of free bytes", scattered(length, 2), |layout| layout.free_bytes(1 << 24))
 }
 
+/// A block's transactions: 200 of 150 bytes each.
+fn transactions() -> Case {
+    let value: Vec<Vec<u8>> = (0..200).map(|seed| scattered(150, seed)).collect();
+    Case::new("200 transactions", value, |layout| {
+        let transaction = layout.free_bytes(1 << 30);
+        layout.list(transaction, 1 << 20)
+    })
+}
+
+/// A million numbers under a limit, which is to make no difference.
+fn numbers(name: &str, limit: u32) -> Case {
+    let number = |bytes: &[u8]| u64::from_le_bytes(bytes.try_into().expect("eight bytes"));
+    let value: Vec<u64> = scattered(8_000_000, 11).chunks(8).map(number).collect();
+    Case::new(name, value, |layout| {
+        let number = layout.number(8);
+        layout.list(number, limit)
+    })
+}
+
 pub fn cases() -> Vec<Case> {
     let mut cases = tiny();
     cases.extend([
@@ -243,6 +276,9 @@ pub fn cases() -> Vec<Case> {
         order(),
         bid("a bid, note of 64 KiB", 1 << 16),
         free_bytes(1 << 20),
+        transactions(),
+        numbers("numbers to 1,000,000", 1_000_000),
+        numbers("numbers to 2^32 - 1", u32::MAX),
     ]);
     cases
 }
@@ -254,7 +290,7 @@ pub fn print() {
     );
     println!("check, listing and unfolding beside its decoding, the writer beside its encoding");
     println!(
-        "{:24}{:>9}{:>6}{:>11}{:>11}{:>9}{:>9}{:>9}{:>9}{:>10}{:>10}{:>8}{:>8}",
+        "{:24}{:>9}{:>9}{:>11}{:>11}{:>9}{:>10}{:>9}{:>9}{:>10}{:>10}{:>8}{:>8}",
         "message",
         "bytes",
         "items",
@@ -282,7 +318,7 @@ fn line(name: &str, bytes: usize, items: usize, figures: &Figures) -> String {
     };
     let Figures { decode, encode, check, listing, unfold, write } = *figures;
     format!(
-        "{name:24}{bytes:>9}{items:>6}{decode:>11.0}{encode:>11.0}{check:>9.0}{listing:>9.0}\
+        "{name:24}{bytes:>9}{items:>9}{decode:>11.0}{encode:>11.0}{check:>9.0}{listing:>10.0}\
          {:>9}{:>9}{:>10}{:>10}{:>8}{:>8}",
         figure(unfold),
         figure(write),
@@ -333,7 +369,7 @@ mod tests {
     #[test]
     fn our_program_makes_what_is_expected() {
         assert!(ours::is_built(), "rt check measure comes first");
-        for case in cases() {
+        for case in cases().iter().filter(|case| case.fits()) {
             (71..=74).for_each(|operation| {
                 case.plan(operation).timed(300);
             });
@@ -373,6 +409,8 @@ mod tests {
         let order = order();
         assert!((1_150..=1_250).contains(&order.message.len()), "{}", order.message.len());
         assert_eq!(free_bytes(1 << 20).message.len(), 1 << 20);
+        assert_eq!(transactions().message.len(), 200 * (4 + 150));
+        assert_eq!(numbers("numbers", u32::MAX).message.len(), 8_000_000);
     }
 
     #[test]

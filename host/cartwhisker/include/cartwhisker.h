@@ -3,8 +3,9 @@
  *
  * Link with libcartwhisker.a (`rt staticlib cartwhisker`); of the C library it takes memcpy and memset,
  * and it needs no start-up.
- * Both calls are proved to answer document 01's rules for every input. They keep nothing between
- * calls, allocate nothing and may be called from any number of threads at a time.
+ * Both calls are proved to answer document 01's rules, with document 02's lists and vectors, for
+ * every input. They keep nothing between calls, allocate nothing and may be called from any number
+ * of threads at a time.
  *
  * What the caller owes, as for any C function on memory:
  *   - each pointer is valid for its length; it is not null, even where the length is 0 (any

@@ -2,8 +2,8 @@
 
 use crate::{check_layout, Refusal};
 
-/// A type of a [`Layout`]: what the builder's methods give, and what containers and unions are made
-/// of. It is a number and nothing more: a handle of another layout names whatever type has that
+/// A type of a [`Layout`]: what the builder's methods give, and what containers, unions, lists and
+/// vectors are made of. It is a number and nothing more: a handle of another layout names whatever type has that
 /// number here, or makes a table that is refused.
 #[derive(Clone, Copy, Debug, PartialEq, Eq, PartialOrd, Ord, Hash)]
 pub struct Type(u32);
@@ -38,6 +38,10 @@ pub enum Kind {
     Container(Vec<Type>),
     /// Its options, 1 to 128, by selector. `None` is an option without body.
     Union(Vec<Option<Type>>),
+    /// Elements of this type, at most so many.
+    List(Type, u32),
+    /// Elements of this type, exactly so many, at least 1.
+    Vector(Type, u32),
 }
 
 /// The option word of an option without body.
@@ -125,6 +129,40 @@ impl Layout {
         self.add(Kind::Union(options.into_iter().collect()))
     }
 
+    /// At most `limit` elements.
+    ///
+    /// ```
+    /// use cartwhisker::{check, Layout};
+    ///
+    /// let mut layout = Layout::new();
+    /// let transaction = layout.free_bytes(1000);
+    /// layout.list(transaction, 2);
+    /// assert_eq!(layout.words(), [2, 3, 5, 3, 1000, 8, 0, 2]);
+    /// assert!(check(&layout.bytes(), &[]).is_ok());
+    /// assert!(check(&layout.bytes(), &[8, 0, 0, 0, 10, 0, 0, 0, 0xaa, 0xbb, 0xcc]).is_ok());
+    /// assert_eq!(check(&layout.bytes(), &[12, 0, 0, 0].repeat(3)).unwrap_err().number, 14);
+    /// ```
+    pub fn list(&mut self, element: Type, limit: u32) -> Type {
+        self.add(Kind::List(element, limit))
+    }
+
+    /// Exactly `count` elements. A vector is fixed if its element is.
+    ///
+    /// ```
+    /// use cartwhisker::{check, Layout};
+    ///
+    /// let mut layout = Layout::new();
+    /// let price = layout.number(2);
+    /// let prices = layout.vector(price, 3);
+    /// assert_eq!(layout.fixed_length(prices), Some(6));
+    /// assert!(check(&layout.bytes(), &[1, 0, 2, 0, 3, 0]).is_ok());
+    /// layout.vector(price, 0);
+    /// assert_eq!(layout.check().unwrap_err().number, 20);
+    /// ```
+    pub fn vector(&mut self, element: Type, count: u32) -> Type {
+        self.add(Kind::Vector(element, count))
+    }
+
     /// Adds a type of this kind.
     pub fn add(&mut self, kind: Kind) -> Type {
         self.lengths.push(self.length_of(&kind));
@@ -138,12 +176,15 @@ impl Layout {
             Kind::Boolean => Some(1),
             Kind::FixedBytes(length) => Some(u64::from(*length)),
             Kind::BitVector(bits) => Some(u64::from(*bits).div_ceil(8).max(1)),
-            // 64 lengths of 64 nested containers are more than a word holds; such a table is
+            // Nested containers and vectors can be longer than a word holds; such a table is
             // refused, so it does not matter which large number stands here.
+            Kind::Vector(element, count) => {
+                Some(self.fixed_length(*element)?.saturating_mul(u64::from(*count)))
+            }
             Kind::Container(fields) => fields
                 .iter()
                 .try_fold(0_u64, |sum, field| Some(sum.saturating_add(self.fixed_length(*field)?))),
-            Kind::FreeBytes(_) | Kind::BitList(_) | Kind::Union(_) => None,
+            Kind::FreeBytes(_) | Kind::BitList(_) | Kind::Union(_) | Kind::List(..) => None,
         }
     }
 
@@ -161,9 +202,34 @@ impl Layout {
         self.lengths.get(of.0 as usize).copied().flatten()
     }
 
-    /// What the type takes in a container's fixed portion: its length, or an offset's.
+    /// What the type takes in a container's fixed portion, and each element in a list's or vector's:
+    /// its length, or an offset's.
     pub fn head(&self, of: Type) -> u64 {
         self.fixed_length(of).unwrap_or(OFFSET)
+    }
+
+    /// How many elements an accepted item has, if its type is a list or vector: a vector has as many
+    /// as the table says, and a list shows by its length or by its first offset.
+    ///
+    /// ```
+    /// use cartwhisker::Layout;
+    ///
+    /// let mut layout = Layout::new();
+    /// let transaction = layout.free_bytes(1000);
+    /// let list = layout.list(transaction, 2);
+    /// assert_eq!(layout.element_count(list, &[8, 0, 0, 0, 10, 0, 0, 0, 0xaa, 0xbb]), Some(2));
+    /// assert_eq!(layout.element_count(list, &[]), Some(0));
+    /// assert_eq!(layout.element_count(transaction, &[]), None);
+    /// ```
+    pub fn element_count(&self, of: Type, item: &[u8]) -> Option<usize> {
+        match self.kind(of)? {
+            Kind::Vector(_, count) => Some(*count as usize),
+            Kind::List(element, _) => Some(match self.fixed_length(*element) {
+                Some(length) => (item.len() as u64).checked_div(length).unwrap_or(0) as usize,
+                None => crate::words(item).next().unwrap_or(0) as usize / OFFSET as usize,
+            }),
+            _ => None,
+        }
     }
 
     /// The type of the message, if there is one.
@@ -217,7 +283,7 @@ impl Layout {
         // The table is legal: each body is there, whole, and its words mean what is read here.
         for start in &words[1..=words[0] as usize] {
             let body = &words[*start as usize..];
-            let list = |body: &[u32]| body[2..2 + body[1] as usize].to_vec();
+            let named = |body: &[u32]| body[2..2 + body[1] as usize].to_vec();
             layout.add(match body[0] {
                 0 => Kind::Number(body[1]),
                 1 => Kind::Boolean,
@@ -225,8 +291,10 @@ impl Layout {
                 3 => Kind::FreeBytes(body[1]),
                 4 => Kind::BitVector(body[1]),
                 5 => Kind::BitList(body[1]),
-                6 => Kind::Container(list(body).into_iter().map(Type).collect()),
-                _ => Kind::Union(list(body).into_iter().map(option).collect()),
+                6 => Kind::Container(named(body).into_iter().map(Type).collect()),
+                7 => Kind::Union(named(body).into_iter().map(option).collect()),
+                8 => Kind::List(Type(body[1]), body[2]),
+                _ => Kind::Vector(Type(body[1]), body[2]),
             });
         }
         Ok(layout)
@@ -255,5 +323,7 @@ fn body(kind: &Kind) -> Vec<u32> {
             words.extend(options.iter().map(|option| option.map_or(NO_BODY, |body| body.0)));
             words
         }
+        Kind::List(element, limit) => vec![8, element.0, *limit],
+        Kind::Vector(element, count) => vec![9, element.0, *count],
     }
 }

@@ -51,14 +51,14 @@
 //! assert_eq!(
 //!     refusal.to_string(),
 //!     "refusal 2 (InvalidLengthPrefix) in the item of type 3 at byte 0: 2 bytes are left where \
-//!      an offset takes 4; write the offset of every variable field whole"
+//!      an offset takes 4; write the offset of every variable field or element whole"
 //! );
 //! ```
 //!
 //! # What it costs
 //!
 //! The check reads offsets, selectors, booleans and bits; numbers, fixed and free bytes are stepped
-//! over. It allocates nothing. An accepted message is one C call; a refused one is asked for its
+//! over, and a list or vector of numbers or fixed bytes at once. It allocates nothing. An accepted message is one C call; a refused one is asked for its
 //! four further numbers.
 
 #![deny(unsafe_code)]
@@ -147,9 +147,13 @@ pub fn check_layout(layout: &[u8]) -> Result<(), Refusal> {
 const UNWRITTEN: [u8; 4] = [0xff; 4];
 
 /// The message's items in preorder: the whole message first, a container's fields behind it in
-/// their order, a union's body behind the union.
+/// their order, a union's body behind the union, the elements of a list or vector behind it.
+///
+/// A byte of a list can be an item within as many as 63 others, so that the records can take several
+/// hundred times the message's length: [`record_count`] says how many there are, and allocates none.
 pub fn listing(layout: &[u8], message: &[u8]) -> Result<Vec<Record>, Refusal> {
-    // Mostly there are no more items than words in the table, so a small table gets a small buffer.
+    // Mostly there are no more items than words in the table, so a small table gets a small buffer;
+    // long lists are counted first.
     if layout.len() <= 64 {
         listing_by_guess::<{ 16 * RECORD_BYTES }>(layout, message)
     } else {

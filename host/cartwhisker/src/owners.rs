@@ -11,10 +11,12 @@ pub enum Step {
     Field(u32),
     /// Into the body of a union, which has this selector.
     Option(u8),
+    /// Into this element of a list or vector.
+    Element(u32),
 }
 
-/// The way from the message to an item: `message.1#2.0` is field 0 of the body with selector 2 of
-/// field 1.
+/// The way from the message to an item: `message.1#2.0[7]` is element 7 of field 0 of the body with
+/// selector 2 of field 1.
 #[derive(Clone, Debug, Default, PartialEq, Eq, Hash)]
 pub struct Path(pub Vec<Step>);
 
@@ -33,6 +35,7 @@ impl fmt::Display for Path {
             match step {
                 Step::Field(number) => write!(out, ".{number}")?,
                 Step::Option(selector) => write!(out, "#{selector}")?,
+                Step::Element(number) => write!(out, "[{number}]")?,
             }
         }
         Ok(())
@@ -42,11 +45,12 @@ impl fmt::Display for Path {
 /// What a run of bytes is.
 #[derive(Clone, Copy, Debug, PartialEq, Eq, Hash)]
 pub enum Part {
-    /// The offset of the variable field at the path.
+    /// The offset of the variable field or element at the path.
     Offset,
     /// The selector of the union at the path.
     Selector,
-    /// The item at the path, which is no container and no union.
+    /// The item at the path, which has no items inside: no container, no union, and a list only if
+    /// it is empty.
     Leaf,
 }
 
@@ -95,7 +99,14 @@ impl Walk<'_> {
         let of = record.type_handle();
         let owner = |end, part| Owner { start: record.start, end, part, of, path: path.clone() };
         match self.layout.kind(of) {
-            Some(Kind::Container(fields)) => self.fields(record, fields, path),
+            Some(Kind::Container(fields)) => self.parts(record, fields, path, Step::Field),
+            Some(Kind::List(element, _) | Kind::Vector(element, _))
+                if record.start < record.end =>
+            {
+                let count = self.layout.element_count(of, record.bytes(self.message));
+                let elements = vec![*element; count.expect("a list or vector")];
+                self.parts(record, &elements, path, Step::Element)
+            }
             Some(Kind::Union(options)) => {
                 let selector = self.message[record.start as usize];
                 let mut found = vec![owner(record.start + 1, Part::Selector)];
@@ -108,14 +119,21 @@ impl Walk<'_> {
         }
     }
 
-    /// Fixed fields and offsets come first, then the variable fields, both in their order.
-    fn fields(&mut self, container: Record, fields: &[Type], path: &Path) -> Vec<Owner> {
+    /// A container's fields or the elements of a list or vector: fixed ones and offsets come first,
+    /// then the variable ones, both in their order.
+    fn parts(
+        &mut self,
+        whole: Record,
+        types: &[Type],
+        path: &Path,
+        step: fn(u32) -> Step,
+    ) -> Vec<Owner> {
         let mut fixed = Vec::new();
         let mut variable = Vec::new();
-        let mut start = container.start;
-        for (number, of) in fields.iter().enumerate() {
+        let mut start = whole.start;
+        for (number, of) in types.iter().enumerate() {
             let end = start + self.layout.head(*of) as u32;
-            let path = path.with(Step::Field(number as u32));
+            let path = path.with(step(number as u32));
             let inside = self.item(&path);
             if self.layout.fixed_length(*of).is_some() {
                 fixed.extend(inside);

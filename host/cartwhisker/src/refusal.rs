@@ -33,7 +33,7 @@ pub struct Refusal {
 impl std::error::Error for Refusal {}
 
 impl Refusal {
-    /// The refusal's name, which for 1 to 12 is the one that the Rust crate gives it.
+    /// The refusal's name, which for 1 to 12 and 15 is the one that the Rust crate gives it.
     pub fn name(&self) -> &'static str {
         match self.number {
             1 => "InvalidByteLength",
@@ -50,6 +50,7 @@ impl Refusal {
             12 => "InvalidByteCount",
             13 => "bad boolean",
             14 => "over limit",
+            15 => "InvalidListFixedBytesLen",
             20 => "bad layout",
             21 => "2^32 or more",
             22 => "no room",
@@ -69,13 +70,16 @@ impl Refusal {
                 format!("{} where none may be", counted(a, "byte follows", "bytes follow"))
             }
             1 if a < b => format!("{} where {b} are needed", counted(a, "byte", "bytes")),
-            1 => format!("{} where only {b} may be", counted(a, "byte", "bytes")),
+            1 if self.list_rest() == 0 => {
+                format!("{} where only {b} may be", counted(a, "byte", "bytes"))
+            }
+            1 => format!("{a} bytes where only {b} may be, or in a list a multiple of {b}"),
             2 => format!(
                 "{} where an offset takes {b}",
                 counted(a, "byte is left", "bytes are left")
             ),
             3 => "no bytes where a union has its selector".to_string(),
-            4 => format!("the first offset, {a}, points into the fixed portion"),
+            4 => format!("offset {a} points into the fixed portion"),
             5 => format!("the first offset, {a}, skips bytes behind the fixed portion"),
             6 => format!("offset {a} is below the offset before it"),
             7 => format!("offset {a} points behind the item's last byte"),
@@ -86,7 +90,9 @@ impl Refusal {
             11 => "a bit is set behind the last one, or a bit list has no bytes at all".to_string(),
             12 => format!("bits in {} where {b} hold them", counted(a, "byte", "bytes")),
             13 => format!("a boolean's byte is {a}"),
-            14 => format!("length {a} is above the limit {b}"),
+            14 => format!("the length or count, {a}, is above the limit {b}"),
+            15 if a == 0 => "a list's first offset is 0".to_string(),
+            15 => format!("a list's first offset, {a}, is no multiple of 4"),
             20 => format!("word {a} of the layout breaks the rules of a table, or is missing"),
             21 => "the length is 2^32 or more, and offsets have 32 bits".to_string(),
             22 => format!("{a} are needed where there is room for {b}"),
@@ -103,11 +109,21 @@ impl Refusal {
         let (a, b) = (self.a, self.b);
         match self.number {
             1 if a < b => format!("add the {}", counted(b - a, "missing byte", "missing bytes")),
-            1 => format!("remove the last {}", counted(a - b, "byte", "bytes")),
-            2 => "write the offset of every variable field whole".to_string(),
+            1 if [0, a - b].contains(&self.list_rest()) => {
+                format!("remove the last {}", counted(a - b, "byte", "bytes"))
+            }
+            1 => format!(
+                "remove the last {} bytes, or in a list the last {}",
+                a - b,
+                self.list_rest()
+            ),
+            2 => "write the offset of every variable field or element whole".to_string(),
             3 => "write the selector byte of one of its options".to_string(),
-            4 | 5 => "set it to the length of the fixed portion".to_string(),
-            6 => "write the variable fields in their order, so that offsets never fall".to_string(),
+            4 => "let the first offset be the length of the fixed portion, and none be below it"
+                .to_string(),
+            5 => "set it to the length of the fixed portion".to_string(),
+            6 => "write variable fields or elements in their order, so that offsets never fall"
+                .to_string(),
             7 => "let every offset be at most the item's length".to_string(),
             8 => "write the selector of an option that the layout has".to_string(),
             9 => format!("keep to {}, or raise the limit in the layout", counted(b, "bit", "bits")),
@@ -117,6 +133,8 @@ impl Refusal {
             12 => format!("write exactly {}", counted(b, "byte", "bytes")),
             13 => "write 0 or 1".to_string(),
             14 => format!("shorten it to at most {b}, or raise the limit in the layout"),
+            15 => "set it to 4 times the number of elements, and send no bytes for an empty list"
+                .to_string(),
             20 => "correct the table at that word".to_string(),
             21 => "split it into shorter messages".to_string(),
             22 => format!("lend a buffer with room for {a}"),
@@ -130,7 +148,13 @@ impl Refusal {
 
     /// Whether the refusal is about an item of the message, so that its type and start say where.
     pub fn has_place(&self) -> bool {
-        matches!(self.number, 1..=14)
+        matches!(self.number, 1..=15)
+    }
+
+    /// Of a length that is too long by refusal 1, the bytes behind the last whole element if the
+    /// item is a list; 0 if it can be none.
+    fn list_rest(&self) -> u64 {
+        self.a.checked_rem(self.b).unwrap_or(0)
     }
 }
 
@@ -160,8 +184,8 @@ impl fmt::Display for Refusal {
 mod tests {
     use super::*;
 
-    const NUMBERS: [u32; 21] =
-        [1, 2, 3, 4, 5, 6, 7, 8, 9, 10, 11, 12, 13, 14, 20, 21, 22, 23, 24, 25, 26];
+    const NUMBERS: [u32; 22] =
+        [1, 2, 3, 4, 5, 6, 7, 8, 9, 10, 11, 12, 13, 14, 15, 20, 21, 22, 23, 24, 25, 26];
 
     fn refusal(number: u32, a: u64, b: u64) -> Refusal {
         Refusal { number, a, b, type_number: 5, start: 77 }
@@ -201,6 +225,27 @@ mod tests {
         assert_eq!(refusal(1, 10, 12).mend(), "add the 2 missing bytes");
         assert_eq!(refusal(1, 13, 12).mend(), "remove the last 1 byte");
         assert_eq!(refusal(1, 2, 0).fault(), "2 bytes follow where none may be");
+        assert_eq!(refusal(1, 2, 0).mend(), "remove the last 2 bytes");
+    }
+
+    /// The numbers alone do not say whether the item is a list: where it may be one, both are told.
+    #[test]
+    fn a_list_keeps_its_whole_elements() {
+        assert_eq!(refusal(1, 24, 8).fault(), "24 bytes where only 8 may be");
+        assert_eq!(refusal(1, 24, 8).mend(), "remove the last 16 bytes");
+        let cut = refusal(1, 29, 8);
+        assert_eq!(cut.fault(), "29 bytes where only 8 may be, or in a list a multiple of 8");
+        assert_eq!(cut.mend(), "remove the last 21 bytes, or in a list the last 5");
+        // Here both are the same bytes.
+        assert_eq!(refusal(1, 13, 8).mend(), "remove the last 5 bytes");
+        assert_eq!(refusal(1, 5, 8).fault(), "5 bytes where 8 are needed");
+    }
+
+    #[test]
+    fn a_list_s_first_offset() {
+        assert_eq!(refusal(15, 0, 0).fault(), "a list's first offset is 0");
+        assert_eq!(refusal(15, 6, 0).fault(), "a list's first offset, 6, is no multiple of 4");
+        assert_eq!(refusal(15, 6, 0).name(), "InvalidListFixedBytesLen");
     }
 
     #[test]

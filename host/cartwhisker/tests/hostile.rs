@@ -7,7 +7,8 @@
 mod making;
 
 use cartwhisker::{
-    check, check_layout, list_into, listing, Layout, Record, Refusal, Type, RECORD_BYTES,
+    check, check_layout, list_into, listing, record_count, Layout, Record, Refusal, Type,
+    RECORD_BYTES,
 };
 use making::{containers, legal, one, unions, zeros, FIELDS, GREATEST, OPTIONS, TYPES};
 use std::hint::black_box;
@@ -251,6 +252,124 @@ fn the_deepest_nesting_is_listed() {
     assert_eq!(told(&choices, &[0; 64]), refused(1, 1, 2, 0, 63));
 }
 
+/// Types up to `types` in all, each a list or vector with this number of the type below.
+fn rows(
+    mut layout: Layout,
+    types: usize,
+    add: fn(&mut Layout, Type, u32) -> Type,
+    number: u32,
+) -> Layout {
+    while layout.kinds().len() < types {
+        let below = layout.message().expect("a type to start from");
+        add(&mut layout, below, number);
+    }
+    layout
+}
+
+#[test]
+fn the_deepest_nesting_of_lists_and_vectors() {
+    let fixed = rows(one(|layout| layout.number(1)), TYPES, Layout::vector, 1).bytes();
+    assert_eq!(told(&fixed, &[7]), Ok(nest(1, |_| 0)));
+    assert_eq!(told(&fixed, &[]), refused(1, 0, 1, 63, 0));
+    let mut message = [4, 0, 0, 0].repeat(63);
+    message.push(0x0d);
+    for add in [Layout::list, Layout::vector] {
+        let table = rows(one(|layout| layout.bit_list(8)), TYPES, add, 1).bytes();
+        assert_eq!(told(&table, &message), Ok(nest(253, |depth| 4 * depth)));
+        let mut marked = message.clone();
+        marked[252] = 0;
+        assert_eq!(told(&table, &marked), refused(10, 0, 0, 0, 252));
+    }
+    // Only a list may be empty: 63 lists around nothing, 62 around one, and so on.
+    let table = rows(one(|layout| layout.bit_list(8)), TYPES, Layout::list, 1).bytes();
+    for depth in 0..63 {
+        let records = told(&table, &message[..4 * depth]).unwrap();
+        assert_eq!(records.len(), depth + 1);
+        let last = 4 * depth as u32;
+        assert_eq!(records[depth], Record { type_number: 63 - last / 4, start: last, end: last });
+    }
+    assert_eq!(told(&table, &message[..252]), refused(11, 0, 0, 0, 252));
+}
+
+#[test]
+fn vectors_that_double_with_each_type() {
+    let layout = rows(one(|layout| layout.number(1)), TYPES, Layout::vector, 2);
+    // Type k has 2^k bytes: type 32 is too long.
+    let word = 65 + 2 + 3 * 31;
+    assert_eq!(u64::from(layout.words()[1 + 32]), word);
+    assert_eq!(told(&layout.bytes(), &[]), refused(20, word, 0, 0, 0));
+    let fits = layout.up_to(Type::from_number(31)).bytes();
+    assert_eq!(told(&fits, &[0; 256]), refused(1, 256, 1 << 31, 31, 0));
+    let small = layout.up_to(Type::from_number(12)).bytes();
+    assert_eq!(told(&small, &[7; 1 << 12]).unwrap().len(), (1 << 13) - 1);
+    // Of variable elements each vector takes 8 bytes of offsets, whatever is below.
+    let table = rows(one(|layout| layout.free_bytes(9)), TYPES, Layout::vector, 2).bytes();
+    assert_eq!(told(&table, &[]), refused(2, 0, 4, 63, 0));
+    assert_eq!(told(&table, &[8, 0, 0, 0, 8, 0, 0, 0]), refused(2, 0, 4, 62, 8));
+}
+
+#[test]
+fn the_greatest_counts_of_elements() {
+    let notes = |count| rows(one(|layout| layout.free_bytes(9)), 2, Layout::vector, count).bytes();
+    let most = (1 << 30) - 1;
+    assert_eq!(told(&notes(most + 1), &[]), refused(20, 5, 0, 0, 0));
+    assert_eq!(told(&notes(most), &[]), refused(2, 0, 4, 1, 0));
+    assert_eq!(told(&notes(most), &[0; 1 << 16]), refused(2, 0, 4, 1, 0));
+    assert_eq!(told(&notes(most), &[255; 1 << 16]), refused(7, u64::from(GREATEST), 0, 1, 0));
+    let bytes = one(|layout| layout.number(1));
+    let vector = rows(bytes.clone(), 2, Layout::vector, GREATEST).bytes();
+    assert_eq!(told(&vector, &[0; 9]), refused(1, 9, u64::from(GREATEST), 1, 0));
+    // As many numbers as the machine has bytes: they are counted, and not looked at one by one.
+    let message = most_zeros(GREATEST as usize);
+    let list = rows(bytes, 2, Layout::list, GREATEST).bytes();
+    assert!(shortest(5, || assert_eq!(check(&list, &message), Ok(()))) < AT_ONCE);
+    assert_eq!(record_count(&list, &message), Ok(1 + message.len()));
+    // Where the first offset says more elements than the limit, the others are not looked at.
+    let first = 1_u32 << 30;
+    if message.len() > first as usize {
+        let mut offsets = message;
+        offsets[..4].copy_from_slice(&first.to_le_bytes());
+        let table = rows(one(|layout| layout.free_bytes(9)), 2, Layout::list, 10).bytes();
+        let many = u64::from(first / 4);
+        assert!(shortest(5, || ask(&table, &offsets)) < AT_ONCE);
+        assert_eq!(check(&table, &offsets), refused(14, many, 10, 1, 0));
+    }
+}
+
+/// A byte of the message is an item within 63 others.
+#[test]
+fn a_list_of_bytes_within_62_containers_each() {
+    let each = containers(one(|layout| layout.number(1)), TYPES - 1, 1);
+    let table = rows(each, TYPES, Layout::list, 1000).bytes();
+    let records = told(&table, &[7; 1000]).unwrap();
+    assert_eq!(records.len(), 1 + 1000 * 63);
+    assert_eq!(records[0], Record { type_number: 63, start: 0, end: 1000 });
+    assert_eq!(records[64], Record { type_number: 62, start: 1, end: 2 });
+    assert_eq!(records[63_000], Record { type_number: 0, start: 999, end: 1000 });
+    assert_eq!(told(&table, &[7; 1001]), refused(14, 1001, 1000, 63, 0));
+}
+
+/// So many offsets, all to the end, where there is nothing.
+fn empty_elements(count: usize) -> Vec<u8> {
+    (4 * count as u32).to_le_bytes().repeat(count)
+}
+
+#[test]
+fn a_hundred_thousand_empty_elements() {
+    const COUNT: usize = 100_000;
+    let message = empty_elements(COUNT);
+    let end = message.len() as u32;
+    for add in [Layout::list, Layout::vector] {
+        let table = rows(one(|layout| layout.free_bytes(0)), 2, add, COUNT as u32).bytes();
+        let records = told(&table, &message).unwrap();
+        assert_eq!(records.len(), 1 + COUNT);
+        assert!(records[1..].iter().all(|record| (record.start, record.end) == (end, end)));
+        // A bit list has at least a byte, so that the first one is refused.
+        let bits = rows(one(|layout| layout.bit_list(8)), 2, add, COUNT as u32).bytes();
+        assert_eq!(told(&bits, &message), refused(11, 0, 0, 0, u64::from(end)));
+    }
+}
+
 /// How many times as long the second call takes, by the shortest of many times.
 fn growth(mut small: impl FnMut(), mut large: impl FnMut()) -> f64 {
     let repeated = |call: &mut dyn FnMut()| shortest(60, || (0..10).for_each(|_| call()));
@@ -268,6 +387,8 @@ fn time_is_linear_in_the_table() {
         ("containers", of(&legal)),
         ("one number", of(&|types| containers(one(|layout| layout.number(1)), types, 1))),
         ("unions", of(&|types| unions(one(|layout| layout.boolean()), types, OPTIONS))),
+        ("lists", of(&|types| rows(one(|layout| layout.boolean()), types, Layout::list, 9))),
+        ("vectors", of(&|types| rows(one(|layout| layout.boolean()), types, Layout::vector, 1))),
     ];
     for (name, (small, large)) in tables {
         let times = growth(|| ask(&small, &[]), || ask(&large, &[]));
@@ -275,8 +396,11 @@ fn time_is_linear_in_the_table() {
     }
 }
 
+/// A table and a message.
+type Bid = (Vec<u8>, Vec<u8>);
+
 /// `each` fields in a container, in `levels` levels: `each` to that power booleans.
-fn booleans(each: usize, levels: usize) -> (Vec<u8>, Vec<u8>) {
+fn booleans(each: usize, levels: usize) -> Bid {
     let layout = containers(one(|layout| layout.boolean()), 1 + levels, each);
     (layout.bytes(), vec![1; each.pow(levels as u32)])
 }
@@ -292,6 +416,21 @@ fn time_is_linear_in_the_message() {
     let list = |table: &[u8], message: &[u8]| drop(black_box(listing(table, message)));
     let times = growth(|| list(&small_table, &small), || list(&large_table, &large));
     assert!(times < EIGHT_TIMES, "listing: {times} times as long on 8 times the booleans");
+    // Elements with a rule of their own, fixed and variable.
+    for add in [Layout::list, Layout::vector] {
+        let of = |leaf: Layout, count: usize| rows(leaf, 2, add, count as u32).bytes();
+        let yes = |count| (of(one(|layout| layout.boolean()), count), vec![1; count]);
+        let empty = |count| (of(one(|layout| layout.free_bytes(9)), count), empty_elements(count));
+        let made: [&dyn Fn(usize) -> Bid; 2] = [&yes, &empty];
+        for make in made {
+            let ((small_table, small), (large_table, large)) = (make(500), make(4000));
+            assert_eq!(check(&large_table, &large), Ok(()));
+            let times = growth(|| ask(&small_table, &small), || ask(&large_table, &large));
+            assert!(times < EIGHT_TIMES, "check: {times} times as long on 8 times the elements");
+            let times = growth(|| list(&small_table, &small), || list(&large_table, &large));
+            assert!(times < EIGHT_TIMES, "listing: {times} times as long on 8 times the elements");
+        }
+    }
     // Zeros are no bit list: the set bit is looked for from the end, and there is none.
     let table = one(|layout| layout.bit_list(GREATEST)).bytes();
     let bytes = vec![0; 1 << 15];
@@ -307,6 +446,20 @@ fn time_does_not_grow_with_what_is_not_read() {
     let bytes = most_zeros(1 << 30);
     let times = growth(|| takes(&free, &bytes[..1]), || takes(&free, &bytes));
     assert!(times < EIGHT_TIMES, "{times} times as long on a thousand million free bytes");
+    // Nor with the elements of a list or vector of numbers or fixed bytes, nor with a limit.
+    let leaves = [one(|layout| layout.number(8)), one(|layout| layout.fixed_bytes(32))];
+    for leaf in leaves {
+        let list = |limit| rows(leaf.clone(), 2, Layout::list, limit).bytes();
+        let each = leaf.fixed_length(Type::from_number(0)).expect("a fixed leaf") as usize;
+        let (few, many) = (list(4), list(GREATEST));
+        let times = growth(|| takes(&few, &bytes[..4 * each]), || takes(&many, &bytes));
+        assert!(times < EIGHT_TIMES, "{times} times as long on a list of a thousand million bytes");
+        let count = bytes.len() / each;
+        let vector = |count: usize| rows(leaf.clone(), 2, Layout::vector, count as u32).bytes();
+        let (few, many) = (vector(4), vector(count));
+        let times = growth(|| takes(&few, &bytes[..4 * each]), || takes(&many, &bytes));
+        assert!(times < EIGHT_TIMES, "{times} times as long on a vector of that length");
+    }
     // Of a bit list that has its set bit the last byte is read, and of a bit vector too.
     let list = one(|layout| layout.bit_list(GREATEST)).bytes();
     let mut bits = most_zeros(1 << 29);

@@ -1,6 +1,5 @@
-//! The public standard's cases and document 01's, as far as a layout table has their types: lists of
-//! anything but bytes and bits are left out until the table has them. No oracle is asked: what is
-//! expected stands here, written from the standard's rules, a refusal's numbers from document 01's.
+//! The public standard's cases and document 01's. No oracle is asked: what is expected stands here,
+//! written from the standard's rules, a refusal's numbers from document 01's and document 02's.
 //!
 //! A name says where its case comes from:
 //! - `example/..`: type, value and bytes well known from the tests of the standard's Python code;
@@ -9,6 +8,7 @@
 //! - `rule/..`: neither; a neighbour of the others that the standard forbids as well;
 //! - `document/..`: document 01's worked bid and proved cases.
 
+mod elements;
 mod shapes;
 #[cfg(test)]
 mod tests;
@@ -46,6 +46,8 @@ const VECTOR: u32 = 4;
 const LIST: u32 = 5;
 const CONTAINER: u32 = 6;
 const UNION: u32 = 7;
+const LIST_OF: u32 = 8;
+const VECTOR_OF: u32 = 9;
 const NO_BODY: u32 = u32::MAX;
 
 const SINGLE: Types = &[&[NUMBER, 1], &[CONTAINER, 1, 0]];
@@ -62,6 +64,24 @@ const BITS: Types = &[
 const UNION_16: Types = &[&[NUMBER, 2], &[UNION, 1, 0]];
 const MAYBE_16: Types = &[&[NUMBER, 2], &[UNION, 2, NO_BODY, 0]];
 const EITHER: Types = &[&[NUMBER, 2], &[NUMBER, 4], &[UNION, 2, 0, 1]];
+
+const LIST_16: Types = &[&[NUMBER, 2], &[LIST_OF, 0, 32]];
+const LIST_32: Types = &[&[NUMBER, 4], &[LIST_OF, 0, 128]];
+const VAR: Types = &[&[NUMBER, 2], &[LIST_OF, 0, 1024], &[NUMBER, 1], &[CONTAINER, 3, 0, 1, 2]];
+const COMPLEX: Types = &[
+    &[NUMBER, 2],
+    &[LIST_OF, 0, 1024],
+    &[NUMBER, 1],
+    &[CONTAINER, 3, 0, 1, 2],
+    &[LIST_OF, 0, 128],
+    &[FREE, 256],
+    &[NUMBER, 8],
+    &[NUMBER, 4],
+    &[CONTAINER, 3, 2, 6, 7],
+    &[VECTOR_OF, 8, 4],
+    &[VECTOR_OF, 3, 2],
+    &[CONTAINER, 7, 0, 4, 2, 5, 3, 9, 10],
+];
 
 /// Name, type, serialization; the listing's items, contents, bodies.
 type Example = (&'static str, Types<'static>, &'static str, usize, &'static [u32], &'static str);
@@ -87,7 +107,24 @@ const EXAMPLES: &[Example] = &[
     ("union None", MAYBE_16, "00", 1, &[0], ""),
     ("union None, uint16", MAYBE_16, "01bbaa", 2, &[1], "bbaa"),
     ("union uint16, uint32", EITHER, "01efbeadde", 2, &[1], "efbeadde"),
+    ("uint16 list", LIST_16, "bbaaadc0ffee", 4, &[3], "bbaaadc0ffee"),
+    ("uint32 list", LIST_32, "bbaa0000adc00000ffee0000", 4, &[3], "bbaa0000adc00000ffee0000"),
+    ("VarTestStruct nil", VAR, "cdab07000000ff", 4, &[0], "cdabff"),
+    ("VarTestStruct some", VAR, "cdab07000000ff010002000300", 7, &[3], "cdab010002000300ff"),
+    ("complexTestStruct", COMPLEX, COMPLEX_MESSAGE, 46, &[2, 6, 3, 3, 3], COMPLEX_BODIES),
 ];
+
+/// The offsets of B, D and E, then four FixedTestStruct, then the offset of G; B, foobar, E; in G two
+/// offsets of its own and two VarTestStruct.
+const COMPLEX_MESSAGE: &str = "bbaa 47000000 ff 4b000000 51000000 \
+    cc424242424242424237133713 dd3333333333333333cdabcdab \
+    ee444444444444444433221100 ff555555555555555577665544 5e000000 \
+    22114433 666f6f626172 cdab07000000ff010002000300 \
+    08000000 15000000 adde0700000011010002000300 efbe0700000022040005000600";
+const COMPLEX_BODIES: &str = "bbaa 22114433 ff 666f6f626172 cdab 010002000300 ff \
+    cc424242424242424237133713 dd3333333333333333cdabcdab \
+    ee444444444444444433221100 ff555555555555555577665544 \
+    adde 010002000300 11 efbe 040005000600 22";
 
 /// All cases, in the order in which they are recorded.
 pub fn all() -> Vec<Asked> {
@@ -96,7 +133,8 @@ pub fn all() -> Vec<Asked> {
         let form = Form { records: *records, contents, bodies: hex(bodies) };
         accepted(format!("example/{name}"), types, hex(message), form)
     });
-    examples.chain(long_examples()).chain(shapes::all()).chain(worked::all()).collect()
+    let shapes = shapes::all().chain(elements::all());
+    examples.chain(long_examples()).chain(shapes).chain(worked::all()).collect()
 }
 
 /// 512 bits, all set.

@@ -90,14 +90,15 @@ fn written(record: &Record) -> Vec<u8> {
 }
 
 /// "Contents ... one word each: byte length of free bytes, bit length of a bit list, selector of a
-/// union. Bodies: the leaves' bytes one after another, bitfields as raw bytes."
+/// union. Bodies: the leaves' bytes one after another, bitfields as raw bytes." "A contents word for
+/// a list's count."
 fn counts(subject: &Subject, message: &[u8], records: &[Record]) -> (u64, u64) {
     let (mut words, mut bytes) = (0, 0);
     for record in records {
         let body = record.bytes(message);
         match subject.layout.kind(Type::from_number(record.type_number)) {
-            Some(Kind::Container(_)) => (),
-            Some(Kind::Union(_)) => words += 1,
+            Some(Kind::Container(_) | Kind::Vector(..)) => (),
+            Some(Kind::Union(_) | Kind::List(..)) => words += 1,
             Some(Kind::FreeBytes(_)) => {
                 words += 1;
                 bytes += body.len() as u64;
@@ -181,6 +182,8 @@ pub fn write(seed: u64, count: u64, output: &mut dyn Write) -> io::Result<u64> {
                 sample.take(subject, message);
             };
             take(&valid);
+            let above = subject.encode_above(&mut rng);
+            take(&above);
             damage::of(&subject.layout, &valid, &mut rng, &mut take);
         }
     }

@@ -1,6 +1,6 @@
 //! What is made of a valid message: each offset and each selector set to other values, bytes
-//! changed, the message cut at every length, extended, bytes put in and taken out, and bytes at
-//! random.
+//! changed, the message cut at every length, extended, two of these at a time, bytes put in and
+//! taken out, and bytes at random.
 
 use crate::rng::Rng;
 use cartwhisker::{owners, Layout, Part};
@@ -44,6 +44,14 @@ pub fn of(layout: &Layout, valid: &[u8], rng: &mut Rng, take: &mut dyn FnMut(&[u
         take(&bytes);
         bytes.copy_from_slice(valid);
     }
+    // An offset and a byte: which fault comes first?
+    for _ in 0..offsets.len().min(6) {
+        let at = rng.pick(&offsets);
+        set_word(&mut bytes, at, rng.below(valid.len() as u64 + 2) as u32);
+        bytes[rng.below(valid.len() as u64) as usize] = rng.pick(&[0, 2, 0x80, 0xff]);
+        take(&bytes);
+        bytes.copy_from_slice(valid);
+    }
     for at in places(Part::Selector) {
         for selector in [0, 1, 2, 3, 4, 9, 10, 127, 128, 255, rng.byte()] {
             bytes[at] = selector;
@@ -65,6 +73,14 @@ pub fn of(layout: &Layout, valid: &[u8], rng: &mut Rng, take: &mut dyn FnMut(&[u
     for more in 1..=9 {
         bytes.push(if more % 3 == 0 { 0 } else { rng.byte() });
         take(&bytes);
+    }
+    // A byte changed in a message of another length: which fault comes first?
+    for at in positions(valid.len(), rng).into_iter().take(4) {
+        let length = rng.between(at as u64 + 1, valid.len() as u64 + 9) as usize;
+        let (byte, longer) = (bytes[at], &mut bytes[..length]);
+        longer[at] = rng.pick(&[2, 0x80, 0xff]);
+        take(longer);
+        longer[at] = byte;
     }
     for at in positions(valid.len(), rng).into_iter().take(24) {
         let with = [&valid[..at], &[rng.byte()], &valid[at..]].concat();

@@ -8,6 +8,7 @@ mod answers;
 mod cases;
 mod damage;
 pub mod forms;
+mod long;
 mod random_tables;
 mod report;
 // The driver's own generator: one source, built here for speed.
@@ -36,11 +37,13 @@ pub struct Options {
     pub depth: usize,
     /// And of at most so many bytes, of the types that have such short messages.
     pub short: usize,
+    /// Whether lists of up to a million elements are compared.
+    pub long: bool,
 }
 
 impl Default for Options {
     fn default() -> Self {
-        Self { seed: 1, count: 1_000_000, depth: 2, short: 2 }
+        Self { seed: 1, count: 1_000_000, depth: 2, short: 2, long: true }
     }
 }
 
@@ -55,6 +58,8 @@ pub fn compared(options: Options) -> Report {
     let longest = |subject: &Subject| {
         if subject.short {
             options.short.max(options.depth)
+        } else if subject.long {
+            options.depth.min(1)
         } else {
             options.depth
         }
@@ -67,6 +72,10 @@ pub fn compared(options: Options) -> Report {
         exhaustive(subject, longest(subject), &mut report);
     }
     let mut rng = Rng::new(options.seed);
+    let long = if options.long { long::all(&mut rng) } else { Vec::new() };
+    for (subject, messages) in long {
+        messages.iter().for_each(|message| report.compare(&subject, message));
+    }
     while report.count() < before + options.count {
         for subject in &subjects {
             random(subject, &mut rng, &mut report);
@@ -98,5 +107,6 @@ fn random(subject: &Subject, rng: &mut Rng, report: &mut Report) {
     if !report.compare_valid(subject, &valid) {
         return;
     }
+    report.compare(subject, &subject.encode_above(rng));
     damage::of(&subject.layout, &valid, rng, &mut |bytes| report.compare(subject, bytes));
 }

@@ -2,15 +2,17 @@
 //!
 //! A Rust type is fixed when a program is built; the crate's builder also takes whether an item is
 //! fixed and how long it is as arguments, and its decoder takes a closure. So any table can be read
-//! by the crate's code: containers by its builder, unions by its split, leaves by its own types.
+//! by the crate's code: containers and vectors by its builder, lists by its `Vec`, unions by its
+//! split, leaves by its own types.
 
 use crate::rng::Rng;
-use crate::shapes::Shape;
+use crate::shapes::{most, offsets, random_count, whole, Shape};
 use crate::types::Subject;
 use crate::watch::{notes_of, watched_as, Tag};
 use cartwhisker::{Kind, Layout, Type};
 use ssz::{split_union_bytes, BitList, BitVector, Decode, DecodeError, Encode};
 use ssz::{SszDecoderBuilder, SszEncoder};
+use std::cell::RefCell;
 use std::sync::Arc;
 use typenum as n;
 
@@ -18,25 +20,30 @@ use typenum as n;
 pub fn subject(rng: &mut Rng) -> Subject {
     loop {
         let layout = layout(rng);
-        let last = layout.message().expect("at least one type");
-        if items(&layout, last) > 200 {
-            continue;
+        if items(&layout, layout.message().expect("at least one type")) <= 200 {
+            return under("random tables", layout);
         }
-        let table = layout.bytes();
-        let (read, write) = (layout.clone(), layout.clone());
-        return Subject {
-            name: "random tables",
-            layout,
-            table,
-            short: false,
-            decode: Arc::new(move |bytes, notes| notes_of(|| decode(&read, last, bytes), notes)),
-            encode: Arc::new(move |rng| {
-                let mut buffer = Vec::new();
-                encode(&write, last, rng, &mut buffer);
-                buffer
-            }),
-            types: Vec::new(),
-        };
+    }
+}
+
+/// Any table whose leaves are those of the crate's types that are named here.
+pub fn under(name: &'static str, layout: Layout) -> Subject {
+    let last = layout.message().expect("at least one type");
+    let table = layout.bytes();
+    let (read, write) = (Arc::new(layout.clone()), layout.clone());
+    Subject {
+        name,
+        layout,
+        table,
+        short: false,
+        long: false,
+        decode: Arc::new(move |bytes, notes| notes_of(|| decode(&read, last, bytes), notes)),
+        encode: Arc::new(move |rng| {
+            let mut buffer = Vec::new();
+            encode(&write, last, rng, &mut buffer);
+            buffer
+        }),
+        types: Vec::new(),
     }
 }
 
@@ -44,9 +51,11 @@ fn layout(rng: &mut Rng) -> Layout {
     let mut layout = Layout::new();
     let types = rng.between(1, 10) as u32;
     for number in 0..types {
-        // Containers and unions are what is worth most, above some leaves.
-        let kind =
-            if number == 0 { rng.below(6) } else { rng.pick(&[0, 1, 2, 3, 4, 5, 6, 6, 6, 7, 7]) };
+        // What is made of others is worth most, above some leaves.
+        let kind = match number {
+            0 => rng.below(6),
+            _ => rng.pick(&[0, 1, 2, 3, 4, 5, 6, 6, 6, 7, 7, 8, 8, 8, 9, 9]),
+        };
         let lower = |rng: &mut Rng| Type::from_number(rng.below(u64::from(number)) as u32);
         layout.add(match kind {
             0 => Kind::Number(rng.pick(&[1, 2, 4, 8, 16, 32])),
@@ -59,11 +68,13 @@ fn layout(rng: &mut Rng) -> Layout {
                 let count = rng.pick(&[1, 2, 2, 3, 3, 4, 5, 8]);
                 Kind::Container((0..count).map(|_| lower(rng)).collect())
             }
-            _ => {
+            7 => {
                 let count = rng.pick(&[1, 2, 2, 3, 5]);
                 let option = |rng: &mut Rng| (!rng.one_in(4)).then(|| lower(rng));
                 Kind::Union((0..count).map(|_| option(rng)).collect())
             }
+            8 => Kind::List(lower(rng), rng.pick(&[0, 1, 1, 2, 2, 3, 4, 7, 1_000_000, u32::MAX])),
+            _ => Kind::Vector(lower(rng), rng.pick(&[1, 1, 2, 2, 3, 4, 5, 66])),
         });
     }
     layout
@@ -80,6 +91,12 @@ pub(crate) fn items(layout: &Layout, of: Type) -> u64 {
         }
         Some(Kind::Union(options)) => {
             1 + options.iter().flatten().map(|body| items(layout, *body)).max().unwrap_or(0)
+        }
+        Some(Kind::List(element, limit)) => {
+            1 + u64::from(*limit).min(4) * items(layout, *element).min(1_000)
+        }
+        Some(Kind::Vector(element, count)) => {
+            1 + u64::from(*count).min(1_000) * items(layout, *element).min(1_000)
         }
         _ => 1,
     }
@@ -120,7 +137,9 @@ macro_rules! leaf {
                 7 => BitList<n::U7>, 8 => BitList<n::U8>, 9 => BitList<n::U9>,
                 15 => BitList<n::U15>, 16 => BitList<n::U16>, 17 => BitList<n::U17>,
                 64 => BitList<n::U64>, 100 => BitList<n::U100>),
-            Kind::Container(_) | Kind::Union(_) => unreachable!("no leaf"),
+            Kind::Container(_) | Kind::Union(_) | Kind::List(..) | Kind::Vector(..) => {
+                unreachable!("no leaf")
+            }
         }
     };
 }
@@ -137,7 +156,8 @@ fn crate_length<T: Decode>(_: ()) -> Option<usize> {
 fn length(layout: &Layout, of: Type) -> Option<usize> {
     match layout.kind(of).expect("a type of the table") {
         Kind::Container(fields) => fields.iter().map(|field| length(layout, *field)).sum(),
-        Kind::Union(_) => None,
+        Kind::Vector(element, count) => Some(length(layout, *element)? * *count as usize),
+        Kind::Union(_) | Kind::List(..) => None,
         kind => leaf!(crate_length, *kind, ()),
     }
 }
@@ -148,11 +168,49 @@ fn parameters(layout: &Layout, of: Type) -> (bool, usize) {
     (length.is_some(), length.unwrap_or(ssz::BYTES_PER_LENGTH_OFFSET))
 }
 
-fn decode(layout: &Layout, of: Type, bytes: &[u8]) -> Result<(), DecodeError> {
+thread_local! {
+    /// The element types of the lists that are being read, the innermost last.
+    static ELEMENTS: RefCell<Vec<(Arc<Layout>, Type)>> = const { RefCell::new(Vec::new()) };
+}
+
+/// An element of the innermost list that is being read: a Rust type for the crate's `Vec`, which asks
+/// it whether it is fixed, how long it is, and to read each of the elements.
+struct Element;
+
+fn element() -> (Arc<Layout>, Type) {
+    ELEMENTS.with_borrow(|all| all.last().cloned().expect("a list is being read"))
+}
+
+impl Decode for Element {
+    fn is_ssz_fixed_len() -> bool {
+        let (layout, of) = element();
+        parameters(&layout, of).0
+    }
+
+    fn ssz_fixed_len() -> usize {
+        let (layout, of) = element();
+        parameters(&layout, of).1
+    }
+
+    fn from_ssz_bytes(bytes: &[u8]) -> Result<Self, DecodeError> {
+        let (layout, of) = element();
+        decode(&layout, of, bytes).map(|()| Element)
+    }
+}
+
+/// A list, by the crate's own `Vec`.
+fn list(layout: &Arc<Layout>, element: Type, bytes: &[u8]) -> Result<(), DecodeError> {
+    ELEMENTS.with_borrow_mut(|all| all.push((layout.clone(), element)));
+    let decoded = Vec::<Element>::from_ssz_bytes(bytes);
+    ELEMENTS.with_borrow_mut(|all| all.pop());
+    decoded.map(|_| ())
+}
+
+fn decode(layout: &Arc<Layout>, of: Type, bytes: &[u8]) -> Result<(), DecodeError> {
     watched_as(Tag::Table(of.number()), bytes, |bytes| unwatched(layout, of, bytes))
 }
 
-fn unwatched(layout: &Layout, of: Type, bytes: &[u8]) -> Result<(), DecodeError> {
+fn unwatched(layout: &Arc<Layout>, of: Type, bytes: &[u8]) -> Result<(), DecodeError> {
     match layout.kind(of).expect("a type of the table") {
         Kind::Container(fields) => {
             let mut builder = SszDecoderBuilder::new(bytes);
@@ -177,6 +235,18 @@ fn unwatched(layout: &Layout, of: Type, bytes: &[u8]) -> Result<(), DecodeError>
                 None => Err(DecodeError::UnionSelectorInvalid(selector)),
             }
         }
+        Kind::List(element, _) => list(layout, *element, bytes),
+        Kind::Vector(element, count) => match length(layout, of) {
+            Some(length) => {
+                whole(bytes, length)?;
+                list(layout, *element, bytes)
+            }
+            None => {
+                let mut decoder = offsets(bytes, *count as usize)?;
+                let mut next = || decoder.decode_next_with(|bytes| decode(layout, *element, bytes));
+                (0..*count).try_for_each(|_| next())
+            }
+        },
         kind => leaf!(read, *kind, bytes),
     }
 }
@@ -185,18 +255,29 @@ fn random<T: Shape + Encode>((rng, buffer): (&mut Rng, &mut Vec<u8>)) {
     T::random(rng).ssz_append(buffer);
 }
 
+/// A container's fields, or the elements of a list or vector.
+fn encode_all(layout: &Layout, fields: &[Type], rng: &mut Rng, buffer: &mut Vec<u8>) {
+    let portion = fields.iter().map(|field| parameters(layout, *field).1).sum();
+    let mut encoder = SszEncoder::container(buffer, portion);
+    for field in fields {
+        let mut item = Vec::new();
+        encode(layout, *field, rng, &mut item);
+        let fixed = parameters(layout, *field).0;
+        encoder.append_parameterized(fixed, |buffer| buffer.extend(&item));
+    }
+    encoder.finalize();
+}
+
 fn encode(layout: &Layout, of: Type, rng: &mut Rng, buffer: &mut Vec<u8>) {
     match layout.kind(of).expect("a type of the table") {
-        Kind::Container(fields) => {
-            let portion = fields.iter().map(|field| parameters(layout, *field).1).sum();
-            let mut encoder = SszEncoder::container(buffer, portion);
-            for field in fields {
-                let mut item = Vec::new();
-                encode(layout, *field, rng, &mut item);
-                let fixed = parameters(layout, *field).0;
-                encoder.append_parameterized(fixed, |buffer| buffer.extend(&item));
-            }
-            encoder.finalize();
+        Kind::Container(fields) => encode_all(layout, fields, rng, buffer),
+        Kind::Vector(element, count) => {
+            encode_all(layout, &vec![*element; *count as usize], rng, buffer);
+        }
+        Kind::List(element, limit) => {
+            // Mostly few: an element may be many items.
+            let count = random_count(rng, *limit).min(if rng.one_in(8) { 9 } else { 4 });
+            encode_all(layout, &vec![*element; count as usize], rng, buffer);
         }
         Kind::Union(options) => {
             let selector = rng.below(options.len() as u64) as u8;
@@ -206,8 +287,8 @@ fn encode(layout: &Layout, of: Type, rng: &mut Rng, buffer: &mut Vec<u8>) {
             }
         }
         Kind::FreeBytes(limit) => {
-            let most = rng.between(0, u64::from(*limit).min(10));
-            buffer.extend(rng.bytes(most as usize));
+            let length = rng.between(0, most(*limit).min(10));
+            buffer.extend(rng.bytes(length as usize));
         }
         kind => leaf!(random, *kind, (rng, buffer)),
     }

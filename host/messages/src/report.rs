@@ -79,6 +79,12 @@ impl Report {
         self.differences.values().map(|difference| difference.count).sum()
     }
 
+    /// How often each known difference was met.
+    pub fn known(&self) -> Vec<(&'static str, u64)> {
+        let count = |known| self.known.get(&known).map_or(0, |seen| seen.count);
+        Known::ALL.map(|known| (known.told(), count(known))).into()
+    }
+
     pub fn reached(&self) -> BTreeMap<u32, u64> {
         let mut all = BTreeMap::new();
         for (number, count) in self.tallies.iter().flat_map(|(_, tally)| &tally.numbers) {

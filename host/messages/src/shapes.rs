@@ -1,10 +1,12 @@
 //! Rust types that the crate decodes, each with its table and its random values.
 
 use crate::rng::Rng;
-use crate::watch::At;
+use crate::watch::{watched, At};
 use cartwhisker::{Layout, Type};
 use ssz::{BitList, BitVector, Decode, DecodeError, Encode};
+use ssz::{SszDecoder, SszDecoderBuilder, SszEncoder};
 use std::any::TypeId;
+use std::cell::Cell;
 use typenum::Unsigned;
 
 pub trait Shape: Decode + Encode + 'static {
@@ -67,6 +69,24 @@ impl<const N: usize> Shape for [u8; N] {
     fn random(rng: &mut Rng) -> Self {
         std::array::from_fn(|_| rng.byte())
     }
+}
+
+thread_local! {
+    /// By how much a random value may be above its limits.
+    static ABOVE: Cell<u32> = const { Cell::new(0) };
+}
+
+/// Makes values that may be above their limits by so much.
+pub fn above_limits<T>(by: u32, make: impl FnOnce() -> T) -> T {
+    ABOVE.set(by);
+    let made = make();
+    ABOVE.set(0);
+    made
+}
+
+/// The most that a random value may have of what has this limit.
+pub fn most(limit: u32) -> u64 {
+    u64::from(limit) + u64::from(ABOVE.get())
 }
 
 /// Mostly a few bytes, none at all now and then, seldom many.
@@ -199,7 +219,122 @@ impl<const LIMIT: u32> Shape for Limited<LIMIT> {
     }
 
     fn random(rng: &mut Rng) -> Self {
-        Limited(random_bytes(rng, u64::from(LIMIT)))
+        Limited(random_bytes(rng, most(LIMIT)))
+    }
+}
+
+/// How many elements a random list has: mostly few, none now and then, and where the limit is low
+/// often as many as it allows.
+pub fn random_count(rng: &mut Rng, limit: u32) -> u64 {
+    match rng.below(8) {
+        0 => 0,
+        1 => rng.between(0, most(limit).min(20)),
+        2 | 3 => most(limit).min(4),
+        _ => rng.between(0, most(limit).min(4)),
+    }
+}
+
+/// The crate's own list, of watched elements.
+impl<T: Shape> Shape for Vec<At<T>> {
+    fn piece(pieces: &mut Pieces) -> Type {
+        let element = pieces.of::<T>();
+        pieces.layout.list(element, u32::MAX)
+    }
+
+    fn random(rng: &mut Rng) -> Self {
+        (0..random_count(rng, u32::MAX)).map(|_| At(T::random(rng))).collect()
+    }
+}
+
+/// A list with a limit. The crate's `Vec` has none, so it takes what is longer.
+pub struct List<T, const LIMIT: u32>(pub Vec<At<T>>);
+
+decoded_as!([T: Shape, const LIMIT: u32] List<T, LIMIT> => Vec<At<T>>);
+
+impl<T: Shape, const LIMIT: u32> Shape for List<T, LIMIT> {
+    fn piece(pieces: &mut Pieces) -> Type {
+        let element = pieces.of::<T>();
+        pieces.layout.list(element, LIMIT)
+    }
+
+    fn random(rng: &mut Rng) -> Self {
+        List((0..random_count(rng, LIMIT)).map(|_| At(T::random(rng))).collect())
+    }
+}
+
+/// The crate has no vectors but arrays of bytes. One of fixed elements is read as a field of its whole
+/// length, since "fixed vector of wrong length" is 1 with that length, and then as a list is.
+pub fn whole(bytes: &[u8], length: usize) -> Result<(), DecodeError> {
+    let mut builder = SszDecoderBuilder::new(bytes);
+    builder.register_type_parameterized(true, length)?;
+    builder.build().map(|_| ())
+}
+
+/// One of variable elements is the container of so many variable fields: "read by the container
+/// rules, whatever its count".
+pub fn offsets(bytes: &[u8], count: usize) -> Result<SszDecoder<'_>, DecodeError> {
+    let mut builder = SszDecoderBuilder::new(bytes);
+    for _ in 0..count {
+        builder.register_anonymous_variable_length_item()?;
+    }
+    builder.build()
+}
+
+/// A vector of `N` elements.
+pub struct Row<T, const N: usize>(pub Vec<T>);
+
+impl<T: Shape, const N: usize> Decode for Row<T, N> {
+    fn is_ssz_fixed_len() -> bool {
+        <T as Decode>::is_ssz_fixed_len()
+    }
+
+    fn ssz_fixed_len() -> usize {
+        if <T as Decode>::is_ssz_fixed_len() {
+            N * <T as Decode>::ssz_fixed_len()
+        } else {
+            ssz::BYTES_PER_LENGTH_OFFSET
+        }
+    }
+
+    fn from_ssz_bytes(bytes: &[u8]) -> Result<Self, DecodeError> {
+        if <T as Decode>::is_ssz_fixed_len() {
+            whole(bytes, <Self as Decode>::ssz_fixed_len())?;
+            let elements = Vec::<At<T>>::from_ssz_bytes(bytes)?;
+            return Ok(Row(elements.into_iter().map(|At(element)| element).collect()));
+        }
+        let mut decoder = offsets(bytes, N)?;
+        (0..N).map(|_| decoder.decode_next_with(watched)).collect::<Result<_, _>>().map(Row)
+    }
+}
+
+impl<T: Shape, const N: usize> Encode for Row<T, N> {
+    fn is_ssz_fixed_len() -> bool {
+        <T as Encode>::is_ssz_fixed_len()
+    }
+
+    fn ssz_fixed_len() -> usize {
+        <Self as Decode>::ssz_fixed_len()
+    }
+
+    fn ssz_bytes_len(&self) -> usize {
+        self.0.ssz_bytes_len()
+    }
+
+    fn ssz_append(&self, buffer: &mut Vec<u8>) {
+        let mut encoder = SszEncoder::container(buffer, N * <T as Encode>::ssz_fixed_len());
+        self.0.iter().for_each(|element| encoder.append(element));
+        encoder.finalize();
+    }
+}
+
+impl<T: Shape, const N: usize> Shape for Row<T, N> {
+    fn piece(pieces: &mut Pieces) -> Type {
+        let element = pieces.of::<T>();
+        pieces.layout.vector(element, N as u32)
+    }
+
+    fn random(rng: &mut Rng) -> Self {
+        Row((0..N).map(|_| T::random(rng)).collect())
     }
 }
 

@@ -1,13 +1,15 @@
 //! The types that are compared.
 
+use crate::random_tables;
 use crate::rng::Rng;
-use crate::shapes::{container, union, Limited, Pieces, Shape, Wide};
+use crate::shapes::{above_limits, container, union};
+use crate::shapes::{Limited, List, Pieces, Row, Shape, Wide};
 use crate::watch::{notes_of, watched, At, Note, Notes, Tag};
 use cartwhisker::Layout;
 use ssz::{BitList, BitVector, Decode, DecodeError, Encode, SszDecoderBuilder, SszEncoder};
 use std::any::TypeId;
 use std::sync::Arc;
-use typenum::{U0, U1, U12, U16, U17, U20, U2048, U256, U33, U4, U5, U512, U64, U8, U9};
+use typenum::{U0, U1, U12, U16, U17, U20, U2048, U256, U3, U33, U4, U5, U512, U64, U8, U9};
 
 /// Something that both sides read.
 pub struct Subject {
@@ -16,6 +18,8 @@ pub struct Subject {
     pub table: Vec<u8>,
     /// Whether every string of three bytes is worth asking.
     pub short: bool,
+    /// Whether strings of two bytes say no more than those of one.
+    pub long: bool,
     /// The crate's decoding, with its notes.
     pub decode: Decoder,
     /// The encoding of a random value.
@@ -28,6 +32,12 @@ pub type Decoder = Arc<dyn Fn(&[u8], &mut Notes) -> Result<(), DecodeError>>;
 pub type Encoder = Arc<dyn Fn(&mut Rng) -> Vec<u8>>;
 
 impl Subject {
+    /// The encoding of a random value that may be above its limits.
+    pub fn encode_above(&self, rng: &mut Rng) -> Vec<u8> {
+        let by = rng.between(1, 2) as u32;
+        above_limits(by, || (self.encode)(rng))
+    }
+
     pub fn number_of(&self, note: &Note) -> u32 {
         match note.of {
             Tag::Table(number) => number,
@@ -48,10 +58,16 @@ fn subject<T: Shape>(name: &'static str, short: bool) -> Subject {
         layout: pieces.layout,
         table,
         short,
+        long: false,
         decode: Arc::new(|bytes, notes| notes_of(|| watched::<T>(bytes).map(|_| ()), notes)),
         encode: Arc::new(|rng| T::random(rng).as_ssz_bytes()),
         types: pieces.known.iter().map(|(id, of)| (*id, of.number())).collect(),
     }
+}
+
+/// A type that begins with offsets, or is long.
+fn long<T: Shape>(name: &'static str) -> Subject {
+    Subject { long: true, ..subject::<T>(name, false) }
 }
 
 macro_rules! tuple {
@@ -86,6 +102,16 @@ container! {
         tip: Option<At<u64>>,
         proof: [u8; 256],
     }
+    struct Pair { flag: bool, byte: u8 }
+    struct Block {
+        slot: u64,
+        transactions: List<Limited<30>, 5>,
+        roots: Row<[u8; 32], 2>,
+        votes: List<Checkpoint, 3>,
+        seats: Row<BitList<U9>, 3>,
+        batch: Batch,
+        bids: Vec<At<Bid>>,
+    }
 }
 
 union! {
@@ -102,6 +128,16 @@ union! {
         9 => Bare,
     }
     enum Small { 0 => Byte(u8), 1 => Bytes(Vec<u8>), 2 => Nothing }
+    enum Batch {
+        0 => Nothing,
+        1 => Numbers(List<u16, 3>),
+        2 => Texts(Vec<At<Vec<u8>>>),
+        3 => Pairs(List<Pair, 2>),
+        4 => Flags(Row<bool, 3>),
+        5 => Bits(Row<BitList<U3>, 2>),
+        6 => Choices(List<Small, 2>),
+        7 => Deep(List<List<List<Limited<2>, 2>, 2>, 2>),
+    }
     enum Single { 0 => Only(BitList<U4>) }
     enum Empty { 0 => Nothing }
 }
@@ -228,7 +264,78 @@ type One12<T> = One3<One3<One3<One3<T>>>>;
 /// 63 containers around one type: the 64 types that a table has.
 type One63<T> = One3<One12<One12<One12<One12<One12<T>>>>>>;
 
+type One6<T> = Row<List<Row<List<Row<List<T, 1>, 1>, 1>, 1>, 1>, 1>;
+/// A list inside of 62 vectors and containers: the 64 types that a table has.
+type Deep<T> = One3<One12<One12<One12<One12<Two<Two<Two<Two<Two<Row<List<T, 4>, 1>>>>>>>>>>>;
+type Two<T> = Row<One<T>, 1>;
+
+/// 63 lists around a boolean, each with one element: too deep for a Rust type here.
+fn deep_lists() -> Subject {
+    let mut layout = Layout::new();
+    let mut last = layout.boolean();
+    for _ in 0..63 {
+        last = layout.list(last, 1);
+    }
+    let encode = |rng: &mut Rng| [[4, 0, 0, 0].repeat(62), vec![rng.below(2) as u8]].concat();
+    Subject {
+        long: true,
+        encode: Arc::new(encode),
+        ..random_tables::under("63 lists around a bool", layout)
+    }
+}
+
+/// Lists, which the crate reads as `Vec`, and vectors, as containers of fields of one type.
+fn many() -> Vec<Subject> {
+    vec![
+        subject::<List<u8, 1>>("list of u8 up to 1", false),
+        subject::<List<u16, 0>>("list of u16 up to 0", false),
+        subject::<List<u16, 1>>("list of u16 up to 1", true),
+        long::<Vec<At<u64>>>("Vec<u64>"),
+        subject::<List<bool, 2>>("list of bool up to 2", true),
+        subject::<Vec<At<BitVector<U9>>>>("Vec<BitVector<9>>", true),
+        long::<Vec<At<[u8; 32]>>>("Vec<[u8; 32]>"),
+        subject::<Vec<At<Pair>>>("Vec of a bool and a u8", true),
+        long::<List<Checkpoint, 2>>("list of checkpoints up to 2"),
+        long::<List<Flags, 3>>("list of fixed containers up to 3"),
+        long::<Vec<At<Vec<u8>>>>("Vec<Vec<u8>>"),
+        long::<List<Vec<u8>, 0>>("list of Vec<u8> up to 0"),
+        long::<List<Limited<5>, 3>>("list of limited bytes up to 3"),
+        long::<Vec<At<BitList<U9>>>>("Vec<BitList<9>>"),
+        long::<List<Choice, 3>>("list of unions up to 3"),
+        long::<Vec<At<Option<At<u16>>>>>("Vec<Option<u16>>"),
+        long::<Vec<At<Bid>>>("Vec of bids"),
+        long::<List<Inner, 2>>("list of containers up to 2"),
+        long::<Vec<At<Vec<At<u64>>>>>("Vec<Vec<u64>>"),
+        long::<List<List<bool, 2>, 2>>("list of lists of bool"),
+        long::<Vec<At<Vec<At<Vec<u8>>>>>>("Vec<Vec<Vec<u8>>>"),
+        long::<One6<BitList<U9>>>("lists in vectors in lists"),
+        subject::<Row<bool, 2>>("vector of 2 bool", true),
+        long::<Row<u16, 3>>("vector of 3 u16"),
+        long::<Row<[u8; 32], 4>>("vector of 4 [u8; 32]"),
+        long::<Row<Pair, 70>>("vector of 70 fixed containers"),
+        long::<Row<Row<BitVector<U9>, 2>, 3>>("vector of vectors"),
+        long::<Row<Vec<u8>, 1>>("vector of one Vec<u8>"),
+        long::<Row<Limited<3>, 4>>("vector of 4 limited bytes"),
+        long::<Row<Vec<u8>, 65>>("vector of 65 Vec<u8>"),
+        long::<Row<BitList<U3>, 130>>("vector of 130 bit lists"),
+        long::<Row<List<u16, 2>, 3>>("vector of 3 lists"),
+        long::<List<Row<Pair, 2>, 2>>("list of fixed vectors"),
+        long::<List<Row<Vec<u8>, 2>, 2>>("list of variable vectors"),
+        subject::<Batch>("lists in a union", false),
+        long::<tuple!(List<u16, 2>, bool, Row<bool, 2>, Vec<At<Vec<u8>>>)>("lists in a tuple"),
+        long::<Block>("lists in a container"),
+        long::<Deep<u16>>("62 vectors, containers, a list"),
+        deep_lists(),
+    ]
+}
+
 pub fn all() -> Vec<Subject> {
+    let mut all = few();
+    all.extend(many());
+    all
+}
+
+fn few() -> Vec<Subject> {
     vec![
         subject::<u8>("u8", false),
         subject::<u64>("u64", false),

@@ -88,6 +88,34 @@ fn bit_lists_of_whole_bytes() {
 }
 
 #[test]
+fn lists_and_vectors() {
+    let mut layout = Layout::new();
+    let text = layout.free_bytes(4);
+    let pair = layout.vector(text, 2);
+    layout.list(pair, 2);
+    // Two pairs: the list's count, then the length of each text.
+    let form = with(&[2, 1, 0, 2, 1], &[10, 20, 21, 30]);
+    let first = [[8, 0, 0, 0], [9, 0, 0, 0]].concat();
+    let second = [[8, 0, 0, 0], [10, 0, 0, 0]].concat();
+    let offsets = [[8, 0, 0, 0], [17, 0, 0, 0]].concat();
+    let message = [&offsets[..], &first, &[10], &second, &[20, 21, 30]].concat();
+    assert_eq!(written(&layout, &form), Ok(message));
+    assert_eq!(Form::of(&value_of(&layout, &form).unwrap()), form);
+    assert_eq!(written(&layout, &with(&[0], &[])), Ok(vec![]));
+    let of = |contents: &[u32], bodies: &[u8]| fault(&layout, &with(contents, bodies));
+    // "A contents word for a list's count, missing or over the limit 25 as at a leaf, before its
+    // elements."
+    assert_eq!(of(&[], &[]), (Fault::MissingWord, 0, 0));
+    assert_eq!(of(&[3], &[]), (Fault::LongList, 0, 0));
+    assert_eq!(of(&[u32::MAX], &[]), (Fault::LongList, 0, 0));
+    assert_eq!(of(&[2, 1, 0, 2], &[10, 20, 21]), (Fault::MissingWord, 0, 4));
+    assert_eq!(of(&[1, 5, 0], &[0; 5]), (Fault::LongBytes, 0, 1));
+    assert_eq!(of(&[1, 1, 4], &[0; 4]), (Fault::ShortBody, 1, 4));
+    assert_eq!(of(&[0, 0], &[]), (Fault::LeftWords, 0, 1));
+    assert_eq!(of(&[0], &[7]), (Fault::LeftBytes, 1, 0));
+}
+
+#[test]
 fn bad_tables() {
     let bad = |words: &[u32]| {
         let bytes: Vec<u8> = words.iter().flat_map(|word| word.to_le_bytes()).collect();
@@ -102,6 +130,16 @@ fn bad_tables() {
     assert_eq!(bad(&[1, 2, 1, 1]), Some(3));
     assert_eq!(bad(&[2, 3, 5, 2, 1 << 31, 6, 2, 0, 0]), Some(5));
     assert_eq!(checked(&[1, 0, 0, 0, 2, 0]).err(), Some(1));
+    // A list's limit is any word; a vector has a count of at least 1, and its fixed portion, four
+    // bytes for each variable element, is charged to the kind word.
+    assert_eq!(bad(&[2, 3, 4, 1, 8, 0, 0]), None);
+    assert_eq!(bad(&[2, 3, 4, 1, 8, 1, 0]), Some(5));
+    assert_eq!(bad(&[2, 3, 4, 1, 8, 0]), Some(6));
+    assert_eq!(bad(&[2, 3, 4, 1, 9, 0, 0]), Some(6));
+    assert_eq!(bad(&[2, 3, 4, 1, 9, 0, u32::MAX]), None);
+    assert_eq!(bad(&[2, 3, 5, 3, 7, 9, 0, (1 << 30) - 1]), None);
+    assert_eq!(bad(&[2, 3, 5, 3, 7, 9, 0, 1 << 30]), Some(5));
+    assert_eq!(bad(&[1, 2, 10]), Some(2));
 }
 
 #[test]
@@ -115,7 +153,7 @@ fn a_run_reaches_every_refusal_and_every_fault() {
         made.insert((case.op, case.what));
     });
     let tables = [(70, 0), (70, 20)];
-    let unfolding = (0..=14).chain([20, 22]).map(|number| (73, number));
+    let unfolding = (0..=15).chain([20, 22]).map(|number| (73, number));
     let writing = [0, 20, 22, 25].map(|number| (74, number));
     assert_eq!(numbers, tables.into_iter().chain(unfolding).chain(writing).collect());
     assert_eq!(faults, Fault::ALL.into());

@@ -6,17 +6,20 @@ use typenum::{U4, U9};
 
 #[test]
 fn a_small_run_reaches_every_refusal_and_finds_no_difference() {
-    let report = compared(Options { seed: 7, count: 100_000, depth: 1, short: 1 });
+    let report = compared(Options { seed: 7, count: 100_000, depth: 1, short: 1, long: true });
     println!("{report}");
     assert_eq!(report.differences(), 0);
-    for number in 0..=14 {
+    for number in 0..=15 {
         assert!(report.reached().contains_key(&number), "{number}");
     }
+    // Every rule of ours that the crate does not have was met.
+    assert!(report.known().iter().all(|(_, count)| *count > 0), "{:?}", report.known());
 }
 
 #[test]
 fn a_seed_says_what_is_asked() {
-    let reached = |seed| compared(Options { seed, count: 20_000, depth: 0, short: 0 }).reached();
+    let reached =
+        |seed| compared(Options { seed, count: 20_000, depth: 0, short: 0, long: false }).reached();
     assert_eq!(reached(1), reached(1));
     assert_ne!(reached(1), reached(2));
 }
@@ -104,5 +107,5 @@ fn recorded_cases_are_what_our_calls_answer() {
         assert_eq!(told, expected);
         reached.insert(expected[0]);
     }
-    assert!((0..=14).chain([22]).all(|number| reached.contains(&number)), "{reached:?}");
+    assert!((0..=15).chain([22]).all(|number| reached.contains(&number)), "{reached:?}");
 }

@@ -1,8 +1,9 @@
 //! The crate beside what is expected here, of every case: each type has a Rust type.
 
+use super::elements::{BIT_LISTS, LISTS, TEXTS, TEXT_ROW};
 use super::worked::BID;
-use super::{all, table, Asked, Types, BITS, BOOLEAN, EITHER, FIXED, LIST, MAYBE_16, NUMBER};
-use super::{SINGLE, SMALL, UNION_16, VECTOR};
+use super::{all, table, Asked, Types, BITS, BOOLEAN, COMPLEX, EITHER, FIXED, LIST, LIST_16};
+use super::{LIST_32, MAYBE_16, NUMBER, SINGLE, SMALL, UNION_16, VAR, VECTOR, VECTOR_OF};
 use ssz::{BitList, BitVector, Decode, DecodeError, Encode, SszDecoderBuilder, SszEncoder};
 use std::collections::{BTreeMap, BTreeSet};
 use typenum::consts::*;
@@ -56,6 +57,94 @@ impl Formed for Vec<u8> {
     }
 }
 
+/// A list, by the crate's `Vec`.
+struct Many<T>(Vec<T>);
+
+impl<T: Decode> Decode for Many<T> {
+    fn is_ssz_fixed_len() -> bool {
+        false
+    }
+
+    fn from_ssz_bytes(bytes: &[u8]) -> Result<Self, DecodeError> {
+        Vec::from_ssz_bytes(bytes).map(Many)
+    }
+}
+
+impl<T: Encode> Encode for Many<T> {
+    fn is_ssz_fixed_len() -> bool {
+        false
+    }
+
+    fn ssz_bytes_len(&self) -> usize {
+        self.0.ssz_bytes_len()
+    }
+
+    fn ssz_append(&self, buffer: &mut Vec<u8>) {
+        self.0.ssz_append(buffer);
+    }
+}
+
+impl<T: Formed> Formed for Many<T> {
+    fn form(&self, contents: &mut Vec<u32>, bodies: &mut Vec<u8>) {
+        contents.push(self.0.len() as u32);
+        self.0.iter().for_each(|element| element.form(contents, bodies));
+    }
+}
+
+/// A vector, which the crate has of bytes alone: of fixed elements it is one field of their whole
+/// length, read as a list then; of variable ones the container of so many fields.
+struct Row<T, const N: usize>(Vec<T>);
+
+impl<T: Decode, const N: usize> Decode for Row<T, N> {
+    fn is_ssz_fixed_len() -> bool {
+        T::is_ssz_fixed_len()
+    }
+
+    fn ssz_fixed_len() -> usize {
+        if T::is_ssz_fixed_len() {
+            N * T::ssz_fixed_len()
+        } else {
+            ssz::BYTES_PER_LENGTH_OFFSET
+        }
+    }
+
+    fn from_ssz_bytes(bytes: &[u8]) -> Result<Self, DecodeError> {
+        let mut builder = SszDecoderBuilder::new(bytes);
+        if T::is_ssz_fixed_len() {
+            builder.register_type::<Self>()?;
+            builder.build()?;
+            return Vec::from_ssz_bytes(bytes).map(Row);
+        }
+        (0..N).try_for_each(|_| builder.register_type::<T>())?;
+        let mut decoder = builder.build()?;
+        (0..N).map(|_| decoder.decode_next()).collect::<Result<_, _>>().map(Row)
+    }
+}
+
+impl<T: Encode + Decode, const N: usize> Encode for Row<T, N> {
+    fn is_ssz_fixed_len() -> bool {
+        <T as Encode>::is_ssz_fixed_len()
+    }
+
+    fn ssz_fixed_len() -> usize {
+        <Self as Decode>::ssz_fixed_len()
+    }
+
+    fn ssz_bytes_len(&self) -> usize {
+        self.0.ssz_bytes_len()
+    }
+
+    fn ssz_append(&self, buffer: &mut Vec<u8>) {
+        self.0.ssz_append(buffer);
+    }
+}
+
+impl<T: Formed, const N: usize> Formed for Row<T, N> {
+    fn form(&self, contents: &mut Vec<u32>, bodies: &mut Vec<u8>) {
+        self.0.iter().for_each(|element| element.form(contents, bodies));
+    }
+}
+
 /// A struct that the crate's builder reads and its encoder writes, as its derive does it.
 macro_rules! container {
     ($($name:ident { $($field:ident: $of:ty),+ })*) => { $(
@@ -64,6 +153,14 @@ macro_rules! container {
         impl Decode for $name {
             fn is_ssz_fixed_len() -> bool {
                 $(<$of as Decode>::is_ssz_fixed_len())&&+
+            }
+
+            fn ssz_fixed_len() -> usize {
+                if <Self as Decode>::is_ssz_fixed_len() {
+                    0 $(+ <$of as Decode>::ssz_fixed_len())+
+                } else {
+                    ssz::BYTES_PER_LENGTH_OFFSET
+                }
             }
 
             fn from_ssz_bytes(bytes: &[u8]) -> Result<Self, DecodeError> {
@@ -77,6 +174,10 @@ macro_rules! container {
         impl Encode for $name {
             fn is_ssz_fixed_len() -> bool {
                 <Self as Decode>::is_ssz_fixed_len()
+            }
+
+            fn ssz_fixed_len() -> usize {
+                <Self as Decode>::ssz_fixed_len()
             }
 
             fn ssz_bytes_len(&self) -> usize {
@@ -117,6 +218,16 @@ container! {
         d: BitList<U6>,
         e: BitVector<U8>
     }
+    Var { a: u16, b: Many<u16>, c: u8 }
+    Complex {
+        a: u16,
+        b: Many<u16>,
+        c: u8,
+        d: Vec<u8>,
+        e: Var,
+        f: Row<Fixed, 4>,
+        g: Row<Var, 2>
+    }
 }
 
 /// A union by the crate's split: the selector is a contents word, an option without body is `None`.
@@ -141,11 +252,27 @@ macro_rules! bits {
     )* };
 }
 
+macro_rules! vectors {
+    ($readers:ident $($n:literal)*) => { $(
+        $readers.insert(table(&[&[BOOLEAN], &[VECTOR_OF, 0, $n]]), read::<Row<bool, $n>> as Reader);
+        $readers.insert(table(&[&[NUMBER, 2], &[VECTOR_OF, 0, $n]]), read::<Row<u16, $n>>);
+    )* };
+}
+
 /// The crate's reader of each table.
 fn readers() -> BTreeMap<Vec<u8>, Reader> {
     let mut readers = BTreeMap::new();
     bits!(readers U1 U2 U3 U4 U5 U8 U9 U10 U16 U31 U32 U512 U513);
-    let others: [(Types, Reader); 15] = [
+    vectors!(readers 1 2 3 5 8 31);
+    let others: [(Types, Reader); 23] = [
+        (LIST_16, read::<Many<u16>>),
+        (LIST_32, read::<Many<u32>>),
+        (VAR, read::<Var>),
+        (COMPLEX, read::<Complex>),
+        (TEXTS, read::<Many<Vec<u8>>>),
+        (TEXT_ROW, read::<Row<Vec<u8>, 2>>),
+        (LISTS, read::<Many<Many<u16>>>),
+        (BIT_LISTS, read::<Many<BitList<U5>>>),
         (&[&[NUMBER, 1]], read::<u8>),
         (&[&[NUMBER, 2]], read::<u16>),
         (&[&[NUMBER, 4]], read::<u32>),

@@ -37,7 +37,8 @@ fn form_of(layout: &Layout, message: &[u8], records: &[Record]) -> Form {
     for record in records {
         let body = record.bytes(message);
         match layout.kind(Type::from_number(record.type_number)).expect("a type of the table") {
-            Kind::Container(_) => (),
+            Kind::Container(_) | Kind::Vector(..) => (),
+            Kind::List(element, _) => form.contents.push(elements(layout, *element, body)),
             Kind::Union(_) => form.contents.push(u32::from(body[0])),
             Kind::FreeBytes(_) => {
                 form.contents.push(body.len() as u32);
@@ -48,6 +49,16 @@ fn form_of(layout: &Layout, message: &[u8], records: &[Record]) -> Form {
         }
     }
     form
+}
+
+/// How many elements a list has that the crate has read.
+fn elements(layout: &Layout, element: Type, body: &[u8]) -> u32 {
+    match layout.fixed_length(element) {
+        Some(length) => body.len() as u32 / length as u32,
+        None if body.is_empty() => 0,
+        // The first offset is behind the last.
+        None => u32::from_le_bytes(body[..4].try_into().expect("four bytes")) / 4,
+    }
 }
 
 /// A bit list's body without the set bit behind its last.

@@ -2,9 +2,9 @@
 //!
 //! What is expected comes from a model in this folder, written from document 01 and its readings:
 //! values, their encoding and their form (`value`), a form's first fault (`writer`), the check of a
-//! table (`tables`). Which messages are refused, and with what, is the crate's own answer, but for
-//! 14, which it does not have (`answers`); where it accepts, the form is made from the slices that
-//! it handed out, and the model has to write it as the message again.
+//! table (`tables`). Which messages are refused, and with what, is the crate's own answer with the
+//! known differences (`answers`); where it accepts, the form is made from the slices that it handed
+//! out, and the model has to write it as the message again.
 
 mod ask;
 mod by_crate;

@@ -97,8 +97,27 @@ impl Table<'_> {
                 let options = words.into_iter().map(option).collect();
                 Ok((Kind::Union(options), at + 2 + count as usize))
             }
+            8 => {
+                let element = self.element(at + 1, number)?;
+                Ok((Kind::List(element, self.word(at + 2)?), at + 3))
+            }
+            9 => {
+                let element = self.element(at + 1, number)?;
+                let count = self.within(at + 2, 1, u32::MAX)?;
+                // "Both vectors have the limit of a container's fixed portion" (reading 8).
+                if u64::from(count).saturating_mul(lower.head(element)) > u64::from(u32::MAX) {
+                    return Err(at);
+                }
+                Ok((Kind::Vector(element, count), at + 3))
+            }
             _ => Err(at),
         }
+    }
+
+    /// An element's type.
+    fn element(&self, at: usize, below: u32) -> Result<Type, usize> {
+        let named = self.named(at, 1, below, false)?;
+        Ok(Type::from_number(named[0]))
     }
 }
 
@@ -119,7 +138,29 @@ pub fn at_limits() -> Vec<Vec<u8>> {
         &[1, 3, 1],
         &[1, 2, 0],
         &[1, 2, 8],
+        &[1, 2, 8, 0],
         &[1, 2, 9, 0, 1, 0],
+        &[1, 2, 10],
+        &[2, 3, 4, 1, 8],
+        &[2, 3, 4, 1, 8, 0],
+        &[2, 3, 4, 1, 8, 1, 5],
+        &[2, 3, 4, 1, 8, 0, 0],
+        &[2, 3, 4, 1, 8, 0, u32::MAX],
+        &[2, 3, 4, 1, 8, 0, 1, 0],
+        &[2, 3, 4, 1, 9, 0],
+        &[2, 3, 4, 1, 9, 1, 1],
+        &[2, 3, 4, 1, 9, 0, 0],
+        &[2, 3, 4, 1, 9, 0, 1],
+        // A vector's fixed portion of 2^32 - 1 bytes and of one more, of fixed elements and of
+        // offsets, charged to its kind word behind its count; and such a vector in a container.
+        &[2, 3, 4, 1, 9, 0, u32::MAX],
+        &[2, 3, 5, 2, 3, 9, 0, u32::MAX / 3],
+        &[2, 3, 5, 2, 2, 9, 0, half],
+        &[2, 3, 5, 3, 7, 9, 0, half / 2 - 1],
+        &[2, 3, 5, 3, 7, 9, 0, half / 2],
+        &[2, 3, 5, 2, half, 9, 0, 2, 0],
+        &[3, 4, 5, 8, 1, 9, 0, u32::MAX, 6, 2, 1, 0],
+        &[3, 4, 6, 9, 3, 7, 9, 0, half / 4, 9, 1, 2],
         &[1, 2, 2, 0],
         &[1, 2, 4, 0],
         &[1, 2, 6, 0],

@@ -11,13 +11,17 @@ pub enum Value {
     Free(Vec<u8>),
     Vector(Vec<bool>),
     List(Vec<bool>),
-    Container(Vec<Value>),
+    /// A container's fields, a vector's elements.
+    Row(Vec<Value>),
+    /// A list's elements.
+    Elements(Vec<Value>),
     /// The selector, and the body if the option has one.
     Union(u8, Option<Box<Value>>),
 }
 
 /// "Contents, in preorder, one word each: byte length of free bytes, bit length of a bit list,
-/// selector of a union. Bodies: the leaves' bytes one after another, bitfields as raw bytes."
+/// selector of a union. Bodies: the leaves' bytes one after another, bitfields as raw bytes." "The
+/// value form gets a contents word for a list's count, before its elements" (document 02, [1]).
 #[derive(Clone, Debug, Default, PartialEq, Eq)]
 pub struct Form {
     pub contents: Vec<u32>,
@@ -43,7 +47,11 @@ impl Form {
                 self.contents.push(bits.len() as u32);
                 self.bodies.extend(raw(bits));
             }
-            Value::Container(fields) => fields.iter().for_each(|field| self.add(field)),
+            Value::Row(fields) => fields.iter().for_each(|field| self.add(field)),
+            Value::Elements(elements) => {
+                self.contents.push(elements.len() as u32);
+                elements.iter().for_each(|element| self.add(element));
+            }
             Value::Union(selector, body) => {
                 self.contents.push(u32::from(*selector));
                 body.iter().for_each(|body| self.add(body));
@@ -77,7 +85,11 @@ pub fn encode(layout: &Layout, of: Type, value: &Value) -> Vec<u8> {
         (_, Value::Vector(bits)) => packed(bits),
         // "A bit list adds one set bit behind its last."
         (_, Value::List(bits)) => packed(&[bits, &[true][..]].concat()),
-        (Kind::Container(fields), Value::Container(values)) => container(layout, fields, values),
+        (Kind::Container(fields), Value::Row(values)) => container(layout, fields, values),
+        (Kind::Vector(element, _), Value::Row(values))
+        | (Kind::List(element, _), Value::Elements(values)) => {
+            container(layout, &vec![*element; values.len()], values)
+        }
         (Kind::Union(options), Value::Union(selector, body)) => {
             let mut bytes = vec![*selector];
             if let Some(body) = body {
@@ -132,6 +144,22 @@ impl Lengths {
         };
         length as usize
     }
+
+    /// How many elements a list has: fewer the longer they are.
+    fn count(self, limit: u32, each: u64, rng: &mut Rng) -> usize {
+        match self {
+            Lengths::Full(most) => u64::from(limit).min(most / each / 2) as usize,
+            Lengths::Upto(most) => Lengths::Upto(most.min(9)).pick(limit, 1, rng),
+        }
+    }
+
+    /// The lengths in each of so many elements.
+    fn inside(self, count: usize) -> Self {
+        match self {
+            Lengths::Full(most) => Lengths::Full(most / 2 / (count as u64).max(1)),
+            Lengths::Upto(most) => Lengths::Upto(most / 2),
+        }
+    }
 }
 
 fn bits(rng: &mut Rng, count: usize) -> Vec<bool> {
@@ -154,15 +182,32 @@ fn random(layout: &Layout, of: Type, lengths: Lengths, rng: &mut Rng) -> Value {
             let length = lengths.pick(*limit, 6, rng);
             Value::List(bits(rng, length))
         }
-        Kind::Container(fields) => Value::Container(
-            fields.iter().map(|field| random(layout, *field, lengths, rng)).collect(),
-        ),
+        Kind::Container(fields) => {
+            Value::Row(fields.iter().map(|field| random(layout, *field, lengths, rng)).collect())
+        }
+        Kind::Vector(element, count) => {
+            Value::Row(elements(layout, *element, *count as usize, lengths, rng))
+        }
+        Kind::List(element, limit) => {
+            let count = lengths.count(*limit, layout.head(*element), rng);
+            Value::Elements(elements(layout, *element, count, lengths, rng))
+        }
         Kind::Union(options) => {
             let selector = rng.below(options.len() as u64) as u8;
             let body = options[usize::from(selector)];
             Value::Union(selector, body.map(|body| Box::new(random(layout, body, lengths, rng))))
         }
     }
+}
+
+fn elements(
+    layout: &Layout,
+    element: Type,
+    count: usize,
+    lengths: Lengths,
+    rng: &mut Rng,
+) -> Vec<Value> {
+    (0..count).map(|_| random(layout, element, lengths.inside(count), rng)).collect()
 }
 
 /// A random value of the message's type, and its encoding.

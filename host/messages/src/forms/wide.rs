@@ -22,8 +22,10 @@ fn any(rng: &mut Rng) -> Layout {
         _ => rng.between(1, 12) as u32,
     };
     for number in 0..types {
-        let kind =
-            if number == 0 { rng.below(6) } else { rng.pick(&[0, 1, 2, 3, 4, 5, 6, 6, 7, 7]) };
+        let kind = match number {
+            0 => rng.below(6),
+            _ => rng.pick(&[0, 1, 2, 3, 4, 5, 6, 6, 7, 7, 8, 8, 9]),
+        };
         let lower = |rng: &mut Rng| Type::from_number(rng.below(u64::from(number)) as u32);
         let count = |rng: &mut Rng, most: u64| match rng.below(12) {
             0 => most,
@@ -37,10 +39,12 @@ fn any(rng: &mut Rng) -> Layout {
             4 => Kind::BitVector(rng.between(1, 600) as u32),
             5 => Kind::BitList(limit(rng)),
             6 => Kind::Container((0..count(rng, 64)).map(|_| lower(rng)).collect()),
-            _ => {
+            7 => {
                 let option = |rng: &mut Rng| (!rng.one_in(4)).then(|| lower(rng));
                 Kind::Union((0..count(rng, 128)).map(|_| option(rng)).collect())
             }
+            8 => Kind::List(lower(rng), limit(rng)),
+            _ => Kind::Vector(lower(rng), count(rng, 150) as u32),
         });
     }
     layout
@@ -71,7 +75,28 @@ pub fn long() -> Vec<Layout> {
         layout.container([row; 64]);
         layout
     });
-    alone.into_iter().chain(many).collect()
+    let lists = |inner: Kind, kinds: [fn(Type) -> Kind; 2]| {
+        let mut layout = Layout::new();
+        let mut last = layout.add(inner);
+        for kind in kinds {
+            last = layout.add(kind(last));
+        }
+        layout
+    };
+    let free = |element| Kind::List(element, u32::MAX);
+    let rows = [
+        // Many numbers, many elements with a word each, lists in lists, vectors of many offsets.
+        lists(Kind::Number(1), [|element| Kind::Vector(element, 2), free]),
+        lists(Kind::Number(8), [free, |element| Kind::Vector(element, 1)]),
+        lists(Kind::FreeBytes(9), [free, |element| Kind::Vector(element, 1)]),
+        lists(Kind::BitList(9), [|element| Kind::List(element, 9), free]),
+        lists(Kind::Boolean, [free, |element| Kind::Vector(element, 3_000)]),
+        lists(
+            Kind::FreeBytes(5),
+            [|element| Kind::Vector(element, 65), |element| Kind::List(element, 40)],
+        ),
+    ];
+    alone.into_iter().chain(many).chain(rows).collect()
 }
 
 fn limit(rng: &mut Rng) -> u32 {

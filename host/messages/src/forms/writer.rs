@@ -9,6 +9,7 @@ pub enum Fault {
     MissingWord,
     LongBytes,
     LongBits,
+    LongList,
     NoOption,
     ShortBody,
     Boolean,
@@ -19,10 +20,11 @@ pub enum Fault {
 }
 
 impl Fault {
-    pub const ALL: [Fault; 10] = [
+    pub const ALL: [Fault; 11] = [
         Fault::MissingWord,
         Fault::LongBytes,
         Fault::LongBits,
+        Fault::LongList,
         Fault::NoOption,
         Fault::ShortBody,
         Fault::Boolean,
@@ -37,6 +39,7 @@ impl Fault {
             Fault::MissingWord => "missing word",
             Fault::LongBytes => "free bytes over limit",
             Fault::LongBits => "bit list over limit",
+            Fault::LongList => "list over limit",
             Fault::NoOption => "no such option",
             Fault::ShortBody => "body too short",
             Fault::Boolean => "wrong boolean",
@@ -121,7 +124,13 @@ impl Walk<'_> {
             }
             Kind::Container(fields) => {
                 let values: Result<_, _> = fields.iter().map(|field| self.item(*field)).collect();
-                values.map(Value::Container)
+                values.map(Value::Row)
+            }
+            Kind::Vector(element, count) => self.elements(*element, *count).map(Value::Row),
+            // "Missing or over the limit 25 as at a leaf, before its elements."
+            Kind::List(element, limit) => {
+                let count = self.limited(*limit, Fault::LongList)?;
+                self.elements(*element, count).map(Value::Elements)
             }
             Kind::Union(options) => {
                 let selector = self.limited(options.len() as u32 - 1, Fault::NoOption)?;
@@ -129,6 +138,11 @@ impl Walk<'_> {
                 Ok(Value::Union(selector as u8, body.map(Box::new)))
             }
         }
+    }
+
+    /// Each takes a word or a byte, so that a count that is too large soon ends it.
+    fn elements(&mut self, element: Type, count: u32) -> Result<Vec<Value>, Wrong> {
+        (0..count).map(|_| self.item(element)).collect()
     }
 
     /// The next contents word, which is at most so much.

@@ -1,8 +1,8 @@
 //! The pieces of a message: whose bytes they are, and which of them a refusal is about.
 //!
 //! What is accepted is taken from the listing. In a refused message the way to the refused item is
-//! found by asking the check about each item on it alone: every container above it is sound in
-//! itself, so its fields' places are known.
+//! found by asking the check about each item on it alone: every container, list and vector above it
+//! is sound in itself, so the places of its fields or elements are known.
 
 use cartwhisker::{owners, Kind, Layout, Part, Path, Refusal, Step, Type};
 use std::ops::Range;
@@ -89,7 +89,12 @@ impl Walk<'_> {
             return self.culprit(of, bytes, path, refusal);
         }
         match self.kind(of) {
-            Kind::Container(fields) => self.fields(&fields, bytes, path),
+            Kind::Container(fields) => self.parts(&fields, bytes, path, Step::Field),
+            Kind::List(element, _) | Kind::Vector(element, _) => {
+                let count = self.layout.element_count(of, &self.message[bytes.clone()]);
+                let elements = vec![element; count.expect("a list or vector")];
+                self.parts(&elements, bytes, path, Step::Element);
+            }
             Kind::Union(options) => {
                 let selector = self.message[bytes.start];
                 self.owned(bytes.start..bytes.start + 1, Part::Selector, of, path);
@@ -102,46 +107,53 @@ impl Walk<'_> {
         }
     }
 
-    /// The fields of a container that is sound in itself.
-    fn fields(&mut self, fields: &[Type], bytes: Range<usize>, path: &Path) {
-        let heads = self.heads(fields, &bytes);
-        let offsets: Vec<usize> = fields
+    /// The fields of a container, or the elements of a list or vector, that is sound in itself.
+    fn parts(&mut self, types: &[Type], bytes: Range<usize>, path: &Path, step: fn(u32) -> Step) {
+        let heads = self.heads(types, &bytes);
+        let offsets: Vec<usize> = types
             .iter()
             .zip(&heads)
-            .filter(|(field, _)| self.layout.fixed_length(**field).is_none())
+            .filter(|(of, _)| self.layout.fixed_length(**of).is_none())
             .map(|(_, head)| bytes.start + self.offset(head.start))
             .collect();
         let mut ends = offsets.iter().skip(1).copied().chain([bytes.end]);
         let mut starts = offsets.iter().copied();
-        for (number, (field, head)) in fields.iter().zip(heads).enumerate() {
-            let path = path.with(Step::Field(number as u32));
-            if self.layout.fixed_length(*field).is_some() {
-                self.item(*field, head, &path);
+        for (number, (of, head)) in types.iter().zip(heads).enumerate() {
+            let path = path.with(step(number as u32));
+            if self.layout.fixed_length(*of).is_some() {
+                self.item(*of, head, &path);
             } else {
-                self.owned(head, Part::Offset, *field, &path);
+                self.owned(head, Part::Offset, *of, &path);
                 let (start, end) = starts.next().zip(ends.next()).expect("an offset for each");
-                self.item(*field, start..end, &path);
+                self.item(*of, start..end, &path);
             }
         }
     }
 
-    /// What each field takes in the fixed portion, whether or not the bytes are there.
-    fn heads(&self, fields: &[Type], bytes: &Range<usize>) -> Vec<Range<usize>> {
+    /// What each field or element takes in the fixed portion, whether or not the bytes are there.
+    fn heads(&self, types: &[Type], bytes: &Range<usize>) -> Vec<Range<usize>> {
         let mut start = bytes.start;
-        let mut next = |field: &Type| {
-            let head = start..start + self.layout.head(*field) as usize;
+        let mut next = |of: &Type| {
+            let head = start..start + self.layout.head(*of) as usize;
             start = head.end;
             head
         };
-        fields.iter().map(&mut next).collect()
+        types.iter().map(&mut next).collect()
     }
 
     /// The item that the refusal is about.
     fn culprit(&mut self, of: Type, bytes: Range<usize>, path: &Path, refusal: Refusal) {
         let (a, b) = (refusal.a as usize, refusal.b as usize);
         let kind = self.kind(of);
-        if let Kind::Container(fields) = &kind {
-            return self.container_culprit(of, fields, bytes, path, refusal);
+        match &kind {
+            Kind::Container(_) => return self.row_culprit(of, bytes, path, refusal),
+            Kind::List(element, _) | Kind::Vector(element, _) => {
+                return match self.layout.fixed_length(*element) {
+                    Some(_) => self.length_culprit(of, *element, bytes, path, refusal),
+                    None => self.row_culprit(of, bytes, path, refusal),
+                };
+            }
+            _ => (),
         }
         let whole = bytes.clone();
         let (text, mark) = match (&kind, refusal.number) {
@@ -205,35 +217,112 @@ impl Walk<'_> {
         self.picture.advice.push(format!("The union's selectors: {}.", told.join(", ")));
     }
 
-    /// A container whose own shape is refused: its fixed portion as far as the bytes reach.
-    fn container_culprit(
+    /// A list or vector of fixed elements whose own length or count is refused.
+    fn length_culprit(
         &mut self,
         of: Type,
-        fields: &[Type],
+        element: Type,
         bytes: Range<usize>,
         path: &Path,
         refusal: Refusal,
     ) {
-        let heads = self.heads(fields, &bytes);
-        let portion = heads.last().map_or(bytes.start, |head| head.end);
-        let a = refusal.a as usize;
+        let (length, b) = (bytes.len(), refusal.b as usize);
+        let each = self.layout.head(element) as usize;
+        let whole = length / each;
+        // How much may stay, and what the bytes behind it are.
+        let (kept, behind, text) = match (self.kind(of), refusal.number) {
+            (Kind::List(..), 1) => {
+                let cut = format!("cut after {} of {each} bytes", length % each);
+                let cut = format!("{}, {cut}", self.described(element));
+                (whole * each, path.with(Step::Element(whole as u32)), cut)
+            }
+            (_, 1) => (b.min(length), path.clone(), "behind the last element".to_string()),
+            _ => (b * each, path.clone(), format!("{} elements too many", whole - b)),
+        };
+        let middle = bytes.start + kept;
+        let first = format!("{}, not looked at", self.described(of));
+        for (part, path, text) in
+            [(bytes.start..middle, path, first), (middle..bytes.end, &behind, text)]
+        {
+            if !part.is_empty() {
+                self.push(part, Look::Unread, path, text);
+            }
+        }
+        let unit = if each == 1 { "byte" } else { "bytes" };
+        self.picture.advice.push(format!(
+            "Each element of {path} takes {each} {unit}; it has {length} bytes in all."
+        ));
+        self.picture.mark = Some(middle..bytes.end);
+    }
+
+    /// The fixed portion of a container, list or vector, as far as the bytes say what it is: its
+    /// types, and its whole length.
+    fn row(&self, of: Type, bytes: &Range<usize>, refusal: &Refusal) -> (Vec<Type>, usize) {
+        match self.kind(of) {
+            Kind::Container(fields) => {
+                let portion = fields.iter().map(|field| self.layout.head(*field) as usize).sum();
+                (fields, portion)
+            }
+            // More elements than there are bytes for are not shown.
+            Kind::Vector(element, count) => {
+                let count = count as usize;
+                (vec![element; count.min(bytes.len() / 4 + 1)], 4 * count)
+            }
+            Kind::List(element, _) => {
+                // The first offset says how many there are, unless it is bad itself.
+                let first = if bytes.len() < 4 { 0 } else { self.offset(bytes.start) };
+                let bad = matches!(refusal.number, 2 | 15) || first > bytes.len();
+                let count = if bad { 1 } else { first / 4 };
+                (vec![element; count], 4 * count)
+            }
+            _ => unreachable!("a leaf or a union has no fixed portion"),
+        }
+    }
+
+    /// A container, list or vector whose own shape is refused: its fixed portion as far as the bytes
+    /// reach.
+    fn row_culprit(&mut self, of: Type, bytes: Range<usize>, path: &Path, refusal: Refusal) {
+        let (types, portion) = self.row(of, &bytes, &refusal);
+        let heads = self.heads(&types, &bytes);
+        let portion = bytes.start + portion;
+        let (a, b) = (refusal.a as usize, refusal.b as usize);
         let mark = match refusal.number {
-            1 if refusal.a > refusal.b => portion..bytes.end,
+            1 if a > b => portion..bytes.end,
             1 => bytes.end..bytes.end,
             2 => bytes.end - a..bytes.end,
-            number => self.bad_offset(fields, &heads, number, a).unwrap_or(bytes.clone()),
+            // The offsets of the elements above the limit.
+            14 => heads[b].start..portion,
+            number => self.bad_offset(&types, &heads, number, a).unwrap_or(bytes.clone()),
         };
-        self.picture.advice.push(match refusal.number {
-            6 | 7 => format!("The container {path} has {} bytes.", bytes.len()),
-            _ => format!(
-                "The fixed portion of {path} ({}) takes {} bytes; it has {} bytes in all.",
-                self.described(of),
-                portion - bytes.start,
-                bytes.len()
-            ),
-        });
-        for (number, (field, head)) in fields.iter().zip(&heads).enumerate() {
-            let path = path.with(Step::Field(number as u32));
+        let told = self.told_of_row(of, portion - bytes.start, bytes.len(), path, &refusal);
+        self.picture.advice.push(told);
+        self.row_pieces(of, &types, &heads, bytes.clone(), path);
+        if portion < bytes.end {
+            let list = matches!(self.kind(of), Kind::List(..));
+            let what = match types.len() {
+                1 if list => "first offset",
+                _ if list => "offsets",
+                _ => "fixed portion",
+            };
+            let text = format!("behind the {what}, not looked at");
+            self.push(portion..bytes.end, Look::Unread, path, text);
+        }
+        self.picture.mark = Some(mark);
+    }
+
+    /// The parts of a fixed portion, as far as there are bytes.
+    fn row_pieces(
+        &mut self,
+        of: Type,
+        types: &[Type],
+        heads: &[Range<usize>],
+        bytes: Range<usize>,
+        path: &Path,
+    ) {
+        let container = matches!(self.kind(of), Kind::Container(_));
+        let step = if container { Step::Field } else { Step::Element };
+        for (number, (field, head)) in types.iter().zip(heads).enumerate() {
+            let path = path.with(step(number as u32));
             let there = head.start.min(bytes.end)..head.end.min(bytes.end);
             if there.is_empty() {
                 break;
@@ -252,24 +341,50 @@ impl Walk<'_> {
                 self.owned(there, Part::Offset, *field, &path);
             }
         }
-        if portion < bytes.end {
-            let text = "behind the fixed portion, not looked at".to_string();
-            self.push(portion..bytes.end, Look::Unread, path, text);
-        }
-        self.picture.mark = Some(mark);
     }
 
-    /// The offset that refusal 4, 5, 6 or 7 is about.
+    /// What helps to mend the fixed portion, so long, of an item of so many bytes.
+    fn told_of_row(
+        &self,
+        of: Type,
+        portion: usize,
+        length: usize,
+        path: &Path,
+        refusal: &Refusal,
+    ) -> String {
+        let kind = self.kind(of);
+        let noun = match kind {
+            Kind::Container(_) => "container",
+            Kind::List(..) => "list",
+            _ => "vector",
+        };
+        match (kind, refusal.number) {
+            (Kind::List(..), 14) => {
+                format!("The list {path} has {} elements and may have {}.", refusal.a, refusal.b)
+            }
+            (Kind::List(..), 2 | 15) => format!(
+                "The list {path} begins with an offset of 4 bytes for each element; it has {length} \
+                 bytes in all."
+            ),
+            (_, 6 | 7) => format!("The {noun} {path} has {length} bytes."),
+            _ => format!(
+                "The fixed portion of {path} ({}) takes {portion} bytes; it has {length} bytes in all.",
+                self.described(of)
+            ),
+        }
+    }
+
+    /// The offset that refusal 4, 5, 6, 7 or 15 is about.
     fn bad_offset(
         &self,
-        fields: &[Type],
+        types: &[Type],
         heads: &[Range<usize>],
         number: u32,
         value: usize,
     ) -> Option<Range<usize>> {
         let mut before = 0;
-        for (field, head) in fields.iter().zip(heads) {
-            if self.layout.fixed_length(*field).is_some() {
+        for (of, head) in types.iter().zip(heads) {
+            if self.layout.fixed_length(*of).is_some() {
                 continue;
             }
             let offset = self.offset(head.start);
@@ -320,7 +435,9 @@ impl Walk<'_> {
                 format!(": {}", u128::from_le_bytes(wide))
             }
             Kind::Boolean => format!(": {}", bytes[0] == 1),
-            Kind::FreeBytes(_) => format!(": {} bytes", bytes.len()),
+            Kind::FreeBytes(_) => {
+                format!(": {} byte{}", bytes.len(), if bytes.len() == 1 { "" } else { "s" })
+            }
             Kind::BitVector(bits) => format!(": {}", bits_of(bytes, bits as usize)),
             Kind::BitList(_) => {
                 let last = bytes.last().copied().unwrap_or(1);
@@ -329,6 +446,7 @@ impl Walk<'_> {
                 let noun = if bits == 1 { "bit" } else { "bits" };
                 format!(": {bits} {noun}{}{text}", if bits == 0 { "" } else { " " })
             }
+            Kind::List(..) => ": no elements".to_string(),
             _ => String::new(),
         }
     }

@@ -1,13 +1,18 @@
 //! The picture: rows of sixteen bytes in hex, under each the letters of their owners, and under
-//! those the place of a refusal; then a line for each owner.
+//! those the place of a refusal; then a line for each owner. Of a refused message the rows around
+//! that place are shown.
 
 use crate::pieces::{Look, Picture, Piece};
+use std::ops::Range;
 
 const ROW: usize = 16;
 /// Rows in a row that belong to one owner and are shown at its begin and at its end.
 const KEPT: usize = 2;
+/// Rows that are shown on each side of a refusal's place.
+const NEAR: usize = 8;
 
-/// Letters by number: a to z, then aa, ab and so on, which two columns have room for.
+/// Letters by number: a to z, then aa, ab and so on, which two columns have room for; behind zz
+/// they begin anew with aa.
 fn letters(number: usize) -> String {
     let letter = |i: usize| (b'a' + (i % 26) as u8) as char;
     match number.checked_sub(26) {
@@ -76,12 +81,18 @@ pub fn picture(message: &[u8], picture: &Picture, colours: bool) -> String {
             && near.clone().all(dull)
             && near.clone().all(|other| owner[other * ROW] == owner[row * ROW])
     };
+    let window = mark.as_ref().map_or(0..rows, |mark| {
+        (mark.start / ROW).saturating_sub(NEAR)..(mark.start / ROW + NEAR + 1).min(rows)
+    });
     let mut text = String::new();
-    let mut row = 0;
-    while row < rows {
+    if window.start > 0 {
+        text += &format!("        .. {} bytes ..\n", window.start * ROW);
+    }
+    let mut row = window.start;
+    while row < window.end {
         if hidden(row) {
             let first = row;
-            while row < rows && hidden(row) {
+            while row < window.end && hidden(row) {
                 row += 1;
             }
             let name = letters(owner[first * ROW]);
@@ -91,10 +102,24 @@ pub fn picture(message: &[u8], picture: &Picture, colours: bool) -> String {
         text += &one_row(message, &picture.pieces, &owner, row_cells(row), &marked, &ink);
         row += 1;
     }
+    if window.end < rows {
+        text += &format!("        .. {} bytes ..\n", message.len() - window.end * ROW);
+    }
     if !picture.pieces.is_empty() {
         text.push('\n');
     }
-    for (number, piece) in picture.pieces.iter().enumerate() {
+    // What has no bytes and stands behind the last row is shown with it.
+    let end = if window.end < rows { window.end * ROW } else { usize::MAX };
+    text + &lines(&picture.pieces, window.start * ROW..end, &ink)
+}
+
+/// A line for each piece that touches these bytes.
+fn lines(pieces: &[Piece], near: Range<usize>, ink: &Ink) -> String {
+    let shown = |bytes: &Range<usize>| {
+        bytes.start < near.end && (bytes.end > near.start || bytes.start >= near.start)
+    };
+    let mut text = String::new();
+    for (number, piece) in pieces.iter().enumerate().filter(|(_, piece)| shown(&piece.bytes)) {
         let name = format!("{:<3}", letters(number));
         let name = ink.paint(colour(piece.look, number), &name);
         let Piece { bytes, path, text: told, .. } = piece;
@@ -107,7 +132,7 @@ fn one_row(
     message: &[u8],
     pieces: &[Piece],
     owner: &[usize],
-    cells: std::ops::Range<usize>,
+    cells: Range<usize>,
     marked: &dyn Fn(usize) -> bool,
     ink: &Ink,
 ) -> String {
@@ -159,7 +184,7 @@ mod tests {
 
     #[test]
     fn letters_in_two_columns() {
-        let names: Vec<String> = [0, 25, 26, 51, 52, 701].into_iter().map(letters).collect();
-        assert_eq!(names, ["a", "z", "aa", "az", "ba", "zz"]);
+        let names: Vec<String> = [0, 25, 26, 51, 52, 701, 702].into_iter().map(letters).collect();
+        assert_eq!(names, ["a", "z", "aa", "az", "ba", "zz", "aa"]);
     }
 }

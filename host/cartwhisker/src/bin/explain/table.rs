@@ -17,6 +17,8 @@ pub fn described(kind: &Kind) -> String {
         Kind::Union(options) => {
             format!("union of {} option{}", options.len(), plural(options.len() as u32))
         }
+        Kind::List(_, limit) => format!("list of up to {limit} element{}", plural(*limit)),
+        Kind::Vector(_, count) => format!("vector of {count} element{}", plural(*count)),
     }
 }
 
@@ -37,6 +39,9 @@ pub fn shown(layout: &Layout) -> String {
                 };
                 let bodies: Vec<String> = options.iter().map(body).collect();
                 text += &format!(": bodies {}", bodies.join(" "));
+            }
+            Kind::List(element, _) | Kind::Vector(element, _) => {
+                text += &format!(": type {}", element.number());
             }
             _ => (),
         }
@@ -96,19 +101,20 @@ fn role(words: &[u32], bad: usize) -> String {
             return format!("starts the body of type {number}, which is word {start}");
         }
         if bad == start {
-            return if word(start) > 7 || bad >= words.len() {
-                format!("stands the kind of type {number}, 0 to 7")
-            } else {
-                format!(
-                    "stands the kind of type {number}, a container, whose fixed portion would take \
-                     more than 4294967295 bytes"
-                )
-            };
+            if word(start) > 9 || bad >= words.len() {
+                return format!("stands the kind of type {number}, 0 to 9");
+            }
+            let what = if word(start) == 6 { "container" } else { "vector" };
+            return format!(
+                "stands the kind of type {number}, a {what}, whose fixed portion would take more \
+                 than 4294967295 bytes"
+            );
         }
         let kind = word(start);
         let further = match kind {
             1 => 0,
             6 | 7 => 1 + word(start + 1) as usize,
+            8 | 9 => 2,
             _ => 1,
         };
         if bad == start + 1 && further > 0 {
@@ -119,18 +125,20 @@ fn role(words: &[u32], bad: usize) -> String {
                 4 => format!("stands the number of bits of type {number}, at least 1"),
                 5 => format!("stands the greatest number of bits of type {number}"),
                 6 => format!("stands the number of fields of type {number}, 1 to 64"),
-                _ => format!("stands the number of options of type {number}, 1 to 128"),
+                7 => format!("stands the number of options of type {number}, 1 to 128"),
+                _ => format!("stands the element of type {number}: a type below {number}"),
             };
         }
         if (start + 2..=start + further).contains(&bad) {
             let place = bad - start - 2;
-            return if kind == 6 {
-                format!("stands field {place} of type {number}: a type below {number}")
-            } else {
-                format!(
+            return match kind {
+                6 => format!("stands field {place} of type {number}: a type below {number}"),
+                7 => format!(
                     "stands option {place} of type {number}: a type below {number}, or 4294967295 \
                      for no body"
-                )
+                ),
+                8 => format!("stands the greatest count of type {number}"),
+                _ => format!("stands the count of type {number}, at least 1"),
             };
         }
         start += 1 + further;

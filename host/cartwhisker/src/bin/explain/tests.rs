@@ -136,6 +136,110 @@ fn marks_deep_inside() {
     assert_eq!(with(&[0], &[0], [0, 9]), (11, 1..2));
 }
 
+/// The bytes of a row of offsets, and of what follows them.
+fn offsets(offsets: &[u32], rest: &[u8]) -> Vec<u8> {
+    let offsets = offsets.iter().flat_map(|offset| offset.to_le_bytes());
+    offsets.chain(rest.iter().copied()).collect()
+}
+
+#[test]
+fn marks_in_a_list() {
+    let mut layout = Layout::new();
+    let note = layout.free_bytes(2);
+    layout.list(note, 3);
+    let with = |row: &[u32], rest: &[u8]| mark(&layout, &offsets(row, rest));
+    assert_eq!(with(&[], &[1, 2, 3]), (2, 0..3));
+    assert_eq!(with(&[9], &[7; 4]), (7, 0..4));
+    assert_eq!(with(&[0], &[]), (15, 0..4));
+    assert_eq!(with(&[6], &[7; 4]), (15, 0..4));
+    assert_eq!(with(&[20, 20, 20, 20, 20], &[]), (14, 12..20));
+    assert_eq!(with(&[12, 11, 12], &[]), (4, 4..8));
+    assert_eq!(with(&[12, 12, 13], &[]), (7, 8..12));
+    assert_eq!(with(&[12, 14, 13], &[7; 2]), (6, 8..12));
+    assert_eq!(with(&[12, 13, 13], &[7; 4]), (14, 15..16));
+    // All offsets come before the elements.
+    assert_eq!(with(&[12, 15, 14], &[7; 3]), (6, 8..12));
+    assert_eq!(with(&[12, 15, 15], &[7; 3]), (14, 14..15));
+
+    let mut layout = Layout::new();
+    let price = layout.number(2);
+    let prices = layout.vector(price, 2);
+    layout.list(prices, 2);
+    assert_eq!(mark(&layout, &[7; 1]), (1, 0..1));
+    assert_eq!(mark(&layout, &[7; 11]), (1, 8..11));
+    assert_eq!(mark(&layout, &[7; 16]), (14, 8..16));
+    let prices = layout.up_to(prices);
+    assert_eq!(mark(&prices, &[]), (1, 0..0));
+    assert_eq!(mark(&prices, &[7; 3]), (1, 3..3));
+    assert_eq!(mark(&prices, &[7; 9]), (1, 4..9));
+}
+
+#[test]
+fn marks_in_a_vector() {
+    let mut layout = Layout::new();
+    let yes = layout.boolean();
+    let flags = layout.list(yes, 2);
+    layout.vector(flags, 3);
+    let with = |row: &[u32], rest: &[u8]| mark(&layout, &offsets(row, rest));
+    assert_eq!(with(&[], &[]), (2, 0..0));
+    assert_eq!(with(&[6, 6], &[7]), (2, 8..9));
+    assert_eq!(with(&[9], &[7; 4]), (7, 0..4));
+    assert_eq!(with(&[12, 12, 11], &[]), (6, 8..12));
+    assert_eq!(with(&[8, 8, 8], &[]), (4, 0..4));
+    assert_eq!(with(&[13, 14, 14], &[1; 2]), (5, 0..4));
+    assert_eq!(with(&[12, 13, 15], &[1, 1, 2]), (13, 14..15));
+    assert_eq!(with(&[12, 13, 15], &[1, 1, 0, 0, 0, 0]), (14, 17..18));
+    // More elements than a message has room for.
+    let mut layout = Layout::new();
+    let note = layout.free_bytes(2);
+    layout.vector(note, (1 << 30) - 1);
+    assert_eq!(mark(&layout, &[]), (2, 0..0));
+    assert_eq!(mark(&layout, &[7, 0, 0, 0, 7, 0, 0]), (2, 4..7));
+    let text = shown(&layout, &[7, 0, 0, 0, 7, 0, 0]);
+    assert!(text.contains("message[1]: offset, cut after 3 of 4 bytes"), "{text}");
+    assert!(text.contains("takes 4294967292 bytes; it has 7 bytes in all."), "{text}");
+}
+
+/// A vector of 100 lists: it is read by the rules of a container, whose fields are at most 64.
+#[test]
+fn a_vector_of_a_hundred_variable_elements() {
+    let mut layout = Layout::new();
+    let price = layout.number(1);
+    let prices = layout.list(price, 9);
+    layout.vector(prices, 100);
+    let starts: Vec<u32> = (0..100).map(|element| 400 + 2 * element).collect();
+    let mut message = offsets(&starts, &[7; 200]);
+    let text = shown(&layout, &message);
+    assert!(text.starts_with("accepted: 600 bytes, 301 items\n"), "{text}");
+    assert!(text.contains("message[99]: offset 598"), "{text}");
+    assert!(text.contains("message[99][1]: number of 1 byte (type 0): 7"), "{text}");
+    message.extend([7; 8]);
+    assert_eq!(mark(&layout, &message), (14, 607..608));
+    message[396..400].copy_from_slice(&595_u32.to_le_bytes());
+    assert_eq!(mark(&layout, &message), (6, 396..400));
+}
+
+#[test]
+fn lists_inside_lists_and_unions() {
+    let mut layout = Layout::new();
+    let note = layout.free_bytes(2);
+    let notes = layout.list(note, 2);
+    let choice = layout.union([None, Some(notes)]);
+    let choices = layout.list(choice, 9);
+    layout.container([choices]);
+    let with = |inner: &[u8]| {
+        let mut message = offsets(&[4, 8, 9], &[0, 1]);
+        message.extend(inner);
+        message
+    };
+    let text = shown(&layout, &with(&offsets(&[8, 10], &[7; 3])));
+    assert!(text.contains("message.0[0]: selector 0, an option without body"), "{text}");
+    assert!(text.contains("message.0[1]#1[1]: free bytes up to 2 (type 0): 1 byte"), "{text}");
+    assert_eq!(mark(&layout, &with(&offsets(&[8, 10], &[7; 5]))), (14, 26..27));
+    assert_eq!(mark(&layout, &with(&offsets(&[8, 7], &[7; 5]))), (4, 18..22));
+    assert_eq!(mark(&layout, &with(&[1, 2])), (2, 14..16));
+}
+
 /// The first of two items that start at one place is empty and accepted, the second is refused.
 #[test]
 fn two_items_of_one_type_and_one_start() {
@@ -158,6 +262,45 @@ fn long_pieces_are_left_out_in_the_middle() {
     let text = shown(&layout, &message);
     assert!(text.contains("        .. 65456 bytes of b ..\n"), "{text}");
     assert!(text.lines().count() < 20);
+}
+
+#[test]
+fn a_long_refused_message_is_shown_around_its_place() {
+    let mut layout = Layout::new();
+    let transaction = layout.free_bytes(150);
+    layout.list(transaction, 200);
+    let starts: Vec<u32> = (0..200).map(|element| 800 + 150 * element).collect();
+    let mut message = offsets(&starts, &[7; 30_000]);
+    message.push(7);
+    let text = shown(&layout, &message);
+    let lines: Vec<&str> = text.lines().collect();
+    assert_eq!(lines[2], "        .. 30672 bytes ..");
+    assert!(lines.len() < 30, "{text}");
+    assert!(text.contains("^^ here"), "{text}");
+    assert!(text.contains("message[199]: free bytes up to 150 (type 0)\n"), "{text}");
+    assert!(!text.contains("offset"), "{text}");
+    // The first of all: only what is behind it is left out.
+    message[..4].fill(0);
+    let text = shown(&layout, &message);
+    assert!(text.contains("^^^^^^^^^^^ here\n"), "{text}");
+    assert!(text.contains("        .. 30657 bytes ..\n"), "{text}");
+    assert!(text.lines().count() < 60, "{text}");
+}
+
+/// Such a piece stands where a further row would begin.
+#[test]
+fn an_empty_piece_behind_a_full_row_is_shown() {
+    let mut layout = Layout::new();
+    let note = layout.free_bytes(4);
+    layout.list(note, 4);
+    let text = shown(&layout, &offsets(&[16; 4], &[]));
+    assert_eq!(text.matches("16 to 16").count(), 4, "{text}");
+    let mut message = offsets(&[32; 8], &[]);
+    let text = shown(&layout, &message);
+    assert!(text.contains("The list message has 8 elements and may have 4."), "{text}");
+    message.truncate(16);
+    message[0] = 15;
+    assert_eq!(mark(&layout, &message), (15, 0..4));
 }
 
 #[test]
@@ -193,7 +336,8 @@ fn bad_tables() {
         "Word 3 is 3. There stands the width of type 0: 1, 2, 4, 8, 16 or 32."
     );
     assert_eq!(told(&[1, 3, 1]), "Word 1 is 3. There starts the body of type 0, which is word 2.");
-    assert_eq!(told(&[1, 2, 9]), "Word 2 is 9. There stands the kind of type 0, 0 to 7.");
+    assert_eq!(told(&[1, 2, 10]), "Word 2 is 10. There stands the kind of type 0, 0 to 9.");
+    assert_eq!(told(&[1, 2]), "Word 2 is missing. There stands the kind of type 0, 0 to 9.");
     assert_eq!(
         told(&[2, 3, 4, 1, 6, 1, 1]),
         "Word 6 is 1. There stands field 0 of type 1: a type below 1."
@@ -201,6 +345,23 @@ fn bad_tables() {
     assert_eq!(told(&[1, 2, 1, 7]), "Word 3 is 7. There the table has ended already, with word 2.");
     assert!(told(&[2, 3, 5, 2, u32::MAX, 6, 2, 0, 0]).contains("whose fixed portion"));
     assert!(told(&[3, 4]).contains("stand the starts of the 3 bodies"));
+    assert_eq!(
+        told(&[2, 3, 4, 1, 8, 1, 9]),
+        "Word 5 is 1. There stands the element of type 1: a type below 1."
+    );
+    assert_eq!(
+        told(&[2, 3, 4, 1, 8, 0]),
+        "Word 6 is missing. There stands the greatest count of type 1."
+    );
+    assert_eq!(
+        told(&[2, 3, 4, 1, 9, 0, 0]),
+        "Word 6 is 0. There stands the count of type 1, at least 1."
+    );
+    assert!(told(&[2, 3, 5, 0, 2, 9, 0, 1 << 31]).contains("a vector, whose fixed portion"));
+    assert_eq!(
+        told(&[2, 3, 4, 1, 9, 0, 1, 7]),
+        "Word 7 is 7. There the table has ended already, with word 6."
+    );
     let (text, _) = explain(&[1, 0, 0, 0, 2], None, false);
     assert!(text.ends_with(
         "Word 1 is cut: only 1 of its 4 bytes are there. There every word has 4 bytes.\n"
@@ -210,6 +371,90 @@ fn bad_tables() {
         fine && text
             .contains("type 3   container of 3 fields: types 0 1 2, variable  <- the message")
     );
+}
+
+#[test]
+fn a_layout_of_lists_and_vectors() {
+    let mut layout = Layout::new();
+    let price = layout.number(8);
+    let prices = layout.vector(price, 4);
+    let list = layout.list(prices, 1);
+    layout.vector(list, 3);
+    let expected = "\
+legal layout: 4 types, 16 words
+
+  type 0   number of 8 bytes, 8 bytes
+  type 1   vector of 4 elements: type 0, 32 bytes
+  type 2   list of up to 1 element: type 1, variable
+  type 3   vector of 3 elements: type 2, variable  <- the message
+";
+    assert_eq!(explain(&layout.bytes(), None, false), (expected.to_string(), true));
+}
+
+/// A price, and transactions of a list: up to 3 of up to 4 bytes each.
+fn transactions() -> Layout {
+    let mut layout = Layout::new();
+    let (price, transaction) = (layout.number(2), layout.free_bytes(4));
+    let list = layout.list(transaction, 3);
+    layout.container([price, list]);
+    layout
+}
+
+const TRANSACTIONS: [u8; 17] = [0x2a, 0, 6, 0, 0, 0, 8, 0, 0, 0, 10, 0, 0, 0, 0xaa, 0xbb, 0xcc];
+
+#[test]
+fn a_bid_with_transactions() {
+    let expected = "\
+accepted: 17 bytes, 5 items
+
+  0000  2a 00 06 00 00 00 08 00 00 00 0a 00 00 00 aa bb
+        a---- b---------- c---------- d---------- e----
+  0010  cc
+        f-
+
+  a       0 to 2      message.0: number of 2 bytes (type 0): 42
+  b       2 to 6      message.1: offset 6
+  c       6 to 10     message.1[0]: offset 8
+  d      10 to 14     message.1[1]: offset 10
+  e      14 to 16     message.1[0]: free bytes up to 4 (type 1): 2 bytes
+  f      16 to 17     message.1[1]: free bytes up to 4 (type 1): 1 byte
+";
+    assert_eq!(shown(&transactions(), &TRANSACTIONS), expected);
+    let none = "\
+accepted: 6 bytes, 3 items
+
+  0000  2a 00 06 00 00 00
+        a---- b----------
+
+  a       0 to 2      message.0: number of 2 bytes (type 0): 42
+  b       2 to 6      message.1: offset 6
+  c       6 to 6      message.1: list of up to 3 elements (type 2): no elements
+";
+    assert_eq!(shown(&transactions(), &TRANSACTIONS[..6]), none);
+}
+
+#[test]
+fn a_first_offset_that_is_no_multiple_of_four() {
+    let mut message = TRANSACTIONS;
+    message[6] = 9;
+    let expected = "\
+refusal 15 (InvalidListFixedBytesLen) in the item of type 2 at byte 6: a list's first offset, 9, is \
+no multiple of 4; set it to 4 times the number of elements, and send no bytes for an empty list
+
+  0000  2a 00 06 00 00 00 09 00 00 00 0a 00 00 00 aa bb
+        a---- b---------- c---------- d----------------
+                          ^^^^^^^^^^^ here
+  0010  cc
+        d-
+
+  a       0 to 2      message.0: number of 2 bytes (type 0): 42
+  b       2 to 6      message.1: offset 6
+  c       6 to 10     message.1[0]: offset 9
+  d      10 to 17     message.1: behind the first offset, not looked at
+
+The list message.1 begins with an offset of 4 bytes for each element; it has 11 bytes in all.
+";
+    assert_eq!(shown(&transactions(), &message), expected);
 }
 
 /// Numbers without a visible pattern.
@@ -227,7 +472,7 @@ impl Random {
             let lower = |random: &mut Random| {
                 cartwhisker::Type::from_number(random.below(number.max(1)) as u32)
             };
-            match self.below(if number == 0 { 6 } else { 10 }) {
+            match self.below(if number == 0 { 6 } else { 14 }) {
                 0 => layout.number(1 << self.below(6)),
                 1 => layout.boolean(),
                 2 => layout.fixed_bytes(1 + self.below(4) as u32),
@@ -238,6 +483,8 @@ impl Random {
                     let fields: Vec<_> = (0..=self.below(4)).map(|_| lower(self)).collect();
                     layout.container(fields)
                 }
+                10 | 11 => layout.list(lower(self), self.below(6) as u32),
+                12 | 13 => layout.vector(lower(self), 1 + self.below(4) as u32),
                 _ => {
                     let option = |random: &mut Random| (random.below(4) > 0).then(|| lower(random));
                     let options: Vec<_> = (0..=self.below(3)).map(|_| option(self)).collect();
@@ -251,23 +498,14 @@ impl Random {
     /// Bytes that are right now and then: what is needed for a refusal to lie deep inside.
     fn message(&mut self, layout: &Layout, of: cartwhisker::Type, output: &mut Vec<u8>) {
         match layout.kind(of).unwrap().clone() {
-            cartwhisker::Kind::Container(fields) => {
-                let start = output.len();
-                let mut offsets = Vec::new();
-                for field in &fields {
-                    if layout.fixed_length(*field).is_some() {
-                        self.message(layout, *field, output);
-                    } else {
-                        offsets.push((output.len(), *field));
-                        output.extend([0; 4]);
-                    }
-                }
-                for (at, field) in offsets {
-                    let slip = self.below(50).saturating_sub(47);
-                    let offset = (output.len() - start + slip).saturating_sub(slip / 2 * 3) as u32;
-                    output[at..at + 4].copy_from_slice(&offset.to_le_bytes());
-                    self.message(layout, field, output);
-                }
+            cartwhisker::Kind::Container(fields) => self.parts(layout, &fields, output),
+            cartwhisker::Kind::List(element, limit) => {
+                let count = self.below(limit as usize + 1) + self.below(30) / 29;
+                self.parts(layout, &vec![element; count], output);
+            }
+            cartwhisker::Kind::Vector(element, count) => {
+                let count = count as usize + self.below(30) / 29;
+                self.parts(layout, &vec![element; count], output);
             }
             cartwhisker::Kind::Union(options) => {
                 let one_more = self.below(9) / 8;
@@ -286,6 +524,27 @@ impl Random {
                     output.push((byte >> self.below(5)) as u8);
                 }
             }
+        }
+    }
+}
+
+impl Random {
+    fn parts(&mut self, layout: &Layout, types: &[cartwhisker::Type], output: &mut Vec<u8>) {
+        let start = output.len();
+        let mut offsets = Vec::new();
+        for of in types {
+            if layout.fixed_length(*of).is_some() {
+                self.message(layout, *of, output);
+            } else {
+                offsets.push((output.len(), *of));
+                output.extend([0; 4]);
+            }
+        }
+        for (at, of) in offsets {
+            let slip = self.below(50).saturating_sub(47);
+            let offset = (output.len() - start + slip).saturating_sub(slip / 2 * 3) as u32;
+            output[at..at + 4].copy_from_slice(&offset.to_le_bytes());
+            self.message(layout, of, output);
         }
     }
 }
@@ -313,5 +572,5 @@ fn any_message_has_a_picture() {
         numbers.insert(told.err().map_or(0, |refusal| refusal.number));
         explain(&layout.bytes(), Some(&message), true);
     }
-    assert_eq!(numbers.into_iter().collect::<Vec<u32>>(), (0..=14).collect::<Vec<u32>>());
+    assert_eq!(numbers.into_iter().collect::<Vec<u32>>(), (0..=15).collect::<Vec<u32>>());
 }
