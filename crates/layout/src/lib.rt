@@ -219,7 +219,7 @@ fn leaf_end(lens: &mut [u32; 64], layout: &[u8], t: usize, n: Node) -> Checked
     Checked::Upto(next + 1)
 }
 
-// The fixed length of the type t: remembered below `known`, or worked out from the lower types that it names and remembered.
+// The fixed length of the type t: remembered below `known`, or worked out.
 fn fixed_len(lens: &mut [u32; 64], known: usize, layout: &[u8], t: usize) -> usize
     requires { ⌜ Known (now lens) (now layout) known × Legal (now layout) (t + 1) × (t ≤ known) × (t < 64) ⌝ }
     ensures { λ r. ⌜ Lengthened (now (layout .entry)) known t r (now (lens .exit)) ⌝ }
@@ -227,10 +227,19 @@ fn fixed_len(lens: &mut [u32; 64], known: usize, layout: &[u8], t: usize) -> usi
     if t < known {
         return lens[t] as usize;
     }
+    work_out(lens, layout, t)
+}
+
+// The fixed length of the type t, from the lower types that it names, and remembered. Apart from the look at what is remembered, which is
+// then no call.
+fn work_out(lens: &mut [u32; 64], layout: &[u8], t: usize) -> usize
+    requires { ⌜ Known (now lens) (now layout) t × Legal (now layout) (t + 1) × (t < 64) ⌝ }
+    ensures { λ r. ⌜ Lengthened (now (layout .entry)) t t r (now (lens .exit)) ⌝ }
+{
     let n = look(layout, t);
     if n.kind == 9 {
         let count = word_at(layout, n.at + 2);
-        let len = count * fixed_len(lens, known, layout, n.second);
+        let len = count * fixed_len(lens, t, layout, n.second);
         lens[t] = len as u32;
         return len;
     }
@@ -240,7 +249,7 @@ fn fixed_len(lens: &mut [u32; 64], known: usize, layout: &[u8], t: usize) -> usi
         return len;
     }
     let first = n.at + 2;
-    let sizes = fields_len(lens, known, layout, t, first, n.second);
+    let sizes = fields_len(lens, t, layout, t, first, n.second);
     let len = sizes.length;
     lens[t] = len as u32;
     len

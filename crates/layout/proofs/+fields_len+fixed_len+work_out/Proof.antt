@@ -1,4 +1,4 @@
--- The cycle of calls of `fixed_len` and `fields_len`: the type number falls. The loop keeps `Taking`. Assumes nothing.
+-- The cycle of calls of `fixed_len`, `work_out` and `fields_len`: the type number falls. The loop keeps `Taking`. Assumes nothing.
 use mathlib.Core.Path.{_≡_, refl, sym, ap, _∙_}
 use mathlib.Core.Logic.{⊎-elim}
 use Prim.Native.Nat.{_+_, _*_}
@@ -17,24 +17,30 @@ use borrow.Fn.Kinds.{In}
 use borrow.Fn.PlainCycle.{Measures, is, falls, and}
 use Rattle.layout.proofs.fields_len.Reads as fields-len
 use Rattle.layout.proofs.fields_len.Kinds as fields-len-kinds
-use Rattle.layout.proofs.+fields_len+fixed_len.Lts-fields_len as fields-len-lts
+use Rattle.layout.proofs.+fields_len+fixed_len+work_out.Lts-fields_len as fields-len-lts
 use Rattle.layout.proofs.fixed_len.Reads as fixed-len
 use Rattle.layout.proofs.fixed_len.Kinds as fixed-len-kinds
-use Rattle.layout.proofs.+fields_len+fixed_len.Lts-fixed_len as fixed-len-lts
+use Rattle.layout.proofs.+fields_len+fixed_len+work_out.Lts-fixed_len as fixed-len-lts
+use Rattle.layout.proofs.work_out.Reads as work-out
+use Rattle.layout.proofs.work_out.Kinds as work-out-kinds
+use Rattle.layout.proofs.+fields_len+fixed_len+work_out.Lts-work_out as work-out-lts
 use Rattle.layout.proofs.leaf_len.Reads as leaf-len-reads
 use Rattle.layout.proofs.look.Reads as look-reads
 use Rattle.layout.proofs.may_name.Reads as may-name-reads
 use Rattle.layout.proofs.no_fields.Reads as no-fields-reads
 use Rattle.layout.proofs.width_of.Reads as width-of-reads
 use Rattle.standard.proofs.words.word_at.Reads as word-at-reads
-use Rattle.layout.proofs.+fields_len+fixed_len.{statement}
-use Rattle.layout.proofs.+fields_len+fixed_len.Tie.{close}
+use Rattle.layout.proofs.+fields_len+fixed_len+work_out.{statement}
+use Rattle.layout.proofs.+fields_len+fixed_len+work_out.Tie.{close}
 
 abbrev μ-fields-len : Measures 2 fields-len-kinds.ps ℕ
-μ-fields-len κs a = 2 * a .1 .1 .1 .0
+μ-fields-len κs a = 3 * a .1 .1 .1 .0
 
 abbrev μ-fixed-len : Measures 2 fixed-len-kinds.ps ℕ
-μ-fixed-len κs a = 2 * a .1 .1 .1 .0 + 1
+μ-fixed-len κs a = 3 * a .1 .1 .1 .0 + 2
+
+abbrev μ-work-out : Measures 2 work-out-kinds.ps ℕ
+μ-work-out κs a = 3 * a .1 .1 .0 + 1
 
 abbrev fields-len-at : ℕ → In 2 fields-len-kinds.ps
 fields-len-at t =
@@ -51,7 +57,14 @@ abbrev fixed-len-below : ℕ → In 2 fixed-len-kinds.ps
 fixed-len-below t =
     and 2 fixed-len-kinds.ps (falls 2 fixed-len-kinds.ps _<_ μ-fixed-len t) fixed-len.Pre
 
--- what each of the two calls, at the measure t
+abbrev work-out-at : ℕ → In 2 work-out-kinds.ps
+work-out-at t = and 2 work-out-kinds.ps (is 2 work-out-kinds.ps μ-work-out t) work-out.Pre
+
+abbrev work-out-below : ℕ → In 2 work-out-kinds.ps
+work-out-below t =
+    and 2 work-out-kinds.ps (falls 2 work-out-kinds.ps _<_ μ-work-out t) work-out.Pre
+
+-- what each of the three calls, at the measure t
 abbrev fields-len-calls : ℕ → fields-len-lts.Claims
 fields-len-calls t = (
   no-fields-reads.Asked,
@@ -67,7 +80,10 @@ fields-len-calls t = (
 )
 
 abbrev fixed-len-calls : ℕ → fixed-len-lts.Claims
-fixed-len-calls t = (
+fixed-len-calls t = (work-out-below t, work-out.Post)
+
+abbrev work-out-calls : ℕ → work-out-lts.Claims
+work-out-calls t = (
   look-reads.Asked,
   look-reads.Learnt,
   word-at-reads.Asked,
@@ -250,155 +266,165 @@ fixed-len-returns t c =
     let c3 = c1 .before .before in
     record { gives = known-len _ _ _ (c3 .pre .1 .0) _ (c1 .if1 .taken); found = rw (lt-ltb _ _ (c1 .if1 .taken)) (c3 .pre .1 .0 .found) }
 
-fixed-len-look-requires : (t : ℕ) → fixed-len-lts.Need-look-requires (fixed-len-calls t) (fixed-len-at t) fixed-len.Post
-fixed-len-look-requires t c κs = search needs
-
-fixed-len-add-word-at : (t : ℕ) → fixed-len-lts.Need-add-word-at (fixed-len-calls t) (fixed-len-at t) fixed-len.Post
-fixed-len-add-word-at t c =
-    let c3 = c .before .before .before in
-    let start = c3 .before .before .before in
-    let g = legal-node _ _ _ (c3 .look .ensures) (start .pre .1 .1) in omega (arith, g .near)
-
-fixed-len-word-at-requires : (t : ℕ) → fixed-len-lts.Need-word-at-requires (fixed-len-calls t) (fixed-len-at t) fixed-len.Post
-fixed-len-word-at-requires t c κs = search needs
-
-fixed-len-fixed-len-requires : (t : ℕ) → fixed-len-lts.Need-fixed-len-requires (fixed-len-calls t) (fixed-len-at t) fixed-len.Post
-fixed-len-fixed-len-requires t c κs =
-    let c3 = c .before .before .before in
-    let c5 = c3 .before .before in
-    let start = c5 .before .before .before in
-    let h = vector-lower _ 0 _ _ (c5 .look .ensures) (start .pre .1 .1) (c3 .if2 .taken) in (
-      rw (← start .pre .0) (omega (arith, h)),
-      (
-        start .pre .1 .0,
-        legal-below _ _ _ (omega (arith, h)) (start .pre .1 .1),
-        omega (arith, h, start .pre .1 .2),
-        omega (arith, h, start .pre .1 .3),
-      ),
-    )
-
-fixed-len-mul-len : (t : ℕ) → fixed-len-lts.Need-mul-len (fixed-len-calls t) (fixed-len-at t) fixed-len.Post
-fixed-len-mul-len t c =
-    let c2 = c .before .before in
-    let c4 = c2 .before .before in
-    let c6 = c4 .before .before in
-    let start = c6 .before .before .before in
-    let small = vector-small _ 0 _ _ (c6 .look .ensures) (start .pre .1 .1) (c4 .if2 .taken) _ _ (c2 .word-at .ensures .0) (c .fixed-len .ensures .gives) in
-    omega (arith, small)
-
-fixed-len-cast-lens : (t : ℕ) → fixed-len-lts.Need-cast-lens (fixed-len-calls t) (fixed-len-at t) fixed-len.Post
-fixed-len-cast-lens t c =
-    let c2 = c .before .before in
-    let c4 = c2 .before .before in
-    let c6 = c4 .before .before in
-    let start = c6 .before .before .before in
-    let small = vector-small _ 0 _ _ (c6 .look .ensures) (start .pre .1 .1) (c4 .if2 .taken) _ _ (c2 .word-at .ensures .0) (c .fixed-len .ensures .gives) in
-    omega (arith, small)
-
-fixed-len-mul-lens : (t : ℕ) → fixed-len-lts.Need-mul-lens (fixed-len-calls t) (fixed-len-at t) fixed-len.Post
-fixed-len-mul-lens t c =
-    let start = c .before .before .before .before .before .before .before .before .before in
-    omega (arith, start .pre .1 .3)
-
-fixed-len-element-write-lens : (t : ℕ) → fixed-len-lts.Need-element-write-lens (fixed-len-calls t) (fixed-len-at t) fixed-len.Post
-fixed-len-element-write-lens t c =
-    let start = c .before .before .before .before .before .before .before .before .before in
-    start .pre .1 .3
+fixed-len-work-out-requires : (t : ℕ) → fixed-len-lts.Need-work-out-requires (fixed-len-calls t) (fixed-len-at t) fixed-len.Post
+fixed-len-work-out-requires t c κs =
+    let c1 = c .before in
+    let start = c1 .before .before in
+    let p = start .pre .1 in
+    let same : start .args .known ≡ start .args .t = omega (arith, c1 .if1 .left, p .2) in
+    (rw (← start .pre .0) (omega arith), (rw same at (p .0), p .1, p .3))
 
 fixed-len-returns-2 : (t : ℕ) → fixed-len-lts.Need-returns-2 (fixed-len-calls t) (fixed-len-at t) fixed-len.Post
 fixed-len-returns-2 t c =
     let c2 = c .before .before in
+    let start = c2 .before .before in
+    let same : start .args .known ≡ start .args .t = omega (arith, c2 .if1 .left, start .pre .1 .2) in
+    rw same (c .work-out .ensures)
+
+work-out-look-requires : (t : ℕ) → work-out-lts.Need-look-requires (work-out-calls t) (work-out-at t) work-out.Post
+work-out-look-requires t c κs = search needs
+
+work-out-add-word-at : (t : ℕ) → work-out-lts.Need-add-word-at (work-out-calls t) (work-out-at t) work-out.Post
+work-out-add-word-at t c =
+    let c3 = c .before .before .before in
+    let start = c3 .before .before in
+    let g = legal-node _ _ _ (c3 .look .ensures) (start .pre .1 .1) in omega (arith, g .near)
+
+work-out-word-at-requires : (t : ℕ) → work-out-lts.Need-word-at-requires (work-out-calls t) (work-out-at t) work-out.Post
+work-out-word-at-requires t c κs = search needs
+
+work-out-fixed-len-requires : (t : ℕ) → work-out-lts.Need-fixed-len-requires (work-out-calls t) (work-out-at t) work-out.Post
+work-out-fixed-len-requires t c κs =
+    let c3 = c .before .before .before in
+    let c5 = c3 .before .before in
+    let start = c5 .before .before in
+    let h = vector-lower _ 0 _ _ (c5 .look .ensures) (start .pre .1 .1) (c3 .if1 .taken) in (
+      rw (← start .pre .0) (omega (arith, h)),
+      (
+        start .pre .1 .0,
+        legal-below _ _ _ (omega (arith, h)) (start .pre .1 .1),
+        omega (arith, h),
+        omega (arith, h, start .pre .1 .2),
+      ),
+    )
+
+work-out-mul-len : (t : ℕ) → work-out-lts.Need-mul-len (work-out-calls t) (work-out-at t) work-out.Post
+work-out-mul-len t c =
+    let c2 = c .before .before in
     let c4 = c2 .before .before in
     let c6 = c4 .before .before in
-    let start = c6 .before .before .before in
-    let c7 = c6 .before in
-    vector-found _ _ _ _ (c6 .look .ensures) (start .pre .1 .1) (c4 .if2 .taken) _ _ (c2 .word-at .ensures .0) (c .fixed-len .ensures .gives) _
-    (c .fixed-len .ensures .found) (start .pre .1 .2) (c7 .if1 .left) (start .pre .1 .3)
+    let start = c6 .before .before in
+    let small = vector-small _ 0 _ _ (c6 .look .ensures) (start .pre .1 .1) (c4 .if1 .taken) _ _ (c2 .word-at .ensures .0) (c .fixed-len .ensures .gives) in
+    omega (arith, small)
 
-fixed-len-leaf-len-requires : (t : ℕ) → fixed-len-lts.Need-leaf-len-requires (fixed-len-calls t) (fixed-len-at t) fixed-len.Post
-fixed-len-leaf-len-requires t c κs =
+work-out-cast-lens : (t : ℕ) → work-out-lts.Need-cast-lens (work-out-calls t) (work-out-at t) work-out.Post
+work-out-cast-lens t c =
+    let c2 = c .before .before in
+    let c4 = c2 .before .before in
+    let c6 = c4 .before .before in
+    let start = c6 .before .before in
+    let small = vector-small _ 0 _ _ (c6 .look .ensures) (start .pre .1 .1) (c4 .if1 .taken) _ _ (c2 .word-at .ensures .0) (c .fixed-len .ensures .gives) in
+    omega (arith, small)
+
+work-out-mul-lens : (t : ℕ) → work-out-lts.Need-mul-lens (work-out-calls t) (work-out-at t) work-out.Post
+work-out-mul-lens t c =
+    let start = c .before .before .before .before .before .before .before .before in
+    omega (arith, start .pre .1 .2)
+
+work-out-element-write-lens : (t : ℕ) → work-out-lts.Need-element-write-lens (work-out-calls t) (work-out-at t) work-out.Post
+work-out-element-write-lens t c =
+    let start = c .before .before .before .before .before .before .before .before in
+    start .pre .1 .2
+
+work-out-returns : (t : ℕ) → work-out-lts.Need-returns (work-out-calls t) (work-out-at t) work-out.Post
+work-out-returns t c =
+    let c2 = c .before .before in
+    let c4 = c2 .before .before in
+    let c6 = c4 .before .before in
+    let start = c6 .before .before in
+    vector-found _ _ _ _ (c6 .look .ensures) (start .pre .1 .1) (c4 .if1 .taken) _ _ (c2 .word-at .ensures .0) (c .fixed-len .ensures .gives) _
+    (c .fixed-len .ensures .found) (omega arith) (omega arith) (start .pre .1 .2)
+
+work-out-leaf-len-requires : (t : ℕ) → work-out-lts.Need-leaf-len-requires (work-out-calls t) (work-out-at t) work-out.Post
+work-out-leaf-len-requires t c κs =
     let c4 = c .before .before .before .before in
-    let start = c4 .before .before .before in
+    let start = c4 .before .before in
     legal-node _ _ _ (c4 .look .ensures) (start .pre .1 .1) .small
 
-fixed-len-cast-lens-2 : (t : ℕ) → fixed-len-lts.Need-cast-lens-2 (fixed-len-calls t) (fixed-len-at t) fixed-len.Post
-fixed-len-cast-lens-2 t c =
+work-out-cast-lens-2 : (t : ℕ) → work-out-lts.Need-cast-lens-2 (work-out-calls t) (work-out-at t) work-out.Post
+work-out-cast-lens-2 t c =
     let c1 = c .before in
     let c3 = c1 .before .before in
     let c5 = c3 .before .before in
-    let c6 = c5 .before in
-    let start = c6 .before .before in
+    let start = c5 .before .before in
     let g = legal-node _ _ _ (c5 .look .ensures) (start .pre .1 .1) in
-    let e = c .leaf-len .ensures ∙ leaf-length _ _ _ (c5 .look .ensures) (below-nine _ (g .known) (c3 .if2 .left)) (c1 .if3 .taken) in
+    let e = c .leaf-len .ensures ∙ leaf-length _ _ _ (c5 .look .ensures) (below-nine _ (g .known) (c3 .if1 .left)) (c1 .if2 .taken) in
     omega (arith, e, len-small _ _ (legal-node _ _ _ refl (start .pre .1 .1)))
 
-fixed-len-mul-lens-2 : (t : ℕ) → fixed-len-lts.Need-mul-lens-2 (fixed-len-calls t) (fixed-len-at t) fixed-len.Post
-fixed-len-mul-lens-2 t c =
-    let start = c .before .before .before .before .before .before .before .before in
-    omega (arith, start .pre .1 .3)
+work-out-mul-lens-2 : (t : ℕ) → work-out-lts.Need-mul-lens-2 (work-out-calls t) (work-out-at t) work-out.Post
+work-out-mul-lens-2 t c =
+    let start = c .before .before .before .before .before .before .before in
+    omega (arith, start .pre .1 .2)
 
-fixed-len-element-write-lens-2 : (t : ℕ) → fixed-len-lts.Need-element-write-lens-2 (fixed-len-calls t) (fixed-len-at t) fixed-len.Post
-fixed-len-element-write-lens-2 t c =
-    let start = c .before .before .before .before .before .before .before .before in
-    start .pre .1 .3
+work-out-element-write-lens-2 : (t : ℕ) → work-out-lts.Need-element-write-lens-2 (work-out-calls t) (work-out-at t) work-out.Post
+work-out-element-write-lens-2 t c =
+    let start = c .before .before .before .before .before .before .before in
+    start .pre .1 .2
 
-fixed-len-returns-3 : (t : ℕ) → fixed-len-lts.Need-returns-3 (fixed-len-calls t) (fixed-len-at t) fixed-len.Post
-fixed-len-returns-3 t c =
+work-out-returns-2 : (t : ℕ) → work-out-lts.Need-returns-2 (work-out-calls t) (work-out-at t) work-out.Post
+work-out-returns-2 t c =
     let c1 = c .before in
     let c3 = c1 .before .before in
     let c5 = c3 .before .before in
-    let c6 = c5 .before in
-    let start = c6 .before .before in
+    let start = c5 .before .before in
     let g = legal-node _ _ _ (c5 .look .ensures) (start .pre .1 .1) in
-    let e = c .leaf-len .ensures ∙ leaf-length _ _ _ (c5 .look .ensures) (below-nine _ (g .known) (c3 .if2 .left)) (c1 .if3 .taken) in
-    lengthened _ _ _ _ _ (start .pre .1 .0 .found) (start .pre .1 .2) (c6 .if1 .left) (start .pre .1 .3) e
+    let e = c .leaf-len .ensures ∙ leaf-length _ _ _ (c5 .look .ensures) (below-nine _ (g .known) (c3 .if1 .left)) (c1 .if2 .taken) in
+    lengthened _ _ _ _ _ (start .pre .1 .0 .found) (omega arith) (omega arith) (start .pre .1 .2) e
 
-fixed-len-add-first : (t : ℕ) → fixed-len-lts.Need-add-first (fixed-len-calls t) (fixed-len-at t) fixed-len.Post
-fixed-len-add-first t c =
+work-out-add-first : (t : ℕ) → work-out-lts.Need-add-first (work-out-calls t) (work-out-at t) work-out.Post
+work-out-add-first t c =
     let c5 = c .before .before .before .before .before in
-    let start = c5 .before .before .before in
+    let start = c5 .before .before in
     let g = legal-node _ _ _ (c5 .look .ensures) (start .pre .1 .1) in omega (arith, g .near)
 
-fixed-len-fields-len-requires : (t : ℕ) → fixed-len-lts.Need-fields-len-requires (fixed-len-calls t) (fixed-len-at t) fixed-len.Post
-fixed-len-fields-len-requires t c κs =
+work-out-fields-len-requires : (t : ℕ) → work-out-lts.Need-fields-len-requires (work-out-calls t) (work-out-at t) work-out.Post
+work-out-fields-len-requires t c κs =
     let c2 = c .before .before in
     let c6 = c2 .before .before .before .before in
-    let start = c6 .before .before .before in
+    let start = c6 .before .before in
     let g = legal-node _ _ _ (c6 .look .ensures) (start .pre .1 .1) in
-    (rw (← start .pre .0) (omega arith), (start .pre .1 .0, start .pre .1 .2, g .few (c2 .if3 .left), omega (arith, g .near)))
+    (rw (← start .pre .0) (omega arith), (start .pre .1 .0, omega arith, g .few (c2 .if2 .left), omega (arith, g .near)))
 
-fixed-len-cast-lens-3 : (t : ℕ) → fixed-len-lts.Need-cast-lens-3 (fixed-len-calls t) (fixed-len-at t) fixed-len.Post
-fixed-len-cast-lens-3 t c =
+work-out-cast-lens-3 : (t : ℕ) → work-out-lts.Need-cast-lens-3 (work-out-calls t) (work-out-at t) work-out.Post
+work-out-cast-lens-3 t c =
     let c3 = c .before .before .before in
     let c7 = c3 .before .before .before .before in
-    let c8 = c7 .before in
-    let start = c8 .before .before in
+    let start = c7 .before .before in
     let g = legal-node _ _ _ (c7 .look .ensures) (start .pre .1 .1) in
-    let e = sizes-len _ _ _ _ _ (c7 .look .ensures) (c3 .if3 .left) (c .fields-len .ensures .0) (legal-refs _ _ _ g (c3 .if3 .left)) in
+    let e = sizes-len _ _ _ _ _ (c7 .look .ensures) (c3 .if2 .left) (c .fields-len .ensures .0) (legal-refs _ _ _ g (c3 .if2 .left)) in
     omega (arith, e, len-small _ _ (legal-node _ _ _ refl (start .pre .1 .1)))
 
-fixed-len-mul-lens-3 : (t : ℕ) → fixed-len-lts.Need-mul-lens-3 (fixed-len-calls t) (fixed-len-at t) fixed-len.Post
-fixed-len-mul-lens-3 t c =
-    let start = c .before .before .before .before .before .before .before .before .before .before in
-    omega (arith, start .pre .1 .3)
+work-out-mul-lens-3 : (t : ℕ) → work-out-lts.Need-mul-lens-3 (work-out-calls t) (work-out-at t) work-out.Post
+work-out-mul-lens-3 t c =
+    let start = c .before .before .before .before .before .before .before .before .before in
+    omega (arith, start .pre .1 .2)
 
-fixed-len-element-write-lens-3 : (t : ℕ) → fixed-len-lts.Need-element-write-lens-3 (fixed-len-calls t) (fixed-len-at t) fixed-len.Post
-fixed-len-element-write-lens-3 t c =
-    let start = c .before .before .before .before .before .before .before .before .before .before in
-    start .pre .1 .3
+work-out-element-write-lens-3 : (t : ℕ) → work-out-lts.Need-element-write-lens-3 (work-out-calls t) (work-out-at t) work-out.Post
+work-out-element-write-lens-3 t c =
+    let start = c .before .before .before .before .before .before .before .before .before in
+    start .pre .1 .2
 
-fixed-len-returns-4 : (t : ℕ) → fixed-len-lts.Need-returns-4 (fixed-len-calls t) (fixed-len-at t) fixed-len.Post
-fixed-len-returns-4 t c =
+work-out-returns-3 : (t : ℕ) → work-out-lts.Need-returns-3 (work-out-calls t) (work-out-at t) work-out.Post
+work-out-returns-3 t c =
     let c3 = c .before .before .before in
     let c7 = c3 .before .before .before .before in
-    let c8 = c7 .before in
-    let start = c8 .before .before in
+    let start = c7 .before .before in
     let g = legal-node _ _ _ (c7 .look .ensures) (start .pre .1 .1) in
-    let e = sizes-len _ _ _ _ _ (c7 .look .ensures) (c3 .if3 .left) (c .fields-len .ensures .0) (legal-refs _ _ _ g (c3 .if3 .left)) in
-    lengthened _ _ _ _ _ (c .fields-len .ensures .1 ∙ start .pre .1 .0 .found) (start .pre .1 .2) (c8 .if1 .left) (start .pre .1 .3) e
+    let e = sizes-len _ _ _ _ _ (c7 .look .ensures) (c3 .if2 .left) (c .fields-len .ensures .0) (legal-refs _ _ _ g (c3 .if2 .left)) in
+    lengthened _ _ _ _ _ (c .fields-len .ensures .1 ∙ start .pre .1 .0 .found) (omega arith) (omega arith) (start .pre .1 .2) e
 
-pub +fields-len+fixed-len-spec : {M : Type 1} → statement M
-+fields-len+fixed-len-spec = close μ-fields-len μ-fixed-len (λ t. fields-len-lts.spec (fields-len-calls t)
+pub +fields-len+fixed-len+work-out-spec : {M : Type 1} → statement M
++fields-len+fixed-len+work-out-spec = close μ-fields-len μ-fixed-len μ-work-out (λ t. fields-len-lts.spec (fields-len-calls t)
     (fields-len-at t)
     fields-len.Post
     fields-len-Inv-loop
@@ -419,30 +445,35 @@ pub +fields-len+fixed-len-spec : {M : Type 1} → statement M
     (fields-len-loop-again t)
     (fields-len-returns-3 t)
     (fields-len-returns-4 t))
-    λ t. fixed-len-lts.spec (fixed-len-calls t)
+    (λ t. fixed-len-lts.spec (fixed-len-calls t)
     (fixed-len-at t)
     fixed-len.Post
     (fixed-len-mul-result t)
     (fixed-len-element-copy-out-result t)
     (fixed-len-cast-result t)
     (fixed-len-returns t)
-    (fixed-len-look-requires t)
-    (fixed-len-add-word-at t)
-    (fixed-len-word-at-requires t)
-    (fixed-len-fixed-len-requires t)
-    (fixed-len-mul-len t)
-    (fixed-len-cast-lens t)
-    (fixed-len-mul-lens t)
-    (fixed-len-element-write-lens t)
-    (fixed-len-returns-2 t)
-    (fixed-len-leaf-len-requires t)
-    (fixed-len-cast-lens-2 t)
-    (fixed-len-mul-lens-2 t)
-    (fixed-len-element-write-lens-2 t)
-    (fixed-len-returns-3 t)
-    (fixed-len-add-first t)
-    (fixed-len-fields-len-requires t)
-    (fixed-len-cast-lens-3 t)
-    (fixed-len-mul-lens-3 t)
-    (fixed-len-element-write-lens-3 t)
-    (fixed-len-returns-4 t)
+    (fixed-len-work-out-requires t)
+    (fixed-len-returns-2 t))
+    λ t. work-out-lts.spec (work-out-calls t)
+    (work-out-at t)
+    work-out.Post
+    (work-out-look-requires t)
+    (work-out-add-word-at t)
+    (work-out-word-at-requires t)
+    (work-out-fixed-len-requires t)
+    (work-out-mul-len t)
+    (work-out-cast-lens t)
+    (work-out-mul-lens t)
+    (work-out-element-write-lens t)
+    (work-out-returns t)
+    (work-out-leaf-len-requires t)
+    (work-out-cast-lens-2 t)
+    (work-out-mul-lens-2 t)
+    (work-out-element-write-lens-2 t)
+    (work-out-returns-2 t)
+    (work-out-add-first t)
+    (work-out-fields-len-requires t)
+    (work-out-cast-lens-3 t)
+    (work-out-mul-lens-3 t)
+    (work-out-element-write-lens-3 t)
+    (work-out-returns-3 t)
