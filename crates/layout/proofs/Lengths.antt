@@ -9,7 +9,7 @@ use native.Mathlib.Numerals.{add-one}
 use native.Mathlib.Omega.{arith}
 use borrow.Author.Tests.{lt-ltb, le-ltb, lt-leb, le-leb, ne-eqb}
 use lib.ListN.{getD, set}
-use lib.Dec.{ltb, leb}
+use lib.Dec.{eqb, ltb, leb}
 use Rattle.layout.specs.Table.{count, mayName, refs, counted, vectorEnd}
 use Rattle.standard.specs.Choice.{pick}
 use Rattle.standard.specs.Bytes.{wordAt}
@@ -17,7 +17,7 @@ use Rattle.standard.specs.Types.{Ty, Tys, boolean, end, field, head, headAll, h
 use Rattle.standard.specs.declared.Head.{Head}
 use Rattle.standard.specs.declared.Head.the-variants.{Fixed, Variable}
 use Rattle.standard.proofs.Laws.{fixed-some}
-use Rattle.layout.specs.Tree.{nodeOf, fields, trees, treeOf, lenOf, headOf, filled}
+use Rattle.layout.specs.Tree.{nodeOf, leafOf, fields, trees, treeOf, lenOf, headOf, filled}
 use Rattle.layout.specs.Legal.{LegalNode, Legal}
 use Rattle.layout.specs.Steps.{Known, leafLen, sizesOf, Lengthened, Ended}
 use Rattle.layout.specs.declared.Node.{Node}
@@ -208,6 +208,19 @@ module _ (l : List ℕ) (t at : ℕ) (w : at ≡ wordAt l (1 + t)) where
   pub leaf-found : (k m v : ℕ) (lens : List ℕ) → k ≡ wordAt l at → m ≡ wordAt l (at + 1) → k ≤ 8 → (k ≡ 6 → ⊥) →
       v ≡ leafLen (record { kind = k; at = at; second = m }) → lens ≡ filled l t → t < 64 → set lens t v ≡ filled l (t + 1)
   leaf-found k m v lens p q i z h f b = found-set l t v lens f b (h ∙ leaf-length l t _ (node-here k m p q) i z)
+
+  -- A boolean's length, a union's and a list's are not said by a further word.
+  pub one-found : (lens : List ℕ) → wordAt l at ≡ 1 → lens ≡ filled l t → t < 64 → set lens t 1 ≡ filled l (t + 1)
+  unfolding leafOf head
+  one-found lens h f b =
+      leaf-found (wordAt l at) (wordAt l (at + 1)) 1 lens refl refl (omega (arith, h)) (λ (q : wordAt l at ≡ 6). omega (arith, h)) (rw h) f b
+
+  pub none-found : (lens : List ℕ) → 7 ≤ wordAt l at → wordAt l at ≤ 8 → lens ≡ filled l t → t < 64 → set lens t 0 ≡ filled l (t + 1)
+  unfolding leafOf head
+  none-found lens i h f b =
+      let not : (m : ℕ) → m < 7 → eqb (wordAt l at) m ≡ false = λ m u. ne-eqb (wordAt l at) m (λ (q : wordAt l at ≡ m). omega arith) in
+      leaf-found (wordAt l at) (wordAt l (at + 1)) 0 lens refl refl h (λ (q : wordAt l at ≡ 6). omega arith)
+      (rw (not 0 (omega arith), not 1 (omega arith), not 2 (omega arith), not 3 (omega arith), not 4 (omega arith))) f b
 
 -- The vector t at the word at, whose element f is known: what n elements take of a fixed portion, and how long they are.
 module _ (lens l : List ℕ) (t at e n f : ℕ) (g : Known lens l t) (r : Upto e ≡ refs l t false (at + 1) 1) (k : Upto n ≡ counted l (at + 1) 4294967295)

@@ -39,8 +39,9 @@ pub known-length : (lens l : List ℕ) (k : ℕ) → Known lens l k → length l
 known-length lens l k g = ap length (g .found) ∙ length-filled l k (g .few)
 
 -- A leaf's kind is no list's and no vector's; a kind that is no vector's is at most a list's.
-pub leaf-kind : (k : ℕ) → k < 6 → (eqb k 8 ≡ false) × (eqb k 9 ≡ false)
-leaf-kind k h = (ne-eqb k 8 (λ (q : k ≡ 8). omega arith), ne-eqb k 9 (λ (q : k ≡ 9). omega arith))
+pub leaf-kind : (k : ℕ) → k < 6 → (eqb k 7 ≡ false) × (eqb k 8 ≡ false) × (eqb k 9 ≡ false)
+leaf-kind k h =
+    (ne-eqb k 7 (λ (q : k ≡ 7). omega arith), ne-eqb k 8 (λ (q : k ≡ 8). omega arith), ne-eqb k 9 (λ (q : k ≡ 9). omega arith))
 
 pub below-nine : (k : ℕ) → k ≤ 9 → (k ≡ 9 → ⊥) → k ≤ 8
 below-nine k h n = omega arith

@@ -20,16 +20,6 @@ pub record Known (lens l : List ℕ) (k : ℕ) : Type 0 where
   pub legal : Legal l k
   pub few : k ≤ 64
 
--- The types below t are known, and the table says n of the type t.
-pub record Begun (lens l : List ℕ) (t : ℕ) (n : Node) : Type 0 where
-  pub known : Known lens l t
-  pub few : t < 64
-  pub near : n .at < 2 ^ 32
-  pub start : n .at ≡ wordAt l (1 + t)
-  pub kind : n .kind ≡ wordAt l (n .at)
-  pub second : n .second ≡ wordAt l (n .at + 1)
-  pub small : n .second < 2 ^ 32
-
 -- The fixed length of a type that is no container and no vector
 abbrev pub leafLen : Node → ℕ
 leafLen n = lenOf (head (leafOf 0 n))

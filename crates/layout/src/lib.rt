@@ -13,7 +13,7 @@ ghost use Rattle.layout.specs.Tree.{nodeOf, fields, trees, headOf};
 ghost use Rattle.layout.specs.Table.{count, mayName, refs, counted, many, containerEnd, listEnd, vectorEnd, leafWord, leafEnd, bodyEnd, typesEnd, typesOf, tableOf, lengthsOf, toldOf};
 ghost use Rattle.layout.specs.declared.Checked.the-variants.{Bad};
 ghost use Rattle.layout.specs.Legal.{Legal};
-ghost use Rattle.layout.specs.Steps.{Known, Begun, leafLen, sizesOf, Lengthened, Ended, Typed, Tabled};
+ghost use Rattle.layout.specs.Steps.{Known, leafLen, sizesOf, Lengthened, Ended, Typed, Tabled};
 
 // What stands in an option's place where it has no body.
 pub const NO_BODY: usize = 4294967295;
@@ -202,19 +202,21 @@ fn keep(lens: &mut [u32; 64], t: usize, n: Node)
 }
 
 // A leaf with one word behind its kind; its length goes to `lens`.
-fn leaf_end(lens: &mut [u32; 64], layout: &[u8], t: usize, n: Node) -> Checked
-    requires { ⌜ Begun (now lens) (now layout) t n × (n .kind < 6) ⌝ }
-    ensures { λ r. ⌜ Ended (now (layout .entry)) t (leafEnd (now (layout .entry)) (n .at)) r (now (lens .exit)) ⌝ }
+fn leaf_end(lens: &mut [u32; 64], layout: &[u8], t: usize, kind: usize, at: usize) -> Checked
+    requires { ⌜ Known (now lens) (now layout) t × (t < 64) × (at < 2 ^ 32) × (at ≡ wordAt (now layout) (1 + t)) × (kind ≡ wordAt (now layout) at) × (kind < 6) ⌝ }
+    ensures { λ r. ⌜ Ended (now (layout .entry)) t (leafEnd (now (layout .entry)) at) r (now (lens .exit)) ⌝ }
 {
     let words = layout.len() / 4;
-    let next = n.at + 1;
+    let next = at + 1;
     if next >= words {
         return Checked::Bad(words);
     }
-    let ok = leaf_ok(n.kind, n.second);
+    let second = word_in(layout, next);
+    let ok = leaf_ok(kind, second);
     if !ok {
         return Checked::Bad(next);
     }
+    let n = Node { kind, at, second };
     keep(lens, t, n);
     Checked::Upto(next + 1)
 }
@@ -389,26 +391,23 @@ fn body_end(lens: &mut [u32; 64], layout: &[u8], t: usize, at: usize) -> Checked
     if at >= words {
         return Checked::Bad(words);
     }
-    let kind = word_at(layout, at);
+    let kind = word_in(layout, at);
     if kind == 6 {
         return container_end(lens, layout, t, at);
     }
-    let second = word_at(layout, at + 1);
-    let n = Node { kind, at, second };
-    if kind == 7 {
-        keep(lens, t, n);
-        return union_end(layout, t, at);
-    }
     if kind == 1 {
-        keep(lens, t, n);
+        lens[t] = 1;
         return Checked::Upto(at + 1);
     }
     if kind < 6 {
-        return leaf_end(lens, layout, t, n);
+        return leaf_end(lens, layout, t, kind, at);
     }
-    // behind the leaves, which a table has most of
+    if kind == 7 {
+        lens[t] = 0;
+        return union_end(layout, t, at);
+    }
     if kind == 8 {
-        keep(lens, t, n);
+        lens[t] = 0;
         return list_end(layout, t, at);
     }
     if kind == 9 {
