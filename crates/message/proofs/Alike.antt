@@ -1,15 +1,16 @@
 -- Lists and vectors: what their steps give is what the rules of reading say. Assumes nothing.
---     plain-row            elements that are numbers or fixed bytes and lie as they should are accepted: their number and bytes are all that counts
+--     row-found            elements that are numbers or fixed bytes and lie as they should are accepted: their number and bytes are all that counts
 --     told-..              what is found of a vector
 --     vector-.., list-..   what is asked of the elements then, and the answer
 use mathlib.Core.Path.{_≡_, refl, sym, ap, _∙_}
 use mathlib.Core.List.{List}
-use mathlib.Core.Bool.{true}
+use mathlib.Core.Bool.{Bool, true, false}
 use Prim.Native.Nat.{ℕ, zero, suc, _+_, _-_, _*_, _≤_, _<_, _^_}
-use native.Mathlib.Nat.{zero-add}
+use native.Mathlib.Nat.{zero-add, add-zero}
 use native.Mathlib.Omega.{arith}
 use borrow.Author.Tests.{eq-eqb, ne-eqb}
 use lib.ListN.{length, getD, take, drop, replicate, length-take, length-drop}
+use Rattle.standard.specs.Choice.{pick}
 use Rattle.standard.specs.Bytes.{wordAt}
 use Rattle.standard.specs.Types.{Ty, head, width}
 use Rattle.standard.specs.declared.Head.the-variants.{Fixed}
@@ -20,18 +21,17 @@ use Rattle.decode.specs.Builder.{layOut}
 use Rattle.layout.specs.Tree.{nodeOf, treeOf, headOf}
 use Rattle.layout.specs.declared.Node.{Node}
 use Rattle.message.specs.Read.{one, plus, andThen, elements, vectorTold, readExact, readItem, readFields}
-use Rattle.message.specs.Steps.{Under, Row, Alike, rowOf, headsOf, isPlain, Small, oneWord}
-use Rattle.message.specs.declared.Counts.{Counts}
+use Rattle.message.specs.Steps.{Under, Row, Alike, Found, rowOf, headsOf, isPlain}
+use Rattle.message.specs.declared.items.Inside.{Inside}
 use Rattle.message.specs.declared.elements.Elements.{Elements}
 use Rattle.message.specs.declared.elements.Elements.the-variants.{Many}
 use Rattle.message.specs.declared.Answer.the-variants.{Accepted, Refused}
 use Rattle.message.proofs.Answers.{single, then-accepts}
 use Rattle.message.proofs.Rows.{under-head}
 use Rattle.message.proofs.Copies.{Laid, laid-fixed, vector-laid, elements-laid}
-use Rattle.message.proofs.Counting.{one-word}
 use Rattle.message.proofs.Repeats.{else-list, shared-copies, shared-heads, node-legal, element-below, element-word, element-head, element-heads}
 use Rattle.message.proofs.Repeats.{element-some, element-row, list-read, vector-read}
-use Rattle.message.proofs.Bodies.{plain-type, exact-read, item-small}
+use Rattle.message.proofs.Bodies.{plain-type, exact-read}
 
 -- n elements of k bytes, of which only the length is asked
 plain-each :
@@ -64,8 +64,18 @@ module _ (lens l : List ℕ) (t at m e : ℕ) (b : List ℕ) (g : Alike lens l t
       let x = plain-type l e d i k in
       rw (shared-copies l t at e (g .shared) (g .lower) m, w) (plain-each (treeOf l e) (d .second) e (x .0) (x .1) m b 0 s (omega arith))
 
-  pub plain-row : (s : ℕ) → Accepted (record { records = 1 + m; words = 0; bytes = length b }) ≡ andThen (one 0 0) (readFields (rowOf l t at 0 m) b 0 s)
-  plain-row s = rw (plain-read s) (simp zero-add)
+-- What is found of m elements in an item with `own` contents words: all of it, where they are numbers or fixed bytes.
+module _ (lens l : List ℕ) (t at m e own : ℕ) (b : List ℕ) (g : Alike lens l t at m e b) (o : own ≤ 1)
+    (same : (s : ℕ) → andThen (one own 0) (readFields (rowOf l t at 0 m) b 0 s) ≡ readItem (treeOf l t) b s) where
+  plain-found : (k : isPlain (nodeOf l e .kind) ≡ true) (s : ℕ) → Accepted (record { records = 1 + m; words = own; bytes = length b }) ≡ readItem (treeOf l t) b s
+  plain-found k s = sym (simp (zero-add, add-zero)) ∙ rw (plain-read lens l t at m e b g (nodeOf l e) refl k s) at (same s)
+
+  pub row-found : Found lens l t b (pick (isPlain (nodeOf l e .kind)) (Inside.Counted (1 + m) own) (Inside.Fields at 0 m own))
+  row-found = go (isPlain (nodeOf l e .kind)) refl
+    where
+      go : (c : Bool) → isPlain (nodeOf l e .kind) ≡ c → Found lens l t b (pick c (Inside.Counted (1 + m) own) (Inside.Fields at 0 m own))
+      go true k = plain-found k
+      go false k = (g .row, g .ranges, o, same)
 
 -- What is found of a vector, by the length k of its elements.
 module _ (lens l : List ℕ) (t at n e : ℕ) (g : Row lens l t at 0 n) (q : e ≡ wordAt l at) (h : e < t) (k : ℕ) (i : k ≡ getD lens e 0) where
@@ -122,13 +132,5 @@ module _ (lens l : List ℕ) (t : ℕ) (n : Node) (e : n ≡ nodeOf l t) (g : Un
           let x = elements-laid (head (treeOf l (n .second))) (wordAt l (n .at + 2)) b m (element-some lens l t n e g k) (sym (d ∙ list-says)) in
           elements-alike m b (omega (arith, x .1)) (x .0)
 
-      pub list-on : (s : ℕ) → oneWord (andThen (one 0 0) (readFields (rowOf l t (n .at + 1) 0 m) b 0 s)) ≡ readItem (treeOf l t) b s
-      list-on s = one-word (readFields (rowOf l t (n .at + 1) 0 m) b 0 s) ∙ rw (list-read lens l t n e g k (else-list lens l t n e g k q) b s, ← (d ∙ list-says))
-
-      -- what its elements count
-      pub list-small :
-          (s : ℕ) → length b < 2 ^ 32 → (c : Counts)
-          → Accepted c ≡ andThen (one 0 0) (readFields (rowOf l t (n .at + 1) 0 m) b 0 s) → Small c (2 ^ 50)
-      list-small s h c o =
-          let x = item-small lens l t b s _ g h (ap oneWord o ∙ list-on s) in
-          record { records = omega (arith, x .records); words = omega (arith, x .words); bytes = omega (arith, x .bytes) }
+      pub list-on : (s : ℕ) → andThen (one 1 0) (readFields (rowOf l t (n .at + 1) 0 m) b 0 s) ≡ readItem (treeOf l t) b s
+      list-on s = rw (list-read lens l t n e g k (else-list lens l t n e g k q) b s, ← (d ∙ list-says))

@@ -42,22 +42,22 @@ use Rattle.message.proofs.Rows.{Lies, under-below, row-none, row-first,
 plus-zero : (a : Counts) → plus a (record { records = 0; words = 0; bytes = 0 }) ≡ a
 plus-zero a = simp add-zero
 
--- The loop of `field_check`: what is counted, and what is left to read, give the whole.
-pub record Reading (lens l : List ℕ) (t a₀ step n : ℕ) (b : List ℕ) (s : ℕ) (sum : Counts) (a left p : ℕ) : Type 0 where
+-- The loop of `field_check`: what is counted, and what is left to read, give the whole. What holds the fields has `own` contents words.
+pub record Reading (lens l : List ℕ) (t a₀ step n own : ℕ) (b : List ℕ) (s : ℕ) (sum : Counts) (a left p : ℕ) : Type 0 where
   pub row : Row lens l t a step left
   pub ranges : InRange (headsOf l t a step left) b p 0
   pub summed : Summed sum (spread (headsOf l t a step left) b p) (spread (headsOf l t a₀ step n) b 0)
   pub short : spread (headsOf l t a₀ step n) b 0 < 2 ^ 33
-  pub same : andThen (Accepted sum) (readFields (rowOf l t a step left) b p s) ≡ andThen (one 0 0) (readFields (rowOf l t a₀ step n) b 0 s)
+  pub same : andThen (Accepted sum) (readFields (rowOf l t a step left) b p s) ≡ andThen (one own 0) (readFields (rowOf l t a₀ step n) b 0 s)
 
-pub reading-new : (lens l : List ℕ) (t a₀ step n : ℕ) (b : List ℕ) (s : ℕ) → Row lens l t a₀ step n → s + length b < 2 ^ 32 →
-    InRange (headsOf l t a₀ step n) b 0 0 → Reading lens l t a₀ step n b s (record { records = 1; words = 0; bytes = 0 }) a₀ n 0
-reading-new lens l t a₀ step n b s g h r =
-    record { row = g; ranges = r; summed = summed-own _; short = spread-small _ b r (omega arith); same = refl }
+pub reading-new : (lens l : List ℕ) (t a₀ step n own : ℕ) (b : List ℕ) (s : ℕ) → Row lens l t a₀ step n → s + length b < 2 ^ 32 →
+    InRange (headsOf l t a₀ step n) b 0 0 → own ≤ 1 → Reading lens l t a₀ step n own b s (record { records = 1; words = own; bytes = 0 }) a₀ n 0
+reading-new lens l t a₀ step n own b s g h r i =
+    record { row = g; ranges = r; summed = summed-own own i _; short = spread-small _ b r (omega arith); same = refl }
 
-pub reading-small : (lens l : List ℕ) (t a₀ step n : ℕ) (b : List ℕ) (s : ℕ) (sum : Counts) (a left p : ℕ) →
-    Reading lens l t a₀ step n b s sum a left p → Small sum (2 ^ 50)
-reading-small lens l t a₀ step n b s sum a left p g = summed-small sum _ _ (g .summed) (g .short)
+pub reading-small : (lens l : List ℕ) (t a₀ step n own : ℕ) (b : List ℕ) (s : ℕ) (sum : Counts) (a left p : ℕ) →
+    Reading lens l t a₀ step n own b s sum a left p → Small sum (2 ^ 50)
+reading-small lens l t a₀ step n own b s sum a left p g = summed-small sum _ _ (g .summed) (g .short)
 
 -- What an item counts.
 pub item-small : (lens l : List ℕ) (f : ℕ) (b : List ℕ) (s : ℕ) (c : Counts) → Under lens l (f + 1) → length b < 2 ^ 32 →
@@ -111,10 +111,10 @@ module _ (lens l : List ℕ) (t a step left f : ℕ) (b : List ℕ) (p : ℕ) (g
   unfolding readItem
   fields-read = rw (row-first l t a step left (g .named) z, q, e)
 
-module _ (lens l : List ℕ) (t a₀ step n : ℕ) (b : List ℕ) (s : ℕ) (sum : Counts) (a left p f : ℕ) (g : Reading lens l t a₀ step n b s sum a left p)
+module _ (lens l : List ℕ) (t a₀ step n own : ℕ) (b : List ℕ) (s : ℕ) (sum : Counts) (a left p f : ℕ) (g : Reading lens l t a₀ step n own b s sum a left p)
     (z : 0 < left) (e : f ≡ wordAt l a) (w : Span) (q : w ≡ spanOf (head (treeOf l f)) (headsOf l t (a + step) step (left - 1)) b p) where
   reading-first : andThen (Accepted sum) (andThen (readItem (treeOf l f) (part b w) (s + w .from))
-      (readFields (rowOf l t (a + step) step (left - 1)) b (w .next) s)) ≡ andThen (one 0 0) (readFields (rowOf l t a₀ step n) b 0 s)
+      (readFields (rowOf l t (a + step) step (left - 1)) b (w .next) s)) ≡ andThen (one own 0) (readFields (rowOf l t a₀ step n) b 0 s)
   reading-first = rw (fields-read lens l t a step left f b p (g .row) z e w q s) at (g .same)
 
   -- where the first field lies, and what it counts
@@ -134,7 +134,7 @@ module _ (lens l : List ℕ) (t a₀ step n : ℕ) (b : List ℕ) (s : ℕ) (sum
       summed-item l f _ b p (u .legal) (omega (arith, u .few)) i w q (s + w .from) sum c _ j (sym h)
 
   pub reading-next : (c : Counts) → s + length b < 2 ^ 32 → Accepted c ≡ readItem (treeOf l f) (part b w) (s + w .from) →
-      Reading lens l t a₀ step n b s (plus sum c) (a + step) (left - 1) (w .next)
+      Reading lens l t a₀ step n own b s (plus sum c) (a + step) (left - 1) (w .next)
   reading-next c k h =
       record {
         row = row-next lens l t a step left f (g .row) z e;
@@ -145,7 +145,7 @@ module _ (lens l : List ℕ) (t a₀ step n : ℕ) (b : List ℕ) (s : ℕ) (sum
       }
 
   pub reading-stop : (r : Refusal) (u v : ℕ) → Refused r u v ≡ readItem (treeOf l f) (part b w) (s + w .from) →
-      Refused r u v ≡ andThen (one 0 0) (readFields (rowOf l t a₀ step n) b 0 s)
+      Refused r u v ≡ andThen (one own 0) (readFields (rowOf l t a₀ step n) b 0 s)
   reading-stop r u v h = rw (← h) at reading-first
 
   -- Free bytes: of them only the length is asked.
@@ -156,15 +156,15 @@ module _ (lens l : List ℕ) (t a₀ step n : ℕ) (b : List ℕ) (s : ℕ) (sum
     free-read = rw (as-free l f d i k, reading-span .2)
 
     pub free-stop : d .second < w .to - w .from →
-        Refused (OverLimit (w .to - w .from) (d .second)) f (s + w .from) ≡ andThen (one 0 0) (readFields (rowOf l t a₀ step n) b 0 s)
+        Refused (OverLimit (w .to - w .from) (d .second)) f (s + w .from) ≡ andThen (one own 0) (readFields (rowOf l t a₀ step n) b 0 s)
     free-stop h = reading-stop _ _ _ (rw (lt-leb _ _ h) at (sym free-read))
 
     pub free-next : w .to - w .from ≤ d .second → s + length b < 2 ^ 32 →
-        Reading lens l t a₀ step n b s (plus sum (record { records = 1; words = 1; bytes = w .to - w .from })) (a + step) (left - 1) (w .next)
+        Reading lens l t a₀ step n own b s (plus sum (record { records = 1; words = 1; bytes = w .to - w .from })) (a + step) (left - 1) (w .next)
     free-next h m = reading-next _ m (rw (le-leb _ _ h) at (sym free-read))
 
 -- A plain field: its length stands in the table, and of its bytes nothing else is asked.
-module _ (lens l : List ℕ) (t a₀ step n : ℕ) (b : List ℕ) (s : ℕ) (sum : Counts) (a left p f : ℕ) (g : Reading lens l t a₀ step n b s sum a left p)
+module _ (lens l : List ℕ) (t a₀ step n own : ℕ) (b : List ℕ) (s : ℕ) (sum : Counts) (a left p f : ℕ) (g : Reading lens l t a₀ step n own b s sum a left p)
     (z : 0 < left) (e : f ≡ wordAt l a) (d : Node) (i : d ≡ nodeOf l f) (h : isPlain (d .kind) ≡ true) (k : ℕ) (q : k ≡ getD lens f 0) where
   plain-length : k ≡ d .second
   plain-length = q ∙ g .row .under .found f (row-below lens l t a step left f (g .row) z e) ∙ ap lenOf (plain-type l f d i h .0)
@@ -176,19 +176,19 @@ module _ (lens l : List ℕ) (t a₀ step n : ℕ) (b : List ℕ) (s : ℕ) (sum
   plain-fits = first-fits lens l t a step left f b p (g .row) z e (g .ranges) k plain-head
 
   pub plain-next : s + length b < 2 ^ 32 →
-      Reading lens l t a₀ step n b s (plus sum (record { records = 1; words = 0; bytes = k })) (a + step) (left - 1) (p + k)
+      Reading lens l t a₀ step n own b s (plus sum (record { records = 1; words = 0; bytes = k })) (a + step) (left - 1) (p + k)
   plain-next m =
       let w : Span = record { from = p; to = p + k; next = p + k } in
       let v : w ≡ spanOf (head (treeOf l f)) (headsOf l t (a + step) step (left - 1)) b p = rw (← plain-head) in
-      let y : length (part b w) ≡ k = reading-span lens l t a₀ step n b s sum a left p f g z e w v .2 ∙ omega arith in
+      let y : length (part b w) ≡ k = reading-span lens l t a₀ step n own b s sum a left p f g z e w v .2 ∙ omega arith in
       let x : one 0 k ≡ readItem (treeOf l f) (part b w) (s + p) =
       exact-read (d .second) f (part b w) (s + p) k y plain-length ∙ sym (plain-type l f d i h .1 (part b w) (s + p)) in
-      reading-next lens l t a₀ step n b s sum a left p f g z e w v (record { records = 1; words = 0; bytes = k }) m x
+      reading-next lens l t a₀ step n own b s sum a left p f g z e w v (record { records = 1; words = 0; bytes = k }) m x
 
-pub reading-end : (lens l : List ℕ) (t a₀ step n : ℕ) (b : List ℕ) (s : ℕ) (sum : Counts) (a left p : ℕ) → Reading lens l t a₀ step n b s sum a left p →
-    left ≤ 0 → Accepted sum ≡ andThen (one 0 0) (readFields (rowOf l t a₀ step n) b 0 s)
+pub reading-end : (lens l : List ℕ) (t a₀ step n own : ℕ) (b : List ℕ) (s : ℕ) (sum : Counts) (a left p : ℕ) → Reading lens l t a₀ step n own b s sum a left p →
+    left ≤ 0 → Accepted sum ≡ andThen (one own 0) (readFields (rowOf l t a₀ step n) b 0 s)
 unfolding readItem
-reading-end lens l t a₀ step n b s sum a left p g h = sym (ap Accepted (plus-zero sum)) ∙ rw (row-none l t a step left h) at (g .same)
+reading-end lens l t a₀ step n own b s sum a left p g h = sym (ap Accepted (plus-zero sum)) ∙ rw (row-none l t a step left h) at (g .same)
 
 -- A container.
 module _ (lens l : List ℕ) (t : ℕ) (n : Node) (e : n ≡ nodeOf l t) (g : Under lens l (t + 1)) where

@@ -1,7 +1,6 @@
 -- The elements of a list, counted: each test of the code is one of the rules of reading. Assumes nothing.
 --     Following     the loop over the offsets behind the first: what is left of them tells what all of them tell
 --     says-..       how many elements a list has, if it is accepted: its length or its first offset says so
---     one-word      a list counts as a vector does, and its count is one contents word more
 use mathlib.Core.Path.{_≡_, refl, sym, _∙_}
 use mathlib.Core.List.{List}
 use Prim.Native.Nat.{ℕ, zero, suc, _+_, _-_, _*_, _/_, _%_, _≤_, _<_}
@@ -17,7 +16,6 @@ use Rattle.standard.specs.declared.Told.{Told}
 use Rattle.standard.specs.declared.Refusal.{Refusal}
 use Rattle.standard.specs.declared.Refusal.the-variants.{OffsetIntoFixedPortion, OffsetOutOfBounds, OffsetsAreDecreasing}
 use Rattle.message.specs.Read.{one, andThen, within, further, thenMany, behindFirst, elements}
-use Rattle.message.specs.Steps.{oneWord}
 use Rattle.message.specs.declared.Answer.{Answer}
 use Rattle.message.specs.declared.Answer.the-variants.{Accepted, Refused}
 use Rattle.message.specs.declared.elements.Elements.{Elements}
@@ -116,8 +114,3 @@ module _ (limit : ℕ) (b : List ℕ) where
       pick-holds (Says m) (ltb (length b) (four b 0)) _ _ (λ s. refused-says m _) λ s.
       pick-holds (Says m) (orElse (eqb (four b 0) 0) (ltb 0 (four b 0 % 4))) _ _ (λ t. refused-says m _) λ t.
       behind-says m limit b (four b 0)
-
--- A list's own word.
-pub one-word : (y : Answer) → oneWord (andThen (one 0 0) y) ≡ andThen (one 1 0) y
-one-word (Refused r t s) = refl
-one-word (Accepted c) = simp (zero-add, add-comm)

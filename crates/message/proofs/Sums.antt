@@ -30,8 +30,8 @@ pub record Summed (sum : Counts) (left whole : ℕ) : Type 0 where
   pub words : sum .words + 64 * left ≤ 1 + 64 * whole
   pub bytes : sum .bytes + 64 * left ≤ 1 + 64 * whole
 
-pub summed-own : (n : ℕ) → Summed (record { records = 1; words = 0; bytes = 0 }) n n
-summed-own n = record { records = omega arith; words = omega arith; bytes = omega arith }
+pub summed-own : (own : ℕ) → own ≤ 1 → (n : ℕ) → Summed (record { records = 1; words = own; bytes = 0 }) n n
+summed-own own h n = record { records = omega arith; words = omega arith; bytes = omega arith }
 
 pub summed-small : (sum : Counts) (left whole : ℕ) → Summed sum left whole → whole < 2 ^ 33 → Small sum (2 ^ 50)
 summed-small sum left whole g h =

@@ -20,11 +20,12 @@ use Rattle.layout.specs.Tree.{treeOf, trees, lenOf}
 use Rattle.layout.specs.Table.{count}
 use Rattle.layout.specs.declared.Node.{Node}
 use Rattle.layout.specs.Legal.{Legal}
-use Rattle.message.specs.Read.{elements, manyOf}
+use Rattle.message.specs.Read.{elements, manyOf, one, andThen, readItem, readFields}
 use Rattle.message.specs.declared.Counts.{Counts}
 use Rattle.message.specs.declared.Answer.{Answer}
 use Rattle.message.specs.declared.Answer.the-variants.{Accepted, Refused}
 use Rattle.message.specs.declared.items.Choice.{Choice}
+use Rattle.message.specs.declared.items.Inside.{Inside}
 
 -- The types below k are legal, and their lengths stand in lens.
 pub record Under (lens l : List ℕ) (k : ℕ) : Type 0 where
@@ -62,6 +63,15 @@ pub record Alike (lens l : List ℕ) (t at n e : ℕ) (b : List ℕ) : Type 0 wh
   pub lower : e < t
   pub ranges : InRange (headsOf l t at 0 n) b 0 0
   pub first : next (headsOf l t at 0 n) b 0 ≡ portion (headsOf l t at 0 n)
+
+-- What is found of the inside of the item b of type t is what the rules of reading say: a refusal, what it counts, or the fields or elements
+-- that are left to be read, inside something with `own` contents words.
+abbrev pub Found : List ℕ → List ℕ → ℕ → List ℕ → Inside → Type 0
+Found lens l t b (Inside.Wrong r) = (s : ℕ) → Refused r t s ≡ readItem (treeOf l t) b s
+Found lens l t b (Inside.Counted n own) = (s : ℕ) → Accepted (record { records = n; words = own; bytes = length b }) ≡ readItem (treeOf l t) b s
+Found lens l t b (Inside.Fields at step n own) =
+    Row lens l t at step n × InRange (headsOf l t at step n) b 0 0 × (own ≤ 1) ×
+    ((s : ℕ) → andThen (one own 0) (readFields (rowOf l t at step n) b 0 s) ≡ readItem (treeOf l t) b s)
 
 -- How many elements with this head a list or vector b has, of which the table says n
 abbrev pub manyIn : List ℕ → Node → Head → List ℕ → ℕ
@@ -102,11 +112,6 @@ pub record Small (c : Counts) (k : ℕ) : Type 0 where
   pub records : c .records ≤ k
   pub words : c .words ≤ k
   pub bytes : c .bytes ≤ k
-
--- One more contents word, where the answer accepts
-abbrev pub oneWord : Answer → Answer
-oneWord (Accepted c) = Accepted (record { records = c .records; words = c .words + 1; bytes = c .bytes })
-oneWord (Refused r t s) = Refused r t s
 
 -- An answer that accepts
 abbrev pub IsAccepted : Answer → Type 0

@@ -1,6 +1,4 @@
 // The elements of a list or vector: how many there are, and whether their offsets are in order.
-use crate::Answer;
-use crate::Counts;
 use crate::words::four_in;
 use crate::words::word_in;
 use layout::Node;
@@ -12,9 +10,7 @@ ghost use lib.ListN.{length};
 ghost use Rattle.standard.specs.Types.{head};
 ghost use Rattle.layout.specs.Tree.{nodeOf, treeOf, headOf};
 ghost use Rattle.message.specs.Read.{within, further, behindFirst, offsetElements, elements, vectorTold, readItem};
-ghost use Rattle.message.specs.Steps.{Under, Small, IsAccepted, manyIn, oneWord};
-ghost use Rattle.message.specs.declared.Counts.{Counts};
-ghost use Rattle.message.specs.declared.Answer.the-variants.{Accepted};
+ghost use Rattle.message.specs.Steps.{Under, IsAccepted, manyIn};
 ghost use Rattle.message.specs.declared.elements.Elements.the-variants.{Many};
 
 // How many elements a list has, or what is wrong with it.
@@ -154,22 +150,4 @@ pub(crate) fn exact_told(k: usize, n: usize, b: &[u8]) -> Told
         return Told::Fine;
     }
     Told::Refused(Refusal::InvalidByteLength(len, whole))
-}
-
-// One more contents word: a list's count.
-pub(crate) fn with_word(r: Answer) -> Answer
-    requires { ⌜ ((c : Counts) → r ≡ Accepted c → Small c (2 ^ 50)) ⌝ }
-    ensures { λ x. ⌜ x ≡ oneWord r ⌝ }
-{
-    match r {
-        Answer::Accepted(c) => {
-            let words = c.words + 1;
-            Answer::Accepted(Counts {
-                records: c.records,
-                words,
-                bytes: c.bytes,
-            })
-        }
-        Answer::Refused(x, u, v) => Answer::Refused(x, u, v),
-    }
 }

@@ -3,7 +3,6 @@ use crate::Answer;
 use crate::Counts;
 use crate::elements::Elements;
 use crate::elements::elements_of;
-use crate::elements::with_word;
 use crate::fields::container_told;
 use crate::fields::locate;
 use crate::fields::vector_told;
@@ -23,14 +22,17 @@ use standard::words::word_at;
 ghost use mathlib.Core.Path.{_≡_};
 ghost use Prim.Native.Nat.{_+_, _≤_, _<_, _^_};
 ghost use lib.ListN.{length};
+ghost use Rattle.standard.specs.Choice.{pick};
 ghost use Rattle.standard.specs.Types.{boolean, freeBytes, bitVector, bitList};
 ghost use Rattle.standard.specs.Parts.{InRange};
 ghost use Rattle.layout.specs.Tree.{nodeOf, leafOf, treeOf};
+ghost use Rattle.layout.specs.Legal.{Legal};
 ghost use Rattle.message.specs.Read.{rawBytes, one, plus, andThen, readExact, readItem, readFields};
 ghost use Rattle.message.specs.declared.Counts.{Counts};
 ghost use Rattle.message.specs.declared.Answer.the-variants.{Accepted};
+ghost use Rattle.message.specs.declared.items.Inside.{Inside};
 ghost use Rattle.decode.specs.declared.union_selector.SelectorResult.{SelectorResult};
-ghost use Rattle.message.specs.Steps.{Under, Row, Alike, rowOf, headsOf, optionAt, choiceOf, choose, isPlain, Small};
+ghost use Rattle.message.specs.Steps.{Under, Row, rowOf, headsOf, Found, optionAt, choiceOf, choose, isPlain, Small};
 
 // What a union's selector chooses: an option without body, the type of a body, or a refusal.
 pub(crate) enum Choice {
@@ -217,13 +219,13 @@ fn one_more(c: Counts, words: usize, bytes: usize) -> Counts
     add(c, own)
 }
 
-// A container's own record.
-fn own_record() -> Counts
-    ensures { λ r. ⌜ r ≡ record { records = 1; words = 0; bytes = 0 } ⌝ }
+// The record of what holds fields, and its contents words.
+fn own_record(words: usize) -> Counts
+    ensures { λ r. ⌜ r ≡ record { records = 1; words = words; bytes = 0 } ⌝ }
 {
     Counts {
         records: 1,
-        words: 0,
+        words,
         bytes: 0,
     }
 }
@@ -257,7 +259,67 @@ fn is_plain(kind: usize) -> bool
     kind == 2
 }
 
-// Checks the item b of the type t, which starts at start.
+// What there is to read inside an item: a refusal; nothing more, and how many records and contents words the item has; or the words that name
+// its fields or elements: the first, how far apart they stand, how many there are, and the contents words of the item itself.
+enum Inside {
+    Wrong(Refusal),
+    Counted(usize, usize),
+    Fields(usize, usize, usize, usize),
+}
+
+// m elements of the type e, which the word at a0 names and which lie as they should. Numbers and fixed bytes have no rule of their own left to
+// fail, so they are counted and not looked at.
+fn row_inside(layout: &[u8], a0: usize, m: usize, e: usize, own: usize) -> Inside
+    requires { ⌜ Legal (now layout) (e + 1) × (m < 2 ^ 34) ⌝ }
+    ensures { λ r. ⌜ r ≡ pick (isPlain (nodeOf (now (layout .entry)) e .kind)) (Inside.Counted (1 + m) own) (Inside.Fields a0 0 m own) ⌝ }
+{
+    let n = look_in(layout, e);
+    if is_plain(n.kind) {
+        let records = 1 + m;
+        return Inside::Counted(records, own);
+    }
+    Inside::Fields(a0, 0, m, own)
+}
+
+// The inside of the list or vector b of the type t, whose words are n.
+fn elements_inside(lens: &[u32; 64], layout: &[u8], n: Node, t: usize, b: &[u8]) -> Inside
+    requires { ⌜ Under (now lens) (now layout) (t + 1) × (length (now b) < 2 ^ 32) × (n ≡ nodeOf (now layout) t) × (8 ≤ n .kind) ⌝ }
+    ensures { λ r. ⌜ Found (now (lens .entry)) (now (layout .entry)) t (now (b .entry)) r ⌝ }
+{
+    let first = n.at + 1;
+    let e = n.second;
+    let third = word_in(layout, n.at + 2);
+    if n.kind == 9 {
+        let told = vector_told(lens, layout, t, first, third, e, b);
+        return match told {
+            Told::Fine => row_inside(layout, first, third, e, 0),
+            Told::Refused(r) => Inside::Wrong(r),
+        };
+    }
+    let c = elements_of(lens[e] as usize, third, b);
+    match c {
+        Elements::Many(m) => row_inside(layout, first, m, e, 1),
+        Elements::Refused(r) => Inside::Wrong(r),
+    }
+}
+
+// The inside of the container, list or vector b of the type t, whose words are n.
+fn inside_of(lens: &[u32; 64], layout: &[u8], n: Node, t: usize, b: &[u8]) -> Inside
+    requires { ⌜ Under (now lens) (now layout) (t + 1) × (length (now b) < 2 ^ 32) × (n ≡ nodeOf (now layout) t) × (6 ≤ n .kind) × (n .kind ≡ 7 → ⊥) ⌝ }
+    ensures { λ r. ⌜ Found (now (lens .entry)) (now (layout .entry)) t (now (b .entry)) r ⌝ }
+{
+    if n.kind != 6 {
+        return elements_inside(lens, layout, n, t, b);
+    }
+    let first = n.at + 2;
+    let told = container_told(lens, layout, t, first, n.second, b);
+    match told {
+        Told::Fine => Inside::Fields(first, 1, n.second, 0),
+        Told::Refused(r) => Inside::Wrong(r),
+    }
+}
+
+// Checks the item b of the type t, which starts at start. Only here are fields read, whatever holds them: the loop over them is then no call.
 pub(crate) fn item_check(
     lens: &[u32; 64],
     layout: &[u8],
@@ -269,16 +331,13 @@ pub(crate) fn item_check(
     ensures { λ r. ⌜ r ≡ readItem (treeOf (now (layout .entry)) t) (now (b .entry)) start ⌝ }
 {
     let n = look_in(layout, t);
-    let first = n.at + 2;
-    if n.kind == 6 {
-        let told = container_told(lens, layout, t, first, n.second, b);
-        match told {
-            Told::Fine => field_check(lens, layout, t, first, 1, n.second, b, start),
-            Told::Refused(r) => Answer::Refused(r, t, start),
-        }
-    } else if n.kind == 7 {
+    if n.kind < 6 {
+        return leaf_check(n, t, b, start);
+    }
+    if n.kind == 7 {
+        let first = n.at + 2;
         let c = select(layout, first, n.second, b);
-        match c {
+        return match c {
             Choice::Bare => leaf(1, 0),
             Choice::Body(o) => {
                 let inside = start + 1;
@@ -286,71 +345,20 @@ pub(crate) fn item_check(
                 with_selector(r)
             }
             Choice::Wrong(r) => Answer::Refused(r, t, start),
-        }
-    } else if n.kind < 6 {
-        leaf_check(n, t, b, start)
-    } else {
-        elements_check(lens, layout, n, t, b, start)
-    }
-}
-
-// Checks the list or vector b of the type t, whose words are n.
-fn elements_check(
-    lens: &[u32; 64],
-    layout: &[u8],
-    n: Node,
-    t: usize,
-    b: &[u8],
-    start: usize,
-) -> Answer
-    requires { ⌜ Under (now lens) (now layout) (t + 1) × (start + length (now b) < 2 ^ 32) × (n ≡ nodeOf (now layout) t) × (8 ≤ n .kind) ⌝ }
-    ensures { λ r. ⌜ r ≡ readItem (treeOf (now (layout .entry)) t) (now (b .entry)) start ⌝ }
-{
-    let first = n.at + 1;
-    let e = n.second;
-    let third = word_in(layout, n.at + 2);
-    if n.kind == 9 {
-        let told = vector_told(lens, layout, t, first, third, e, b);
-        return match told {
-            Told::Fine => row_check(lens, layout, t, first, third, e, b, start),
-            Told::Refused(r) => Answer::Refused(r, t, start),
         };
     }
-    let c = elements_of(lens[e] as usize, third, b);
-    match c {
-        Elements::Many(m) => {
-            let r = row_check(lens, layout, t, first, m, e, b, start);
-            with_word(r)
-        }
-        Elements::Refused(r) => Answer::Refused(r, t, start),
-    }
-}
-
-// Checks m elements of the type e, which the word at a0 names and which lie as they should. Numbers and fixed bytes have no rule of their own
-// left to fail, so they are counted and not looked at.
-fn row_check(
-    lens: &[u32; 64],
-    layout: &[u8],
-    t: usize,
-    a0: usize,
-    m: usize,
-    e: usize,
-    b: &[u8],
-    start: usize,
-) -> Answer
-    requires { ⌜ Alike (now lens) (now layout) t a0 m e (now b) × (start + length (now b) < 2 ^ 32) ⌝ }
-    ensures { λ r. ⌜ r ≡ andThen (one 0 0) (readFields (rowOf (now (layout .entry)) t a0 0 m) (now (b .entry)) 0 start) ⌝ }
-{
-    let n = look_in(layout, e);
-    if is_plain(n.kind) {
-        let records = 1 + m;
-        return Answer::Accepted(Counts {
+    let found = inside_of(lens, layout, n, t, b);
+    match found {
+        Inside::Wrong(r) => Answer::Refused(r, t, start),
+        Inside::Counted(records, words) => Answer::Accepted(Counts {
             records,
-            words: 0,
+            words,
             bytes: b.len(),
-        });
+        }),
+        Inside::Fields(first, step, m, own) => {
+            field_check(lens, layout, t, first, step, m, own, b, start)
+        }
     }
-    field_check(lens, layout, t, a0, 0, m, b, start)
 }
 
 // Checks the item b of a field whose type t has the words n: a leaf needs no second look at the table.
@@ -364,7 +372,8 @@ fn field_item(lens: &[u32; 64], layout: &[u8], n: Node, t: usize, b: &[u8], star
     item_check(lens, layout, t, b, start)
 }
 
-// Checks the n fields of type t that the words from a0 on name, step words apart, and counts them with what holds them. Numbers and fixed
+// Checks the n fields of type t that the words from a0 on name, step words apart, and counts them with what holds them, which has `own`
+// contents words. Numbers and fixed
 // bytes have their length from the table, which the registration tested, and free bytes, the most common of variable size, are asked for
 // theirs alone: neither needs a call.
 fn field_check(
@@ -374,13 +383,14 @@ fn field_check(
     a0: usize,
     step: usize,
     n: usize,
+    own: usize,
     b: &[u8],
     start: usize,
 ) -> Answer
-    requires { ⌜ Row (now lens) (now layout) t a0 step n × (start + length (now b) < 2 ^ 32) × InRange (headsOf (now layout) t a0 step n) (now b) 0 0 ⌝ }
-    ensures { λ r. ⌜ r ≡ andThen (one 0 0) (readFields (rowOf (now (layout .entry)) t a0 step n) (now (b .entry)) 0 start) ⌝ }
+    requires { ⌜ Row (now lens) (now layout) t a0 step n × (start + length (now b) < 2 ^ 32) × InRange (headsOf (now layout) t a0 step n) (now b) 0 0 × (own ≤ 1) ⌝ }
+    ensures { λ r. ⌜ r ≡ andThen (one own 0) (readFields (rowOf (now (layout .entry)) t a0 step n) (now (b .entry)) 0 start) ⌝ }
 {
-    let mut sum = own_record();
+    let mut sum = own_record(own);
     let mut a = a0;
     let mut left = n;
     let mut p = 0;

@@ -1,0 +1,647 @@
+-- Items, fields and the item of a field call each other; the type number falls. The loop over the fields keeps `Reading`. What is inside an
+-- item was found before (`Found`). Assumes nothing.
+use mathlib.Core.Path.{_≡_, refl, sym, ap, _∙_}
+use native.Mathlib.Omega.{arith}
+use borrow.Author.Needs.{needs}
+use Prim.Native.Nat.{_+_, _*_}
+use lib.ListN.{length-take, length-drop}
+use Rattle.layout.proofs.Facts.{as-leaf}
+use Rattle.message.specs.Read.{one, andThen}
+use Rattle.message.proofs.Rows.{Lies, row-there, row-below, row-few, row-small, row-under, row-legal, under-below}
+use Rattle.message.proofs.Bodies.{Reading, reading-new, reading-small, reading-span, reading-item, reading-next, reading-stop, reading-end}
+use Rattle.message.proofs.Bodies.{plain-fits, plain-next, free-next, free-stop}
+use Rattle.message.proofs.Bodies.{item-small, small-more, node-ok}
+use Rattle.message.proofs.Bodies.{bare-read, wrong-read, body-below, body-read}
+use Prim.Native.Nat.{ℕ, _<_}
+use borrow.Fn.Kinds.{In}
+use borrow.Fn.PlainCycle.{Measures, is, falls, and}
+use Rattle.message.proofs.items.field_check.Reads as field-check
+use Rattle.message.proofs.items.field_check.Kinds as field-check-kinds
+use Rattle.message.proofs.items.+field_check+field_item+item_check.Lts-field_check as field-check-lts
+use Rattle.message.proofs.items.field_item.Reads as field-item
+use Rattle.message.proofs.items.field_item.Kinds as field-item-kinds
+use Rattle.message.proofs.items.+field_check+field_item+item_check.Lts-field_item as field-item-lts
+use Rattle.message.proofs.items.item_check.Reads as item-check
+use Rattle.message.proofs.items.item_check.Kinds as item-check-kinds
+use Rattle.message.proofs.items.+field_check+field_item+item_check.Lts-item_check as item-check-lts
+use Rattle.message.proofs.words.look_in.Reads as look-in-reads
+use Rattle.message.proofs.fields.locate.Reads as locate-reads
+use Rattle.message.proofs.items.add.Reads as add-reads
+use Rattle.message.proofs.items.inside_of.Reads as inside-of-reads
+use Rattle.message.proofs.items.is_plain.Reads as is-plain-reads
+use Rattle.message.proofs.items.leaf.Reads as leaf-reads
+use Rattle.message.proofs.items.leaf_check.Reads as leaf-check-reads
+use Rattle.message.proofs.items.one_more.Reads as one-more-reads
+use Rattle.message.proofs.items.own_record.Reads as own-record-reads
+use Rattle.message.proofs.items.select.Reads as select-reads
+use Rattle.message.proofs.items.with_selector.Reads as with-selector-reads
+use Rattle.message.proofs.words.word_in.Reads as word-in-reads
+use Rattle.message.proofs.items.+field_check+field_item+item_check.{statement}
+use Rattle.message.proofs.items.+field_check+field_item+item_check.Tie.{close}
+
+abbrev μ-field-check : Measures 3 field-check-kinds.ps ℕ
+μ-field-check κs a = 3 * a .1 .1 .0
+
+abbrev μ-field-item : Measures 3 field-item-kinds.ps ℕ
+μ-field-item κs a = 3 * a .1 .1 .1 .0 + 2
+
+abbrev μ-item-check : Measures 3 item-check-kinds.ps ℕ
+μ-item-check κs a = 3 * a .1 .1 .0 + 1
+
+abbrev field-check-at : ℕ → In 3 field-check-kinds.ps
+field-check-at t =
+    and 3 field-check-kinds.ps (is 3 field-check-kinds.ps μ-field-check t) field-check.Pre
+
+abbrev field-check-below : ℕ → In 3 field-check-kinds.ps
+field-check-below t =
+    and 3 field-check-kinds.ps (falls 3 field-check-kinds.ps _<_ μ-field-check t) field-check.Pre
+
+abbrev field-item-at : ℕ → In 3 field-item-kinds.ps
+field-item-at t =
+    and 3 field-item-kinds.ps (is 3 field-item-kinds.ps μ-field-item t) field-item.Pre
+
+abbrev field-item-below : ℕ → In 3 field-item-kinds.ps
+field-item-below t =
+    and 3 field-item-kinds.ps (falls 3 field-item-kinds.ps _<_ μ-field-item t) field-item.Pre
+
+abbrev item-check-at : ℕ → In 3 item-check-kinds.ps
+item-check-at t =
+    and 3 item-check-kinds.ps (is 3 item-check-kinds.ps μ-item-check t) item-check.Pre
+
+abbrev item-check-below : ℕ → In 3 item-check-kinds.ps
+item-check-below t =
+    and 3 item-check-kinds.ps (falls 3 item-check-kinds.ps _<_ μ-item-check t) item-check.Pre
+
+abbrev field-check-Inv-loop : field-check-lts.InvT-loop
+field-check-Inv-loop lens layout t a0 step n own b start sum₀ a₀ left₀ p₀ sum a left p = Reading lens layout t a0 step n own b start sum a left p
+
+abbrev field-check-μ-loop : field-check-lts.MeasureT-loop
+field-check-μ-loop lens layout t a0 step n own b start sum₀ a₀ left₀ p₀ sum a left p = left
+
+-- what `field_check` calls, at the measure t
+abbrev field-check-calls : ℕ → field-check-lts.Claims
+field-check-calls t = (
+  own-record-reads.Asked,
+  own-record-reads.Learnt,
+  word-in-reads.Asked,
+  word-in-reads.Learnt,
+  look-in-reads.Asked,
+  look-in-reads.Learnt,
+  is-plain-reads.Asked,
+  is-plain-reads.Learnt,
+  one-more-reads.Asked,
+  one-more-reads.Learnt,
+  locate-reads.Asked,
+  locate-reads.Learnt,
+  field-item-below t,
+  field-item.Post,
+  add-reads.Asked,
+  add-reads.Learnt,
+)
+
+-- what `field_item` calls, at the measure t
+abbrev field-item-calls : ℕ → field-item-lts.Claims
+field-item-calls t = (leaf-check-reads.Asked, leaf-check-reads.Learnt, item-check-below t, item-check.Post)
+
+-- what `item_check` calls, at the measure t
+abbrev item-check-calls : ℕ → item-check-lts.Claims
+item-check-calls t = (
+  look-in-reads.Asked,
+  look-in-reads.Learnt,
+  leaf-check-reads.Asked,
+  leaf-check-reads.Learnt,
+  select-reads.Asked,
+  select-reads.Learnt,
+  leaf-reads.Asked,
+  leaf-reads.Learnt,
+  item-check-below t,
+  item-check.Post,
+  with-selector-reads.Asked,
+  with-selector-reads.Learnt,
+  inside-of-reads.Asked,
+  inside-of-reads.Learnt,
+  field-check-below t,
+  field-check.Post,
+)
+
+-- where the field lies that was located
+field-check-lies : (t : ℕ)
+    (c : field-check-lts.After-locate (field-check-calls t) (field-check-at t) field-check.Post field-check-Inv-loop field-check-μ-loop) →
+    Lies (c .before .before .before .before .before .before .before .before .before .before .args .b .now) (c .locate .result)
+field-check-lies t c =
+    let c4 = c .before .before .before .before in
+    let c5 = c4 .before in
+    let c6 = c5 .before in
+    reading-span _ _ _ _ _ _ _ _ _ _ _ _ _ _ (c6 .loop .inv) (c5 .loop-test .taken) (c4 .word-in .ensures .0) _ (c .locate .ensures)
+
+field-check-own-record-requires : (t : ℕ) → field-check-lts.Need-own-record-requires (field-check-calls t) (field-check-at t) field-check.Post
+    field-check-Inv-loop field-check-μ-loop
+field-check-own-record-requires t c κs = search needs
+
+field-check-loop-holds : (t : ℕ) → field-check-lts.Need-loop-holds (field-check-calls t) (field-check-at t) field-check.Post
+    field-check-Inv-loop field-check-μ-loop
+field-check-loop-holds t c =
+    let c3 = c .before .before .before in
+    rw (c .own-record .ensures) (reading-new _ _ _ _ _ _ _ _ _ (c3 .pre .1 .0) (c3 .pre .1 .1) (c3 .pre .1 .2) (c3 .pre .1 .3))
+
+field-check-word-in-requires : (t : ℕ) → field-check-lts.Need-word-in-requires (field-check-calls t) (field-check-at t) field-check.Post
+    field-check-Inv-loop field-check-μ-loop
+field-check-word-in-requires t c κs =
+    let c1 = c .before in
+    row-there _ _ _ _ _ _ (c1 .loop .inv .row) (c .loop-test .taken)
+
+field-check-look-in-requires : (t : ℕ) → field-check-lts.Need-look-in-requires (field-check-calls t) (field-check-at t) field-check.Post
+    field-check-Inv-loop field-check-μ-loop
+field-check-look-in-requires t c κs =
+    let c1 = c .before in
+    let c2 = c1 .before in
+    row-legal _ _ _ _ _ _ _ (c2 .loop .inv .row) (c1 .loop-test .taken) (c .word-in .ensures .0)
+
+field-check-is-plain-requires : (t : ℕ) → field-check-lts.Need-is-plain-requires (field-check-calls t) (field-check-at t) field-check.Post
+    field-check-Inv-loop field-check-μ-loop
+field-check-is-plain-requires t c κs = search needs
+
+field-check-mul-k : (t : ℕ) → field-check-lts.Need-mul-k (field-check-calls t) (field-check-at t) field-check.Post field-check-Inv-loop field-check-μ-loop
+field-check-mul-k t c =
+    let c3 = c .before .before .before in
+    omega (arith, c3 .word-in .ensures .1)
+
+field-check-element-copy-out-k : (t : ℕ) → field-check-lts.Need-element-copy-out-k (field-check-calls t) (field-check-at t) field-check.Post
+    field-check-Inv-loop field-check-μ-loop
+field-check-element-copy-out-k t c =
+    let c3 = c .before .before .before in
+    let c4 = c3 .before in
+    let c5 = c4 .before in
+    row-few _ _ _ _ _ _ _ (c5 .loop .inv .row) (c4 .loop-test .taken) (c3 .word-in .ensures .0)
+
+field-check-cast-k : (t : ℕ) → field-check-lts.Need-cast-k (field-check-calls t) (field-check-at t) field-check.Post field-check-Inv-loop field-check-μ-loop
+field-check-cast-k t c =
+    let c4 = c .before .before .before .before in
+    let c5 = c4 .before in
+    let c6 = c5 .before in
+    omega (arith, row-small _ _ _ _ _ _ _ (c6 .loop .inv .row) (c5 .loop-test .taken) (c4 .word-in .ensures .0))
+
+field-check-one-more-requires : (t : ℕ) → field-check-lts.Need-one-more-requires (field-check-calls t) (field-check-at t) field-check.Post
+    field-check-Inv-loop field-check-μ-loop
+field-check-one-more-requires t c κs =
+    let c4 = c .before .before .before .before in
+    let c5 = c4 .before in
+    let c6 = c5 .before in
+    let c10 = c6 .before .before .before .before in (
+      reading-small _ _ _ _ _ _ _ _ _ _ _ _ _ (c6 .loop .inv),
+      omega arith,
+      row-small _ _ _ _ _ _ _ (c6 .loop .inv .row)
+          (c5 .loop-test .taken) (c4 .word-in .ensures .0),
+    )
+
+field-check-add-p : (t : ℕ) → field-check-lts.Need-add-p (field-check-calls t) (field-check-at t) field-check.Post field-check-Inv-loop field-check-μ-loop
+field-check-add-p t c =
+    let c2 = c .before .before in
+    let c3 = c2 .before in
+    let c4 = c3 .before in
+    let c5 = c4 .before in
+    let c6 = c5 .before in
+    let c7 = c6 .before in
+    let c11 = c7 .before .before .before .before in
+    omega (
+      arith,
+      plain-fits _ _ _ _ _ _ _ _ _ _ _ _ _ _ (c7 .loop .inv) (c6 .loop-test .taken) (c5 .word-in .ensures .0) _ (c4 .look-in .ensures)
+          (sym (c3 .is-plain .ensures) ∙ c2 .if1 .taken) _ refl,
+      c11 .pre .1 .1,
+    )
+
+field-check-add-a : (t : ℕ) → field-check-lts.Need-add-a (field-check-calls t) (field-check-at t) field-check.Post field-check-Inv-loop field-check-μ-loop
+field-check-add-a t c =
+    let c7 = c .before .before .before .before .before .before .before in
+    omega (arith, c7 .loop .inv .row .near, c7 .loop .inv .row .steps)
+
+field-check-sub-left : (t : ℕ) → field-check-lts.Need-sub-left (field-check-calls t) (field-check-at t) field-check.Post
+    field-check-Inv-loop field-check-μ-loop
+field-check-sub-left t c = omega arith
+
+field-check-loop-less : (t : ℕ) → field-check-lts.Need-loop-less (field-check-calls t) (field-check-at t) field-check.Post
+    field-check-Inv-loop field-check-μ-loop
+field-check-loop-less t c = omega arith
+
+field-check-loop-again : (t : ℕ) → field-check-lts.Need-loop-again (field-check-calls t) (field-check-at t) field-check.Post
+    field-check-Inv-loop field-check-μ-loop
+field-check-loop-again t c =
+    let c2 = c .before .before in
+    let c3 = c2 .before in
+    let c4 = c3 .before in
+    let c5 = c4 .before in
+    let c6 = c5 .before in
+    let c7 = c6 .before in
+    let c11 = c7 .before .before .before .before in
+    rw (c .one-more .ensures)
+    (plain-next _ _ _ _ _ _ _ _ _ _ _ _ _ _ (c7 .loop .inv) (c6 .loop-test .taken) (c5 .word-in .ensures .0) _ (c4 .look-in .ensures)
+    (sym (c3 .is-plain .ensures) ∙ c2 .if1 .taken) _ refl (c11 .pre .1 .1))
+
+field-check-locate-requires : (t : ℕ) → field-check-lts.Need-locate-requires (field-check-calls t) (field-check-at t) field-check.Post
+    field-check-Inv-loop field-check-μ-loop
+field-check-locate-requires t c κs =
+    let c3 = c .before .before .before in
+    let c4 = c3 .before in
+    let c5 = c4 .before in
+    (c5 .loop .inv .row, c4 .loop-test .taken, c3 .word-in .ensures .0, c5 .loop .inv .ranges)
+
+field-check-add-a-2 : (t : ℕ) → field-check-lts.Need-add-a-2 (field-check-calls t)
+    (field-check-at t) field-check.Post field-check-Inv-loop field-check-μ-loop
+field-check-add-a-2 t c =
+    let c6 = c .before .before .before .before .before .before in
+    omega (arith, c6 .loop .inv .row .near, c6 .loop .inv .row .steps)
+
+field-check-sub-left-2 : (t : ℕ) → field-check-lts.Need-sub-left-2 (field-check-calls t) (field-check-at t) field-check.Post
+    field-check-Inv-loop field-check-μ-loop
+field-check-sub-left-2 t c = omega arith
+
+field-check-add-at : (t : ℕ) → field-check-lts.Need-add-at (field-check-calls t) (field-check-at t) field-check.Post field-check-Inv-loop field-check-μ-loop
+field-check-add-at t c =
+    let c10 = c .before .before .before .before .before .before .before .before .before .before in
+    omega (arith, field-check-lies t c, c10 .pre .1 .1)
+
+field-check-sub-len : (t : ℕ) → field-check-lts.Need-sub-len (field-check-calls t)
+    (field-check-at t) field-check.Post field-check-Inv-loop field-check-μ-loop
+field-check-sub-len t c =
+    let c2 = c .before .before in
+    field-check-lies t c2 .0
+
+field-check-returns : (t : ℕ) → field-check-lts.Need-returns (field-check-calls t)
+    (field-check-at t) field-check.Post field-check-Inv-loop field-check-μ-loop
+field-check-returns t c =
+    let c2 = c .before .before in
+    let c4 = c2 .before .before in
+    let c7 = c4 .before .before .before in
+    let c8 = c7 .before in
+    let c9 = c8 .before in
+    let c10 = c9 .before in
+    free-stop _ _ _ _ _ _ _ _ _ _ _ _ _ _ (c10 .loop .inv) (c9 .loop-test .taken) (c8 .word-in .ensures .0) _ (c4 .locate .ensures) _
+    (c7 .look-in .ensures) (c2 .if2 .taken) (c .if3 .taken)
+
+field-check-one-more-requires-2 : (t : ℕ) → field-check-lts.Need-one-more-requires-2 (field-check-calls t) (field-check-at t) field-check.Post
+    field-check-Inv-loop field-check-μ-loop
+field-check-one-more-requires-2 t c κs =
+    let c4 = c .before .before .before .before in
+    let c10 = c4 .before .before .before .before .before .before in
+    let c14 = c10 .before .before .before .before in
+    (reading-small _ _ _ _ _ _ _ _ _ _ _ _ _ (c10 .loop .inv), omega arith, omega (arith, field-check-lies t c4, c14 .pre .1 .1))
+
+field-check-loop-less-2 : (t : ℕ) → field-check-lts.Need-loop-less-2 (field-check-calls t) (field-check-at t) field-check.Post
+    field-check-Inv-loop field-check-μ-loop
+field-check-loop-less-2 t c = omega arith
+
+field-check-loop-again-2 : (t : ℕ) → field-check-lts.Need-loop-again-2 (field-check-calls t) (field-check-at t) field-check.Post
+    field-check-Inv-loop field-check-μ-loop
+field-check-loop-again-2 t c =
+    let c1 = c .before in
+    let c3 = c1 .before .before in
+    let c5 = c3 .before .before in
+    let c8 = c5 .before .before .before in
+    let c9 = c8 .before in
+    let c10 = c9 .before in
+    let c11 = c10 .before in
+    let c15 = c11 .before .before .before .before in
+    rw (c .one-more2 .ensures) (free-next _ _ _ _ _ _ _ _ _ _ _ _ _ _ (c11 .loop .inv) (c10 .loop-test .taken) (c9 .word-in .ensures .0) _
+    (c5 .locate .ensures) _ (c8 .look-in .ensures) (c3 .if2 .taken) (c1 .if3 .left) (c15 .pre .1 .1))
+
+field-check-sub-field-item : (t : ℕ) → field-check-lts.Need-sub-field-item (field-check-calls t) (field-check-at t) field-check.Post
+    field-check-Inv-loop field-check-μ-loop
+field-check-sub-field-item t c =
+    let c2 = c .before .before in
+    field-check-lies t c2 .0
+
+field-check-part-field-item-start : (t : ℕ) → field-check-lts.Need-part-field-item-start (field-check-calls t) (field-check-at t) field-check.Post
+    field-check-Inv-loop field-check-μ-loop
+field-check-part-field-item-start t c =
+    let c2 = c .before .before in
+    field-check-lies t c2 .0
+
+field-check-part-field-item-end : (t : ℕ) → field-check-lts.Need-part-field-item-end (field-check-calls t) (field-check-at t) field-check.Post
+    field-check-Inv-loop field-check-μ-loop
+field-check-part-field-item-end t c =
+    let c2 = c .before .before in
+    field-check-lies t c2 .1
+
+field-check-field-item-requires : (t : ℕ) → field-check-lts.Need-field-item-requires (field-check-calls t) (field-check-at t) field-check.Post
+    field-check-Inv-loop field-check-μ-loop
+field-check-field-item-requires t c κs =
+    let c3 = c .before .before .before in
+    let c6 = c3 .before .before .before in
+    let c7 = c6 .before in
+    let c8 = c7 .before in
+    let c9 = c8 .before in
+    let c13 = c9 .before .before .before .before in
+    let lower = row-below _ _ _ _ _ _ _ (c9 .loop .inv .row) (c8 .loop-test .taken) (c7 .word-in .ensures .0) in
+    let under = row-under _ _ _ _ _ _ _ (c9 .loop .inv .row) (c8 .loop-test .taken) (c7 .word-in .ensures .0) in
+    (omega (arith, lower, c13 .pre .0), (under, omega (arith, field-check-lies t c3, c13 .pre .1 .1), c6 .look-in .ensures))
+
+field-check-enum-known-r : (t : ℕ) → field-check-lts.Need-enum-known-r (field-check-calls t) (field-check-at t) field-check.Post
+    field-check-Inv-loop field-check-μ-loop
+field-check-enum-known-r t c = search needs
+
+field-check-add-requires : (t : ℕ) → field-check-lts.Need-add-requires (field-check-calls t) (field-check-at t) field-check.Post
+    field-check-Inv-loop field-check-μ-loop
+field-check-add-requires t c κs =
+    let c1 = c .before in
+    let c3 = c1 .before .before in
+    let c7 = c3 .before .before .before .before in
+    let c11 = c7 .before .before .before .before in
+    let c12 = c11 .before in
+    let c13 = c12 .before in
+    let c17 = c13 .before .before .before .before in
+    let told = sym (c1 .r .given .1) ∙ c3 .field-item .ensures in
+    let counts = reading-item _ _ _ _ _ _ _ _ _ _ _ _ _ _ (c13 .loop .inv) (c12 .loop-test .taken) (c11 .word-in .ensures .0) _ (c7 .locate .ensures) _
+    (c17 .pre .1 .1) told in
+    (reading-small _ _ _ _ _ _ _ _ _ _ _ _ _ (c13 .loop .inv), small-more _ counts)
+
+field-check-loop-less-3 : (t : ℕ) → field-check-lts.Need-loop-less-3 (field-check-calls t) (field-check-at t) field-check.Post
+    field-check-Inv-loop field-check-μ-loop
+field-check-loop-less-3 t c = omega arith
+
+field-check-loop-again-3 : (t : ℕ) → field-check-lts.Need-loop-again-3 (field-check-calls t) (field-check-at t) field-check.Post
+    field-check-Inv-loop field-check-μ-loop
+field-check-loop-again-3 t c =
+    let c2 = c .before .before in
+    let c4 = c2 .before .before in
+    let c8 = c4 .before .before .before .before in
+    let c12 = c8 .before .before .before .before in
+    let c13 = c12 .before in
+    let c14 = c13 .before in
+    let c18 = c14 .before .before .before .before in
+    let told = sym (c2 .r .given .1) ∙ c4 .field-item .ensures in
+    rw (c .add .ensures) (reading-next _ _ _ _ _ _ _ _ _ _ _ _ _ _ (c14 .loop .inv) (c13 .loop-test .taken) (c12 .word-in .ensures .0) _
+    (c8 .locate .ensures) _ (c18 .pre .1 .1) told)
+
+field-check-enum-known-r-2 : (t : ℕ) → field-check-lts.Need-enum-known-r-2 (field-check-calls t) (field-check-at t) field-check.Post
+    field-check-Inv-loop field-check-μ-loop
+field-check-enum-known-r-2 t c = search needs
+
+field-check-returns-2 : (t : ℕ) → field-check-lts.Need-returns-2 (field-check-calls t) (field-check-at t) field-check.Post
+    field-check-Inv-loop field-check-μ-loop
+field-check-returns-2 t c =
+    let c1 = c .before in
+    let c3 = c1 .before .before in
+    let c7 = c3 .before .before .before .before in
+    let c11 = c7 .before .before .before .before in
+    let c12 = c11 .before in
+    let c13 = c12 .before in
+    reading-stop _ _ _ _ _ _ _ _ _ _ _ _ _ _ (c13 .loop .inv) (c12 .loop-test .taken) (c11 .word-in .ensures .0) _ (c7 .locate .ensures) _ _ _
+    (sym (c1 .r2 .given .1) ∙ c3 .field-item .ensures)
+
+field-check-returns-3 : (t : ℕ) → field-check-lts.Need-returns-3 (field-check-calls t) (field-check-at t) field-check.Post
+    field-check-Inv-loop field-check-μ-loop
+field-check-returns-3 t c =
+    let c1 = c .before in
+    reading-end _ _ _ _ _ _ _ _ _ _ _ _ _ (c1 .loop .inv) (c .loop-test .left)
+
+field-item-leaf-check-requires : (t : ℕ) → field-item-lts.Need-leaf-check-requires (field-item-calls t) (field-item-at t) field-item.Post
+field-item-leaf-check-requires t c κs = search needs
+
+field-item-returns : (t : ℕ) → field-item-lts.Need-returns (field-item-calls t) (field-item-at t) field-item.Post
+field-item-returns t c =
+    let c1 = c .before in
+    let c5 = c1 .before .before .before .before in
+    rw (as-leaf _ _ _ (c5 .pre .1 .2) (c1 .if1 .taken)) (c .leaf-check .ensures)
+
+field-item-item-check-requires : (t : ℕ) → field-item-lts.Need-item-check-requires (field-item-calls t) (field-item-at t) field-item.Post
+field-item-item-check-requires t c κs =
+    let c4 = c .before .before .before .before in
+    (omega (arith, c4 .pre .0), (c4 .pre .1 .0, c4 .pre .1 .1))
+
+field-item-returns-2 : (t : ℕ) → field-item-lts.Need-returns-2 (field-item-calls t) (field-item-at t) field-item.Post
+field-item-returns-2 t c = c .item-check .ensures
+
+item-check-look-in-requires : (t : ℕ) → item-check-lts.Need-look-in-requires (item-check-calls t) (item-check-at t) item-check.Post
+item-check-look-in-requires t c κs = c .before .before .pre .1 .0 .legal
+
+item-check-leaf-check-requires : (t : ℕ) → item-check-lts.Need-leaf-check-requires (item-check-calls t) (item-check-at t) item-check.Post
+item-check-leaf-check-requires t c κs = search needs
+
+item-check-returns : (t : ℕ) → item-check-lts.Need-returns (item-check-calls t) (item-check-at t) item-check.Post
+item-check-returns t c =
+    let c1 = c .before in
+    rw (as-leaf _ _ _ (c1 .before .before .look-in .ensures) (c1 .if1 .taken)) (c .leaf-check .ensures)
+
+item-check-add-first : (t : ℕ) → item-check-lts.Need-add-first (item-check-calls t) (item-check-at t) item-check.Post
+item-check-add-first t c =
+    let look = c .before .before .before .before .before in
+    omega (arith, node-ok _ _ _ _ (look .look-in .ensures) (look .before .before .before .pre .1 .0) .near)
+
+item-check-select-requires : (t : ℕ) → item-check-lts.Need-select-requires (item-check-calls t) (item-check-at t) item-check.Post
+item-check-select-requires t c κs =
+    let look = c .before .before .before .before .before in
+    omega (arith, node-ok _ _ _ _ (look .look-in .ensures) (look .before .before .before .pre .1 .0) .near)
+
+item-check-enum-told : (t : ℕ) → item-check-lts.Need-enum-told (item-check-calls t) (item-check-at t) item-check.Post
+item-check-enum-told t c = search needs
+
+item-check-leaf-requires : (t : ℕ) → item-check-lts.Need-leaf-requires (item-check-calls t) (item-check-at t) item-check.Post
+item-check-leaf-requires t c κs = search needs
+
+item-check-enum-known-c : (t : ℕ) → item-check-lts.Need-enum-known-c (item-check-calls t) (item-check-at t) item-check.Post
+item-check-enum-known-c t c = search needs
+
+item-check-add-inside : (t : ℕ) → item-check-lts.Need-add-inside (item-check-calls t) (item-check-at t) item-check.Post
+item-check-add-inside t c =
+    let chosen = c .before in
+    let select = chosen .before .before in
+    let union = select .before .before in
+    let look = union .before .before .before .before in
+    let start = look .before .before .before in
+    let z = body-below _ _ _ _ (look .look-in .ensures) (start .pre .1 .0) (union .if2 .taken) _ _ (sym (chosen .c .given .1) ∙ select .select .ensures) in
+    omega (arith, z, start .pre .1 .1)
+
+item-check-sub-item-check : (t : ℕ) → item-check-lts.Need-sub-item-check (item-check-calls t) (item-check-at t) item-check.Post
+item-check-sub-item-check t c =
+    let chosen = c .before in
+    let select = chosen .before .before in
+    let union = select .before .before in
+    let look = union .before .before .before .before in
+    let start = look .before .before .before in
+    let z = body-below _ _ _ _ (look .look-in .ensures) (start .pre .1 .0) (union .if2 .taken) _ _ (sym (chosen .c .given .1) ∙ select .select .ensures) in
+    omega (arith, z)
+
+item-check-part-item-check-start : (t : ℕ) → item-check-lts.Need-part-item-check-start (item-check-calls t) (item-check-at t) item-check.Post
+item-check-part-item-check-start t c =
+    let chosen = c .before in
+    let select = chosen .before .before in
+    let union = select .before .before in
+    let look = union .before .before .before .before in
+    let start = look .before .before .before in
+    let z = body-below _ _ _ _ (look .look-in .ensures) (start .pre .1 .0) (union .if2 .taken) _ _ (sym (chosen .c .given .1) ∙ select .select .ensures) in
+    omega (arith, z)
+
+item-check-part-item-check-end : (t : ℕ) → item-check-lts.Need-part-item-check-end (item-check-calls t) (item-check-at t) item-check.Post
+item-check-part-item-check-end t c = omega arith
+
+item-check-item-check-requires : (t : ℕ) → item-check-lts.Need-item-check-requires (item-check-calls t) (item-check-at t) item-check.Post
+item-check-item-check-requires t c κs =
+    let chosen = c .before .before in
+    let select = chosen .before .before in
+    let union = select .before .before in
+    let look = union .before .before .before .before in
+    let start = look .before .before .before in
+    let z = body-below _ _ _ _ (look .look-in .ensures) (start .pre .1 .0) (union .if2 .taken) _ _ (sym (chosen .c .given .1) ∙ select .select .ensures) in (
+      omega (arith, start .pre .0, z),
+      (under-below _ _ _ _ (omega (arith, z)) (start .pre .1 .0), simp (length-take, length-drop) (omega (arith, start .pre .1 .1, z))),
+    )
+
+item-check-with-selector-requires : (t : ℕ) → item-check-lts.Need-with-selector-requires (item-check-calls t) (item-check-at t) item-check.Post
+item-check-with-selector-requires t c κs =
+    let chosen = c .before .before .before in
+    let select = chosen .before .before in
+    let union = select .before .before in
+    let look = union .before .before .before .before in
+    let start = look .before .before .before in
+    let z = body-below _ _ _ _ (look .look-in .ensures) (start .pre .1 .0) (union .if2 .taken) _ _ (sym (chosen .c .given .1) ∙ select .select .ensures) in
+    λ d e. small-more d
+    (item-small _ _ _ _ _ d (under-below _ _ _ _ (omega (arith, z)) (start .pre .1 .0))
+    (simp (length-take, length-drop) (omega (arith, start .pre .1 .1, z))) (sym e ∙ c .item-check .ensures))
+
+item-check-enum-known-c-2 : (t : ℕ) → item-check-lts.Need-enum-known-c-2 (item-check-calls t) (item-check-at t) item-check.Post
+item-check-enum-known-c-2 t c = search needs
+
+item-check-returns-2 : (t : ℕ) → item-check-lts.Need-returns-2 (item-check-calls t) (item-check-at t) item-check.Post
+item-check-returns-2 t c =
+    let select = c .before .before .before in
+    let union = select .before .before in
+    let look = union .before .before .before .before in
+    let start = look .before .before .before in
+    c .leaf .ensures ∙ bare-read _ _ _ _ (look .look-in .ensures) (start .pre .1 .0) (union .if2 .taken) _ _
+    (sym (c .before .enum-told .given .1) ∙ select .select .ensures)
+
+item-check-returns-3 : (t : ℕ) → item-check-lts.Need-returns-3 (item-check-calls t) (item-check-at t) item-check.Post
+item-check-returns-3 t c =
+    let chosen = c .before .before .before .before in
+    let select = chosen .before .before in
+    let union = select .before .before in
+    let look = union .before .before .before .before in
+    let start = look .before .before .before in
+    c .with-selector .ensures ∙ ap (andThen (one 1 0)) (c .before .item-check .ensures) ∙
+    body-read _ _ _ _ (look .look-in .ensures) (start .pre .1 .0) (union .if2 .taken) _ _ (sym (chosen .c .given .1) ∙ select .select .ensures) _
+
+item-check-returns-4 : (t : ℕ) → item-check-lts.Need-returns-4 (item-check-calls t) (item-check-at t) item-check.Post
+item-check-returns-4 t c =
+    let select = c .before .before .before in
+    let union = select .before .before in
+    let look = union .before .before .before .before in
+    let start = look .before .before .before in
+    wrong-read _ _ _ _ (look .look-in .ensures) (start .pre .1 .0) (union .if2 .taken) _ _ _ (sym (c .before .c2 .given .1) ∙ select .select .ensures)
+
+item-check-inside-of-requires : (t : ℕ) → item-check-lts.Need-inside-of-requires (item-check-calls t) (item-check-at t) item-check.Post
+item-check-inside-of-requires t c κs =
+    let leaf = c .before .before in
+    let look = leaf .before .before in
+    let start = look .before .before .before in
+    (start .pre .1 .0, omega (arith, start .pre .1 .1), look .look-in .ensures, omega (arith, leaf .if1 .left), c .if2 .left)
+
+item-check-enum-known-found : (t : ℕ) → item-check-lts.Need-enum-known-found (item-check-calls t) (item-check-at t) item-check.Post
+item-check-enum-known-found t c = search needs
+
+item-check-enum-known-found-2 : (t : ℕ) → item-check-lts.Need-enum-known-found-2 (item-check-calls t) (item-check-at t) item-check.Post
+item-check-enum-known-found-2 t c = search needs
+
+item-check-enum-known-found-3 : (t : ℕ) → item-check-lts.Need-enum-known-found-3 (item-check-calls t) (item-check-at t) item-check.Post
+item-check-enum-known-found-3 t c = search needs
+
+item-check-field-check-requires : (t : ℕ) → item-check-lts.Need-field-check-requires (item-check-calls t) (item-check-at t) item-check.Post
+item-check-field-check-requires t c κs =
+    let found = c .before in
+    let inside = found .before .before in
+    let start = inside .before .before .before .before .before .before .before .before in
+    let z = rw (found .found3 .given .1) at (inside .inside-of .ensures) in
+    (omega (arith, start .pre .0), (z .0, start .pre .1 .1, z .1, z .2))
+
+item-check-returns-5 : (t : ℕ) → item-check-lts.Need-returns-5 (item-check-calls t) (item-check-at t) item-check.Post
+item-check-returns-5 t c =
+    let found = c .before in
+    (rw (found .found .given .1) at (found .before .before .inside-of .ensures)) _
+
+item-check-returns-6 : (t : ℕ) → item-check-lts.Need-returns-6 (item-check-calls t) (item-check-at t) item-check.Post
+item-check-returns-6 t c =
+    let found = c .before in
+    (rw (found .found2 .given .1) at (found .before .before .inside-of .ensures)) _
+
+item-check-returns-7 : (t : ℕ) → item-check-lts.Need-returns-7 (item-check-calls t) (item-check-at t) item-check.Post
+item-check-returns-7 t c =
+    let found = c .before .before in
+    c .field-check .ensures ∙ (rw (found .found3 .given .1) at (found .before .before .inside-of .ensures)) .3 _
+
+pub +field-check+field-item+item-check-spec : {M : Type 1} → statement M
++field-check+field-item+item-check-spec =
+    close μ-field-check μ-field-item μ-item-check
+    (λ t. field-check-lts.spec (field-check-calls t)
+    (field-check-at t)
+    field-check.Post
+    field-check-Inv-loop
+    field-check-μ-loop
+    (field-check-own-record-requires t)
+    (field-check-loop-holds t)
+    (field-check-word-in-requires t)
+    (field-check-look-in-requires t)
+    (field-check-is-plain-requires t)
+    (field-check-mul-k t)
+    (field-check-element-copy-out-k t)
+    (field-check-cast-k t)
+    (field-check-one-more-requires t)
+    (field-check-add-p t)
+    (field-check-add-a t)
+    (field-check-sub-left t)
+    (field-check-loop-less t)
+    (field-check-loop-again t)
+    (field-check-locate-requires t)
+    (field-check-add-a-2 t)
+    (field-check-sub-left-2 t)
+    (field-check-add-at t)
+    (field-check-sub-len t)
+    (field-check-returns t)
+    (field-check-one-more-requires-2 t)
+    (field-check-loop-less-2 t)
+    (field-check-loop-again-2 t)
+    (field-check-sub-field-item t)
+    (field-check-part-field-item-start t)
+    (field-check-part-field-item-end t)
+    (field-check-field-item-requires t)
+    (field-check-enum-known-r t)
+    (field-check-add-requires t)
+    (field-check-loop-less-3 t)
+    (field-check-loop-again-3 t)
+    (field-check-enum-known-r-2 t)
+    (field-check-returns-2 t)
+    (field-check-returns-3 t))
+    (λ t. field-item-lts.spec (field-item-calls t)
+    (field-item-at t)
+    field-item.Post
+    (field-item-leaf-check-requires t)
+    (field-item-returns t)
+    (field-item-item-check-requires t)
+    (field-item-returns-2 t))
+    λ t. item-check-lts.spec (item-check-calls t)
+    (item-check-at t)
+    item-check.Post
+    (item-check-look-in-requires t)
+    (item-check-leaf-check-requires t)
+    (item-check-returns t)
+    (item-check-add-first t)
+    (item-check-select-requires t)
+    (item-check-enum-told t)
+    (item-check-leaf-requires t)
+    (item-check-enum-known-c t)
+    (item-check-add-inside t)
+    (item-check-sub-item-check t)
+    (item-check-part-item-check-start t)
+    (item-check-part-item-check-end t)
+    (item-check-item-check-requires t)
+    (item-check-with-selector-requires t)
+    (item-check-enum-known-c-2 t)
+    (item-check-returns-2 t)
+    (item-check-returns-3 t)
+    (item-check-returns-4 t)
+    (item-check-inside-of-requires t)
+    (item-check-enum-known-found t)
+    (item-check-enum-known-found-2 t)
+    (item-check-enum-known-found-3 t)
+    (item-check-field-check-requires t)
+    (item-check-returns-5 t)
+    (item-check-returns-6 t)
+    (item-check-returns-7 t)
