@@ -10,7 +10,7 @@ use native.Mathlib.Omega.{arith}
 use borrow.Author.Tests.{lt-ltb, le-ltb, lt-leb, le-leb, ne-eqb}
 use lib.ListN.{getD, set}
 use lib.Dec.{eqb, ltb, leb}
-use Rattle.layout.specs.Table.{count, mayName, refs, counted, vectorEnd}
+use Rattle.layout.specs.Table.{count, mayName, refs, counted, many, containerEnd, vectorEnd}
 use Rattle.standard.specs.Choice.{pick}
 use Rattle.standard.specs.Bytes.{wordAt}
 use Rattle.standard.specs.Types.{Ty, Tys, boolean, end, field, head, headAll, heads, joined, width, portion, LegalTy}
@@ -25,7 +25,7 @@ use Rattle.layout.specs.declared.Sizes.{Sizes}
 use Rattle.layout.specs.declared.Checked.{Checked}
 use Rattle.layout.specs.declared.Checked.the-variants.{Bad, Upto}
 use Rattle.layout.proofs.Facts.{trees-get, fields-at, fields-none, filled-set, head-len, as-container, legal-node}
-use Rattle.layout.proofs.Tables.{Adding, adding-next, adding-end, bad-upto, may-lower, refs-missing, refs-wrong, refs-lower}
+use Rattle.layout.proofs.Tables.{Adding, adding-next, adding-end, bad-upto, may-lower, refs-wrong, refs-lower, refs-cut}
 use Rattle.layout.proofs.Tables.{Counted, counted-says, element-lower, known-len, known-head, known-small}
 use Rattle.layout.proofs.Trees.{legal-tree, len-small, leaf-length, vector-len, all-portion}
 
@@ -78,10 +78,7 @@ taking-start l t known a₀ n lens f =
 
 module _ (l : List ℕ) (t known a₀ n : ℕ) (lens : List ℕ) (a left sum : ℕ) (fixed : Bool) (f k : ℕ) (s : Taking l t known a₀ n lens a left sum fixed)
     (p : 0 < left) (e : f ≡ wordAt l a) (i : t ≤ known) where
-  -- a word that is missing, or names no lower type
-  pub taking-missing : count l ≤ a → Bad (count l) ≡ refs l t false a₀ n
-  taking-missing h = refs-missing l t false a left _ p (s .adding .tests) h
-
+  -- a word that names no lower type
   module _ (j : a < count l) (ok : Bool) (m : ok ≡ mayName f t false) where
     pub taking-wrong : ok ≡ false → Bad a ≡ refs l t false a₀ n
     taking-wrong u = refs-wrong l t false a left _ p (s .adding .tests) f ok j e m u
@@ -291,6 +288,14 @@ module _ (l : List ℕ) (known t : ℕ) (r : Node) (e : r ≡ nodeOf l t) (g : L
 -- A body that does not end leaves nothing found.
 pub ended-bad : (l : List ℕ) (t w : ℕ) (x : Checked) (lens : List ℕ) → Bad w ≡ x → Ended l t x (Bad w) lens
 ended-bad l t w x lens h = record { gives = h; found = λ e q. bad-upto w e q }
+
+-- A container whose words are not all there ends nowhere: one of them is the first bad word.
+pub ended-cut : (l : List ℕ) (t at n : ℕ) (x : Checked) (lens : List ℕ) → counted l at 64 ≡ Upto n → count l < at + 2 + n →
+    x ≡ refs l t false (at + 2) n → Ended l t (containerEnd l t at) x lens
+unfolding containerEnd many
+ended-cut l t at n (Bad w) lens c h e = ended-bad l t w _ lens (rw (c, ← e))
+ended-cut l t at n (Upto i) lens c h e =
+    absurd (refs-cut l t n (at + 2) i (omega (arith, counted-says l at 64 n c .there)) h (sym e))
 
 pub ended : (l : List ℕ) (t : ℕ) (x r : Checked) (lens : List ℕ) → r ≡ x → lens ≡ filled l (t + 1) → Ended l t x r lens
 ended l t x r lens h f = record { gives = h; found = λ e q. f }

@@ -143,6 +143,9 @@ refs-say l t none (suc n) a e k h =
     all x f zero j = rw add-zero x
     all x f (suc i) j = let s : a + suc i ≡ a + 1 + i = omega arith in rw s (f i (omega arith))
 
+pub refs-cut : (l : List ℕ) (t n a e : ℕ) → a ≤ count l → count l < a + n → refs l t false a n ≡ Upto e → ⊥
+refs-cut l t n a e k h r = let s = refs-say l t false n a e k r in omega (arith, s .0, s .1)
+
 -- And references to lower types within the table are accepted.
 pub refs-lower : (l : List ℕ) (t n a : ℕ) → Lower l t a n → a + n ≤ count l → refs l t false a n ≡ Upto (a + n)
 unfolding refs

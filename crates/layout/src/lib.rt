@@ -268,7 +268,7 @@ fn no_fields(w: usize) -> Sizes
     }
 }
 
-// The n words from a0 on are there and name types below t, the fields of type t: their sizes, from their fixed lengths.
+// The n words from a0 on, which are there, name types below t, the fields of type t: their sizes, from their fixed lengths.
 fn fields_len(
     lens: &mut [u32; 64],
     known: usize,
@@ -277,20 +277,16 @@ fn fields_len(
     a0: usize,
     n: usize,
 ) -> Sizes
-    requires { ⌜ Known (now lens) (now layout) known × (t ≤ known) × (n ≤ 64) × (a0 < 2 ^ 62) ⌝ }
+    requires { ⌜ Known (now lens) (now layout) known × (t ≤ known) × (n ≤ 64) × (a0 < 2 ^ 62) × (a0 + n ≤ count (now layout)) ⌝ }
     ensures { λ r. ⌜ r ≡ sizesOf (refs (now (layout .entry)) t false a0 n) (fields (now (layout .entry)) (trees (now (layout .entry)) t) a0 n) ⌝ }
     ensures { λ _. ⌜ now (lens .exit) ≡ now (lens .entry) ⌝ }
 {
-    let words = layout.len() / 4;
     let mut a = a0;
     let mut left = n;
     let mut portion: usize = 0;
     let mut fixed = true;
     while left > 0 {
-        if a >= words {
-            return no_fields(words);
-        }
-        let f = word_at(layout, a);
+        let f = word_in(layout, a);
         let ok = may_name(f, t, false);
         if !ok {
             return no_fields(a);
@@ -320,7 +316,12 @@ fn container_end(lens: &mut [u32; 64], layout: &[u8], t: usize, at: usize) -> Ch
     match fields {
         Checked::Bad(w) => Checked::Bad(w),
         Checked::Upto(n) => {
-            let sizes = fields_len(lens, t, layout, t, at + 2, n);
+            let first = at + 2;
+            // only where a word is missing is each looked for
+            if first + n > layout.len() / 4 {
+                return refs_end(layout, t, false, first, n);
+            }
+            let sizes = fields_len(lens, t, layout, t, first, n);
             let end = sizes.end;
             match end {
                 Checked::Bad(w) => Checked::Bad(w),

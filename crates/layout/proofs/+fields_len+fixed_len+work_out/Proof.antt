@@ -9,7 +9,7 @@ use Rattle.layout.specs.Table.{count}
 use Rattle.layout.proofs.Facts.{length-filled, legal-node, legal-below}
 use Rattle.layout.proofs.Trees.{leaf-length, len-small}
 use Rattle.layout.proofs.Tables.{known-len, known-small, below-nine}
-use Rattle.layout.proofs.Lengths.{Taking, taking-start, taking-missing, taking-wrong, taking-lower, taking-width}
+use Rattle.layout.proofs.Lengths.{Taking, taking-start, taking-wrong, taking-lower, taking-width}
 use Rattle.layout.proofs.Lengths.{taking-fixed, taking-variable, taking-end, no-sizes}
 use Rattle.layout.proofs.Lengths.{sizes-len, legal-refs, lengthened, vector-lower, vector-small, vector-found}
 use Prim.Native.Nat.{ℕ, _<_}
@@ -29,6 +29,7 @@ use Rattle.layout.proofs.look.Reads as look-reads
 use Rattle.layout.proofs.may_name.Reads as may-name-reads
 use Rattle.layout.proofs.no_fields.Reads as no-fields-reads
 use Rattle.layout.proofs.width_of.Reads as width-of-reads
+use Rattle.layout.proofs.word_in.Reads as word-in-reads
 use Rattle.standard.proofs.words.word_at.Reads as word-at-reads
 use Rattle.layout.proofs.+fields_len+fixed_len+work_out.{statement}
 use Rattle.layout.proofs.+fields_len+fixed_len+work_out.Tie.{close}
@@ -67,12 +68,12 @@ work-out-below t =
 -- what each of the three calls, at the measure t
 abbrev fields-len-calls : ℕ → fields-len-lts.Claims
 fields-len-calls t = (
-  no-fields-reads.Asked,
-  no-fields-reads.Learnt,
-  word-at-reads.Asked,
-  word-at-reads.Learnt,
+  word-in-reads.Asked,
+  word-in-reads.Learnt,
   may-name-reads.Asked,
   may-name-reads.Learnt,
+  no-fields-reads.Asked,
+  no-fields-reads.Learnt,
   fixed-len-below t,
   fixed-len.Post,
   width-of-reads.Asked,
@@ -97,106 +98,87 @@ work-out-calls t = (
 )
 
 abbrev fields-len-Inv-loop : fields-len-lts.InvT-loop
-fields-len-Inv-loop lens₀ known layout t a0 n words a₀ left₀ portion₀ fixed₀ lens a left portion fixed =
-    (words ≡ count layout) × Taking layout t known a0 n lens a left portion fixed
+fields-len-Inv-loop lens₀ known layout t a0 n a₀ left₀ portion₀ fixed₀ lens a left portion fixed =
+    Taking layout t known a0 n lens a left portion fixed
 
 abbrev fields-len-μ-loop : fields-len-lts.MeasureT-loop
-fields-len-μ-loop lens₀ known layout t a0 n words a₀ left₀ portion₀ fixed₀ lens a left portion fixed = left
+fields-len-μ-loop lens₀ known layout t a0 n a₀ left₀ portion₀ fixed₀ lens a left portion fixed = left
 
-fields-len-loop-holds : (t : ℕ) → fields-len-lts.Need-loop-holds (fields-len-calls t) (fields-len-at t) fields-len.Post fields-len-Inv-loop
-    fields-len-μ-loop
-unfolding count
-fields-len-loop-holds t c = (refl, taking-start _ _ _ _ _ _ (c .before .pre .1 .0 .found))
+fields-len-loop-holds : (t : ℕ) → fields-len-lts.Need-loop-holds (fields-len-calls t) (fields-len-at t) fields-len.Post fields-len-Inv-loop fields-len-μ-loop
+fields-len-loop-holds t c = taking-start _ _ _ _ _ _ (c .before .pre .1 .0 .found)
 
-fields-len-no-fields-requires : (t : ℕ) → fields-len-lts.Need-no-fields-requires (fields-len-calls t) (fields-len-at t) fields-len.Post
-    fields-len-Inv-loop fields-len-μ-loop
+fields-len-word-in-requires : (t : ℕ) → fields-len-lts.Need-word-in-requires (fields-len-calls t) (fields-len-at t) fields-len.Post fields-len-Inv-loop fields-len-μ-loop
+fields-len-word-in-requires t c κs =
+    let loop = c .before in
+    let start = loop .before .before in
+    omega (arith, loop .loop .inv .adding .place, c .loop-test .taken, start .pre .1 .4)
+
+-- the word that was read is there
+fields-len-there : (t : ℕ) (c : fields-len-lts.After-word-in (fields-len-calls t) (fields-len-at t) fields-len.Post fields-len-Inv-loop fields-len-μ-loop) →
+    c .before .before .loop .a < count (c .before .before .before .before .args .layout .now)
+fields-len-there t c =
+    let loop = c .before .before in
+    let start = loop .before .before in
+    omega (arith, loop .loop .inv .adding .place, c .before .loop-test .taken, start .pre .1 .4)
+
+fields-len-may-name-requires : (t : ℕ) → fields-len-lts.Need-may-name-requires (fields-len-calls t) (fields-len-at t) fields-len.Post fields-len-Inv-loop fields-len-μ-loop
+fields-len-may-name-requires t c κs = search needs
+
+fields-len-no-fields-requires : (t : ℕ) → fields-len-lts.Need-no-fields-requires (fields-len-calls t) (fields-len-at t) fields-len.Post fields-len-Inv-loop fields-len-μ-loop
 fields-len-no-fields-requires t c κs = search needs
 
 fields-len-returns : (t : ℕ) → fields-len-lts.Need-returns (fields-len-calls t) (fields-len-at t) fields-len.Post fields-len-Inv-loop fields-len-μ-loop
-unfolding count
 fields-len-returns t c =
-    let c1 = c .before in
-    let c2 = c1 .before in
-    let c3 = c2 .before in
-    let c5 = c3 .before .before in
-    let miss = taking-missing _ _ _ _ _ _ _ _ _ _ _ 0 (c3 .loop .inv .1) (c2 .loop-test .taken) refl (c5 .pre .1 .1) (c1 .if1 .taken) in
-    (c .no-fields .ensures ∙ no-sizes _ _ _ miss, c3 .loop .inv .1 .found ∙ sym (c5 .pre .1 .0 .found))
+    let named = c .before .before in
+    let word = named .before in
+    let test = word .before in
+    let loop = test .before in
+    let start = loop .before .before in
+    let bad = taking-wrong _ _ _ _ _ _ _ _ _ _ _ 0 (loop .loop .inv) (test .loop-test .taken) (word .word-in .ensures .0) (start .pre .1 .1)
+    (fields-len-there t word) _ (named .may-name .ensures) (not-true _ (c .before .if1 .taken)) in
+    (c .no-fields .ensures ∙ no-sizes _ _ _ bad, loop .loop .inv .found ∙ sym (start .pre .1 .0 .found))
 
-fields-len-word-at-requires : (t : ℕ) → fields-len-lts.Need-word-at-requires (fields-len-calls t) (fields-len-at t) fields-len.Post
-    fields-len-Inv-loop fields-len-μ-loop
-fields-len-word-at-requires t c κs = search needs
-
-fields-len-may-name-requires : (t : ℕ) → fields-len-lts.Need-may-name-requires (fields-len-calls t) (fields-len-at t) fields-len.Post
-    fields-len-Inv-loop fields-len-μ-loop
-fields-len-may-name-requires t c κs = search needs
-
-fields-len-no-fields-requires-2 : (t : ℕ) → fields-len-lts.Need-no-fields-requires-2 (fields-len-calls t) (fields-len-at t) fields-len.Post
-    fields-len-Inv-loop fields-len-μ-loop
-fields-len-no-fields-requires-2 t c κs = search needs
-
-fields-len-returns-2 : (t : ℕ) → fields-len-lts.Need-returns-2 (fields-len-calls t) (fields-len-at t) fields-len.Post fields-len-Inv-loop fields-len-μ-loop
-unfolding count
-fields-len-returns-2 t c =
-    let c1 = c .before in
-    let c2 = c1 .before in
-    let c3 = c2 .before in
-    let c4 = c3 .before in
-    let c5 = c4 .before in
-    let c6 = c5 .before in
-    let c8 = c6 .before .before in
-    let bad = taking-wrong _ _ _ _ _ _ _ _ _ _ _ 0 (c6 .loop .inv .1) (c5 .loop-test .taken) (c3 .word-at .ensures .0) (c8 .pre .1 .1)
-    (c4 .if1 .left) _ (c2 .may-name .ensures) (not-true _ (c1 .if2 .taken)) in
-    (c .no-fields2 .ensures ∙ no-sizes _ _ _ bad, c6 .loop .inv .1 .found ∙ sym (c8 .pre .1 .0 .found))
-
-fields-len-fixed-len-requires : (t : ℕ) → fields-len-lts.Need-fixed-len-requires (fields-len-calls t) (fields-len-at t) fields-len.Post
-    fields-len-Inv-loop fields-len-μ-loop
-unfolding count
+fields-len-fixed-len-requires : (t : ℕ) → fields-len-lts.Need-fixed-len-requires (fields-len-calls t) (fields-len-at t) fields-len.Post fields-len-Inv-loop fields-len-μ-loop
 fields-len-fixed-len-requires t c κs =
-    let c1 = c .before in
-    let c2 = c1 .before in
-    let c3 = c2 .before in
-    let c4 = c3 .before in
-    let c5 = c4 .before in
-    let c6 = c5 .before in
-    let c8 = c6 .before .before in
-    let h = taking-lower _ _ _ _ _ _ _ _ _ _ _ 0 (c6 .loop .inv .1) (c5 .loop-test .taken) (c3 .word-at .ensures .0) (c8 .pre .1 .1)
-    (c4 .if1 .left) _ (c2 .may-name .ensures) (not-false _ (c1 .if2 .left)) in (
-      rw (← c8 .pre .0) (omega (arith, h)),
+    let named = c .before .before in
+    let word = named .before in
+    let test = word .before in
+    let loop = test .before in
+    let start = loop .before .before in
+    let h = taking-lower _ _ _ _ _ _ _ _ _ _ _ 0 (loop .loop .inv) (test .loop-test .taken) (word .word-in .ensures .0) (start .pre .1 .1)
+    (fields-len-there t word) _ (named .may-name .ensures) (not-false _ (c .before .if1 .left)) in (
+      rw (← start .pre .0) (omega (arith, h)),
       (
-        record { found = c6 .loop .inv .1 .found; legal = c8 .pre .1 .0 .legal; few = c8 .pre .1 .0 .few },
-        legal-below _ _ _ (omega (arith, h, c8 .pre .1 .1)) (c8 .pre .1 .0 .legal),
-        omega (arith, h, c8 .pre .1 .1),
-        omega (arith, h, c8 .pre .1 .1, c8 .pre .1 .0 .few),
+        record { found = loop .loop .inv .found; legal = start .pre .1 .0 .legal; few = start .pre .1 .0 .few },
+        legal-below _ _ _ (omega (arith, h, start .pre .1 .1)) (start .pre .1 .0 .legal),
+        omega (arith, h, start .pre .1 .1),
+        omega (arith, h, start .pre .1 .1, start .pre .1 .0 .few),
       ),
     )
 
-fields-len-width-of-requires : (t : ℕ) → fields-len-lts.Need-width-of-requires (fields-len-calls t) (fields-len-at t) fields-len.Post
-    fields-len-Inv-loop fields-len-μ-loop
+fields-len-width-of-requires : (t : ℕ) → fields-len-lts.Need-width-of-requires (fields-len-calls t) (fields-len-at t) fields-len.Post fields-len-Inv-loop fields-len-μ-loop
 fields-len-width-of-requires t c κs = search needs
 
-fields-len-add-portion : (t : ℕ) → fields-len-lts.Need-add-portion (fields-len-calls t) (fields-len-at t) fields-len.Post
-    fields-len-Inv-loop fields-len-μ-loop
-unfolding count
+fields-len-add-portion : (t : ℕ) → fields-len-lts.Need-add-portion (fields-len-calls t) (fields-len-at t) fields-len.Post fields-len-Inv-loop fields-len-μ-loop
 fields-len-add-portion t c =
-    let c1 = c .before in
-    let c2 = c1 .before in
-    let c4 = c2 .before .before in
-    let c5 = c4 .before in
-    let c6 = c5 .before in
-    let c7 = c6 .before in
-    let c8 = c7 .before in
-    let c9 = c8 .before in
-    let c11 = c9 .before .before in
-    let w = taking-width _ _ _ _ _ _ _ _ _ _ _ _ (c9 .loop .inv .1) (c8 .loop-test .taken) (c6 .word-at .ensures .0) (c11 .pre .1 .1)
-    (c7 .if1 .left) _ (c5 .may-name .ensures)
-    (not-false _ (c4 .if2 .left)) (c11 .pre .1 .0 .legal) (c2 .fixed-len .ensures .gives) _ (c .width-of .ensures) in
-    omega (arith, w, c9 .loop .inv .1 .adding .bound, c11 .pre .1 .2, c8 .loop-test .taken)
+    let joined = c .before in
+    let len = joined .before in
+    let lower = len .before .before in
+    let named = lower .before in
+    let word = named .before in
+    let test = word .before in
+    let loop = test .before in
+    let start = loop .before .before in
+    let w = taking-width _ _ _ _ _ _ _ _ _ _ _ _ (loop .loop .inv) (test .loop-test .taken) (word .word-in .ensures .0) (start .pre .1 .1)
+    (fields-len-there t word) _ (named .may-name .ensures) (not-false _ (lower .if1 .left)) (start .pre .1 .0 .legal) (len .fixed-len .ensures .gives) _
+    (c .width-of .ensures) in
+    omega (arith, w, loop .loop .inv .adding .bound, start .pre .1 .2, test .loop-test .taken)
 
 fields-len-add-a : (t : ℕ) → fields-len-lts.Need-add-a (fields-len-calls t) (fields-len-at t) fields-len.Post fields-len-Inv-loop fields-len-μ-loop
 fields-len-add-a t c =
-    let c9 = c .before .before .before .before .before .before .before .before .before in
-    let c11 = c9 .before .before in
-    omega (arith, c9 .loop .inv .1 .adding .place, c11 .pre .1 .2, c11 .pre .1 .3)
+    let loop = c .before .before .before .before .before .before .before .before in
+    let start = loop .before .before in
+    omega (arith, loop .loop .inv .adding .place, start .pre .1 .2, start .pre .1 .3)
 
 fields-len-sub-left : (t : ℕ) → fields-len-lts.Need-sub-left (fields-len-calls t) (fields-len-at t) fields-len.Post fields-len-Inv-loop fields-len-μ-loop
 fields-len-sub-left t c = omega arith
@@ -204,45 +186,38 @@ fields-len-sub-left t c = omega arith
 fields-len-loop-less : (t : ℕ) → fields-len-lts.Need-loop-less (fields-len-calls t) (fields-len-at t) fields-len.Post fields-len-Inv-loop fields-len-μ-loop
 fields-len-loop-less t c = omega arith
 
-fields-len-loop-again : (t : ℕ) → fields-len-lts.Need-loop-again (fields-len-calls t) (fields-len-at t) fields-len.Post fields-len-Inv-loop
-    fields-len-μ-loop
-unfolding count
+fields-len-loop-again : (t : ℕ) → fields-len-lts.Need-loop-again (fields-len-calls t) (fields-len-at t) fields-len.Post fields-len-Inv-loop fields-len-μ-loop
 fields-len-loop-again t c =
-    let c1 = c .before in
-    let c2 = c1 .before in
-    let c4 = c2 .before .before in
-    let c5 = c4 .before in
-    let c6 = c5 .before in
-    let c7 = c6 .before in
-    let c8 = c7 .before in
-    let c9 = c8 .before in
-    let c11 = c9 .before .before in (
-      refl,
-      ⊎-elim
-          (λ h. rw (h .1) (taking-variable _ _ _ _ _ _ _ _ _ _ _ _ (c9 .loop .inv .1) (c8 .loop-test .taken) (c6 .word-at .ensures .0)
-          (c11 .pre .1 .1) (c7 .if1 .left) _ (c5 .may-name .ensures)
-          (not-false _ (c4 .if2 .left)) (c11 .pre .1 .0 .legal) (c2 .fixed-len .ensures .gives) _ (c .width-of .ensures) _
-          (c2 .fixed-len .ensures .found) (h .0 .taken)))
-          (λ h. rw (h .1) (taking-fixed _ _ _ _ _ _ _ _ _ _ _ _ (c9 .loop .inv .1) (c8 .loop-test .taken) (c6 .word-at .ensures .0)
-          (c11 .pre .1 .1) (c7 .if1 .left) _ (c5 .may-name .ensures)
-          (not-false _ (c4 .if2 .left)) (c11 .pre .1 .0 .legal) (c2 .fixed-len .ensures .gives) _ (c .width-of .ensures) _
-          (c2 .fixed-len .ensures .found) (h .0 .left)))
-          (c1 .if3 .came),
-    )
+    let joined = c .before in
+    let len = joined .before in
+    let lower = len .before .before in
+    let named = lower .before in
+    let word = named .before in
+    let test = word .before in
+    let loop = test .before in
+    let start = loop .before .before in
+    ⊎-elim
+    (λ h. rw (h .1) (taking-variable _ _ _ _ _ _ _ _ _ _ _ _ (loop .loop .inv) (test .loop-test .taken) (word .word-in .ensures .0) (start .pre .1 .1)
+    (fields-len-there t word) _ (named .may-name .ensures) (not-false _ (lower .if1 .left)) (start .pre .1 .0 .legal) (len .fixed-len .ensures .gives) _
+    (c .width-of .ensures) _ (len .fixed-len .ensures .found) (h .0 .taken)))
+    (λ h. rw (h .1) (taking-fixed _ _ _ _ _ _ _ _ _ _ _ _ (loop .loop .inv) (test .loop-test .taken) (word .word-in .ensures .0) (start .pre .1 .1)
+    (fields-len-there t word) _ (named .may-name .ensures) (not-false _ (lower .if1 .left)) (start .pre .1 .0 .legal) (len .fixed-len .ensures .gives) _
+    (c .width-of .ensures) _ (len .fixed-len .ensures .found) (h .0 .left)))
+    (joined .if2 .came)
+
+fields-len-returns-2 : (t : ℕ) → fields-len-lts.Need-returns-2 (fields-len-calls t) (fields-len-at t) fields-len.Post fields-len-Inv-loop fields-len-μ-loop
+fields-len-returns-2 t c =
+    let done = c .before in
+    let loop = done .before in
+    let start = loop .before .before in
+    (rw (c .if3 .taken) at (taking-end _ _ _ _ _ _ _ _ _ _ (loop .loop .inv) (done .loop-test .left)), loop .loop .inv .found ∙ sym (start .pre .1 .0 .found))
 
 fields-len-returns-3 : (t : ℕ) → fields-len-lts.Need-returns-3 (fields-len-calls t) (fields-len-at t) fields-len.Post fields-len-Inv-loop fields-len-μ-loop
 fields-len-returns-3 t c =
-    let c1 = c .before in
-    let c2 = c1 .before in
-    let c4 = c2 .before .before in
-    (rw (c .if4 .taken) at (taking-end _ _ _ _ _ _ _ _ _ _ (c2 .loop .inv .1) (c1 .loop-test .left)), c2 .loop .inv .1 .found ∙ sym (c4 .pre .1 .0 .found))
-
-fields-len-returns-4 : (t : ℕ) → fields-len-lts.Need-returns-4 (fields-len-calls t) (fields-len-at t) fields-len.Post fields-len-Inv-loop fields-len-μ-loop
-fields-len-returns-4 t c =
-    let c1 = c .before in
-    let c2 = c1 .before in
-    let c4 = c2 .before .before in
-    (rw (c .if4 .left) at (taking-end _ _ _ _ _ _ _ _ _ _ (c2 .loop .inv .1) (c1 .loop-test .left)), c2 .loop .inv .1 .found ∙ sym (c4 .pre .1 .0 .found))
+    let done = c .before in
+    let loop = done .before in
+    let start = loop .before .before in
+    (rw (c .if3 .left) at (taking-end _ _ _ _ _ _ _ _ _ _ (loop .loop .inv) (done .loop-test .left)), loop .loop .inv .found ∙ sym (start .pre .1 .0 .found))
 
 fixed-len-mul-result : (t : ℕ) → fixed-len-lts.Need-mul-result (fixed-len-calls t) (fixed-len-at t) fixed-len.Post
 fixed-len-mul-result t c =
@@ -393,7 +368,7 @@ work-out-fields-len-requires t c κs =
     let c6 = c2 .before .before .before .before in
     let start = c6 .before .before in
     let g = legal-node _ _ _ (c6 .look .ensures) (start .pre .1 .1) in
-    (rw (← start .pre .0) (omega arith), (start .pre .1 .0, omega arith, g .few (c2 .if2 .left), omega (arith, g .near)))
+    (rw (← start .pre .0) (omega arith), (start .pre .1 .0, omega arith, g .few (c2 .if2 .left), omega (arith, g .near), g .within (omega (arith, c2 .if2 .left)) (omega (arith, c2 .if2 .left))))
 
 work-out-cast-lens-3 : (t : ℕ) → work-out-lts.Need-cast-lens-3 (work-out-calls t) (work-out-at t) work-out.Post
 work-out-cast-lens-3 t c =
@@ -430,12 +405,10 @@ pub +fields-len+fixed-len+work-out-spec : {M : Type 1} → statement M
     fields-len-Inv-loop
     fields-len-μ-loop
     (fields-len-loop-holds t)
+    (fields-len-word-in-requires t)
+    (fields-len-may-name-requires t)
     (fields-len-no-fields-requires t)
     (fields-len-returns t)
-    (fields-len-word-at-requires t)
-    (fields-len-may-name-requires t)
-    (fields-len-no-fields-requires-2 t)
-    (fields-len-returns-2 t)
     (fields-len-fixed-len-requires t)
     (fields-len-width-of-requires t)
     (fields-len-add-portion t)
@@ -443,8 +416,8 @@ pub +fields-len+fixed-len+work-out-spec : {M : Type 1} → statement M
     (fields-len-sub-left t)
     (fields-len-loop-less t)
     (fields-len-loop-again t)
-    (fields-len-returns-3 t)
-    (fields-len-returns-4 t))
+    (fields-len-returns-2 t)
+    (fields-len-returns-3 t))
     (λ t. fixed-len-lts.spec (fixed-len-calls t)
     (fixed-len-at t)
     fixed-len.Post
