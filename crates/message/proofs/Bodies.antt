@@ -29,11 +29,12 @@ use Rattle.layout.specs.Legal.{LowerOrBare, LegalNode, Legal}
 use Rattle.layout.specs.declared.Node.{Node}
 use Rattle.layout.proofs.Facts.{trees-get, as-union, as-leaf, legal-node}
 use Rattle.message.specs.Read.{one, plus, andThen, built, readExact, readItem, readFields, readOption}
-use Rattle.message.specs.Steps.{Under, Row, rowOf, headsOf, optionAt, choiceOf, choose, isPlain, Small}
+use Rattle.message.specs.Steps.{Under, Row, rowOf, headsOf, placed, optionAt, choiceOf, choose, isPlain, Small}
 use Rattle.message.specs.declared.Counts.{Counts}
 use Rattle.message.specs.declared.Answer.{Answer}
 use Rattle.message.specs.declared.Answer.the-variants.{Accepted, Refused}
 use Rattle.message.specs.declared.items.Choice.{Choice}
+use Rattle.message.specs.declared.items.LeafTold.{LeafTold}
 use Rattle.message.proofs.Answers.{then-assoc}
 use Rattle.message.proofs.Bounds.{counts-small}
 use Rattle.message.proofs.Sums.{Summed, spread, spread-small, summed-own, summed-small, summed-item}
@@ -102,6 +103,11 @@ module _ (l : List ℕ) (f : ℕ) (n : Node) (e : n ≡ nodeOf l f) where
       (λ (k : n .kind ≡ 0). (rw (as-number k), λ b s. rw (as-number k)))
       (λ (k : n .kind ≡ 2). (rw (as-fixed-bytes k), λ b s. rw (as-fixed-bytes k)))
       (plain-kind (n .kind) h)
+
+-- What a leaf is told to be, y, is what the rules of reading say.
+pub leaf-told : (l : List ℕ) (f : ℕ) (n : Node) → n ≡ nodeOf l f → n .kind < 6 → (b : List ℕ) (x y : LeafTold) → y ≡ x →
+    ((t s : ℕ) → placed y t s ≡ readItem (leafOf t n) b s) → (s : ℕ) → placed x f s ≡ readItem (treeOf l f) b s
+leaf-told l f n e h b x y q k s = rw (← q, as-leaf l f n e h) (k f s)
 
 -- The first field's answer, and that of the rest.
 module _ (lens l : List ℕ) (t a step left f : ℕ) (b : List ℕ) (p : ℕ) (g : Row lens l t a step left) (z : 0 < left) (e : f ≡ wordAt l a) (w : Span)

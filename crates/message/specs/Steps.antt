@@ -26,6 +26,7 @@ use Rattle.message.specs.declared.Answer.{Answer}
 use Rattle.message.specs.declared.Answer.the-variants.{Accepted, Refused}
 use Rattle.message.specs.declared.items.Choice.{Choice}
 use Rattle.message.specs.declared.items.Inside.{Inside}
+use Rattle.message.specs.declared.items.LeafTold.{LeafTold}
 
 -- The types below k are legal, and their lengths stand in lens.
 pub record Under (lens l : List ℕ) (k : ℕ) : Type 0 where
@@ -63,6 +64,11 @@ pub record Alike (lens l : List ℕ) (t at n e : ℕ) (b : List ℕ) : Type 0 wh
   pub lower : e < t
   pub ranges : InRange (headsOf l t at 0 n) b 0 0
   pub first : next (headsOf l t at 0 n) b 0 ≡ portion (headsOf l t at 0 n)
+
+-- What a leaf of type t that starts at s says
+abbrev pub placed : LeafTold → ℕ → ℕ → Answer
+placed (LeafTold.Sizes w k) t s = one w k
+placed (LeafTold.Refused r) t s = Refused r t s
 
 -- What is found of the inside of the item b of type t is what the rules of reading say: a refusal, what it counts, or the fields or elements
 -- that are left to be read, inside something with `own` contents words.

@@ -20,7 +20,7 @@ use standard::Refusal;
 use standard::Told;
 use standard::words::word_at;
 ghost use mathlib.Core.Path.{_≡_};
-ghost use Prim.Native.Nat.{_+_, _≤_, _<_, _^_};
+ghost use Prim.Native.Nat.{ℕ, _+_, _≤_, _<_, _^_};
 ghost use lib.ListN.{length};
 ghost use Rattle.standard.specs.Choice.{pick};
 ghost use Rattle.standard.specs.Types.{boolean, freeBytes, bitVector, bitList};
@@ -32,7 +32,7 @@ ghost use Rattle.message.specs.declared.Counts.{Counts};
 ghost use Rattle.message.specs.declared.Answer.the-variants.{Accepted};
 ghost use Rattle.message.specs.declared.items.Inside.{Inside};
 ghost use Rattle.decode.specs.declared.union_selector.SelectorResult.{SelectorResult};
-ghost use Rattle.message.specs.Steps.{Under, Row, rowOf, headsOf, Found, optionAt, choiceOf, choose, isPlain, Small};
+ghost use Rattle.message.specs.Steps.{Under, Row, rowOf, headsOf, Found, placed, optionAt, choiceOf, choose, isPlain, Small};
 
 // What a union's selector chooses: an option without body, the type of a body, or a refusal.
 pub(crate) enum Choice {
@@ -66,90 +66,96 @@ fn leaf(words: usize, bytes: usize) -> Answer
     })
 }
 
+// What a leaf says: how many contents words and body bytes it has, or what is wrong. Where it lies its caller knows.
+enum LeafTold {
+    Sizes(usize, usize),
+    Refused(Refusal),
+}
+
 // A number or fixed bytes: w bytes.
-fn exact_check(w: usize, t: usize, b: &[u8], start: usize) -> Answer
-    ensures { λ r. ⌜ r ≡ readExact w t (now (b .entry)) start ⌝ }
+fn exact_check(w: usize, b: &[u8]) -> LeafTold
+    ensures { λ r. ⌜ ((t s : ℕ) → placed r t s ≡ readExact w t (now (b .entry)) s) ⌝ }
 {
     let len = b.len();
     if len == w {
-        leaf(0, len)
+        LeafTold::Sizes(0, len)
     } else {
-        Answer::Refused(Refusal::InvalidByteLength(len, w), t, start)
+        LeafTold::Refused(Refusal::InvalidByteLength(len, w))
     }
 }
 
 // A boolean: one byte, 0 or 1.
-fn boolean_check(t: usize, b: &[u8], start: usize) -> Answer
-    ensures { λ r. ⌜ r ≡ readItem (boolean t) (now (b .entry)) start ⌝ }
+fn boolean_check(b: &[u8]) -> LeafTold
+    ensures { λ r. ⌜ ((t s : ℕ) → placed r t s ≡ readItem (boolean t) (now (b .entry)) s) ⌝ }
 {
     let len = b.len();
     if len != 1 {
-        return Answer::Refused(Refusal::InvalidByteLength(len, 1), t, start);
+        return LeafTold::Refused(Refusal::InvalidByteLength(len, 1));
     }
     let x = b[0];
     if x < 2 {
-        leaf(0, 1)
+        LeafTold::Sizes(0, 1)
     } else {
-        Answer::Refused(Refusal::BadBoolean(x), t, start)
+        LeafTold::Refused(Refusal::BadBoolean(x))
     }
 }
 
 // Free bytes up to their limit; they are not looked at.
-fn free_check(limit: usize, t: usize, b: &[u8], start: usize) -> Answer
-    ensures { λ r. ⌜ r ≡ readItem (freeBytes t limit) (now (b .entry)) start ⌝ }
+fn free_check(limit: usize, b: &[u8]) -> LeafTold
+    ensures { λ r. ⌜ ((t s : ℕ) → placed r t s ≡ readItem (freeBytes t limit) (now (b .entry)) s) ⌝ }
 {
     let len = b.len();
     if len <= limit {
-        leaf(1, len)
+        LeafTold::Sizes(1, len)
     } else {
-        Answer::Refused(Refusal::OverLimit(len, limit), t, start)
+        LeafTold::Refused(Refusal::OverLimit(len, limit))
     }
 }
 
 // A bit vector of n bits.
-fn vector_check(n: usize, t: usize, b: &[u8], start: usize) -> Answer
-    ensures { λ r. ⌜ r ≡ readItem (bitVector t n) (now (b .entry)) start ⌝ }
+fn vector_check(n: usize, b: &[u8]) -> LeafTold
+    ensures { λ r. ⌜ ((t s : ℕ) → placed r t s ≡ readItem (bitVector t n) (now (b .entry)) s) ⌝ }
 {
     let told = bitvector_body(b, n);
     match told {
-        Told::Fine => leaf(0, b.len()),
-        Told::Refused(r) => Answer::Refused(r, t, start),
+        Told::Fine => LeafTold::Sizes(0, b.len()),
+        Told::Refused(r) => LeafTold::Refused(r),
     }
 }
 
 // A bit list of at most limit bits.
-fn list_check(limit: usize, t: usize, b: &[u8], start: usize) -> Answer
-    ensures { λ r. ⌜ r ≡ readItem (bitList t limit) (now (b .entry)) start ⌝ }
+fn list_check(limit: usize, b: &[u8]) -> LeafTold
+    ensures { λ r. ⌜ ((t s : ℕ) → placed r t s ≡ readItem (bitList t limit) (now (b .entry)) s) ⌝ }
 {
     let bits = bitlist_body(b, limit);
     match bits {
-        BodyBits::Bits(k) => leaf(1, raw_bytes(k)),
-        BodyBits::Refused(r) => Answer::Refused(r, t, start),
+        BodyBits::Bits(k) => LeafTold::Sizes(1, raw_bytes(k)),
+        BodyBits::Refused(r) => LeafTold::Refused(r),
     }
 }
 
 // An item of a type that has no lower types.
-fn leaf_check(n: Node, t: usize, b: &[u8], start: usize) -> Answer
-    ensures { λ r. ⌜ r ≡ readItem (leafOf t n) (now (b .entry)) start ⌝ }
+fn leaf_check(n: Node, b: &[u8]) -> LeafTold
+    ensures { λ r. ⌜ ((t s : ℕ) → placed r t s ≡ readItem (leafOf t n) (now (b .entry)) s) ⌝ }
 {
     let kind = n.kind;
     let second = n.second;
     if kind == 0 {
-        return exact_check(second, t, b, start);
+        return exact_check(second, b);
     }
     if kind == 1 {
-        return boolean_check(t, b, start);
+        return boolean_check(b);
     }
     if kind == 2 {
-        return exact_check(second, t, b, start);
+        return exact_check(second, b);
     }
     if kind == 3 {
-        return free_check(second, t, b, start);
+        return free_check(second, b);
     }
     if kind == 4 {
-        return vector_check(second, t, b, start);
+        return vector_check(second, b);
     }
-    list_check(second, t, b, start)
+    list_check(second, b)
 }
 
 // The option whose word is w: without body it is its selector byte alone.
@@ -208,7 +214,7 @@ fn add(c: Counts, d: Counts) -> Counts
 
 // Counts with one more item, which has so many contents words and body bytes.
 fn one_more(c: Counts, words: usize, bytes: usize) -> Counts
-    requires { ⌜ Small c (2 ^ 50) × (words < 2 ^ 32) × (bytes < 2 ^ 32) ⌝ }
+    requires { ⌜ Small c (2 ^ 50) × (words ≤ 2 ^ 50) × (bytes ≤ 2 ^ 50) ⌝ }
     ensures { λ r. ⌜ r ≡ plus c (record { records = 1; words = words; bytes = bytes }) ⌝ }
 {
     let own = Counts {
@@ -332,7 +338,11 @@ pub(crate) fn item_check(
 {
     let n = look_in(layout, t);
     if n.kind < 6 {
-        return leaf_check(n, t, b, start);
+        let r = leaf_check(n, b);
+        return match r {
+            LeafTold::Sizes(words, bytes) => leaf(words, bytes),
+            LeafTold::Refused(x) => Answer::Refused(x, t, start),
+        };
     }
     if n.kind == 7 {
         let first = n.at + 2;
@@ -359,17 +369,6 @@ pub(crate) fn item_check(
             field_check(lens, layout, t, first, step, m, own, b, start)
         }
     }
-}
-
-// Checks the item b of a field whose type t has the words n: a leaf needs no second look at the table.
-fn field_item(lens: &[u32; 64], layout: &[u8], n: Node, t: usize, b: &[u8], start: usize) -> Answer
-    requires { ⌜ Under (now lens) (now layout) (t + 1) × (start + length (now b) < 2 ^ 32) × (n ≡ nodeOf (now layout) t) ⌝ }
-    ensures { λ r. ⌜ r ≡ readItem (treeOf (now (layout .entry)) t) (now (b .entry)) start ⌝ }
-{
-    if n.kind < 6 {
-        return leaf_check(n, t, b, start);
-    }
-    item_check(lens, layout, t, b, start)
 }
 
 // Checks the n fields of type t that the words from a0 on name, step words apart, and counts them with what holds them, which has `own`
@@ -420,7 +419,15 @@ fn field_check(
             sum = one_more(sum, 1, len);
             continue;
         }
-        let r = field_item(lens, layout, node, f, &b[from..to], at);
+        if node.kind < 6 {
+            let r = leaf_check(node, &b[from..to]);
+            match r {
+                LeafTold::Sizes(words, bytes) => sum = one_more(sum, words, bytes),
+                LeafTold::Refused(x) => return Answer::Refused(x, f, at),
+            }
+            continue;
+        }
+        let r = item_check(lens, layout, f, &b[from..to], at);
         match r {
             Answer::Accepted(c) => sum = add(sum, c),
             Answer::Refused(x, u, v) => return Answer::Refused(x, u, v),

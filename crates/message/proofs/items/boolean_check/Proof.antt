@@ -7,26 +7,23 @@ use Rattle.message.proofs.items.boolean_check.Tie as tie
 
 returns : tie.Need-returns
 unfolding readItem
-returns c = rw (ne-eqb _ _ (c .if1 .taken))
+returns c = λ t s. rw (ne-eqb _ _ (c .if1 .taken))
 
 shared-slice-read-x : tie.Need-shared-slice-read-x
 shared-slice-read-x c = search needs
 
-leaf-requires : tie.Need-leaf-requires
-leaf-requires c κs = search needs
-
 returns-2 : tie.Need-returns-2
 unfolding readItem
 returns-2 c =
-    let c3 = c .before .before .before in
-    rw (eq-eqb _ _ (c3 .if1 .left), lt-ltb _ _ (c .before .if2 .taken)) (c .leaf .ensures)
+    let c2 = c .before .before in
+    λ t s. rw (eq-eqb _ _ (c2 .if1 .left), lt-ltb _ _ (c .if2 .taken))
 
 returns-3 : tie.Need-returns-3
 unfolding readItem
 returns-3 c =
     let c2 = c .before .before in
-    rw (eq-eqb _ _ (c2 .if1 .left), le-ltb _ _ (c .if2 .left))
+    λ t s. rw (eq-eqb _ _ (c2 .if1 .left), le-ltb _ _ (c .if2 .left))
 
 pub boolean-check-spec : {M : Type 1} → statement M
 boolean-check-spec =
-    tie.close (tie.spec returns shared-slice-read-x leaf-requires returns-2 returns-3)
+    tie.close (tie.spec returns shared-slice-read-x returns-2 returns-3)

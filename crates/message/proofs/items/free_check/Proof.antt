@@ -5,16 +5,13 @@ use borrow.Author.Needs.{needs}
 use Rattle.message.proofs.items.free_check.Statement.{statement}
 use Rattle.message.proofs.items.free_check.Tie as tie
 
-leaf-requires : tie.Need-leaf-requires
-leaf-requires c κs = search needs
-
 returns : tie.Need-returns
 unfolding readItem
-returns c = rw (le-leb _ _ (c .before .if1 .taken)) (c .leaf .ensures)
+returns c = λ t s. rw (le-leb _ _ (c .if1 .taken))
 
 returns-2 : tie.Need-returns-2
 unfolding readItem
-returns-2 c = rw (lt-leb _ _ (c .if1 .left))
+returns-2 c = λ t s. rw (lt-leb _ _ (c .if1 .left))
 
 pub free-check-spec : {M : Type 1} → statement M
-free-check-spec = tie.close (tie.spec leaf-requires returns returns-2)
+free-check-spec = tie.close (tie.spec returns returns-2)

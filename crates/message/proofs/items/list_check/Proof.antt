@@ -13,24 +13,21 @@ enum-known-bits c = search needs
 raw-bytes-requires : tie.Need-raw-bytes-requires
 raw-bytes-requires c κs = search needs
 
-leaf-requires : tie.Need-leaf-requires
-leaf-requires c κs = search needs
-
 enum-known-bits-2 : tie.Need-enum-known-bits-2
 enum-known-bits-2 c = search needs
 
 returns : tie.Need-returns
 unfolding readItem
 returns c =
-    let c3 = c .before .before .before in
-    let c5 = c3 .before .before in
-    rw (← c5 .bitlist-body .ensures, c3 .bits .given .1, ← c .before .raw-bytes .ensures) (c .leaf .ensures)
+    let c2 = c .before .before in
+    let c4 = c2 .before .before in
+    λ t s. rw (← c4 .bitlist-body .ensures, c2 .bits .given .1, ← c .raw-bytes .ensures)
 
 returns-2 : tie.Need-returns-2
 unfolding readItem
 returns-2 c =
     let c3 = c .before .before .before in
-    rw (← c3 .bitlist-body .ensures, c .before .bits2 .given .1)
+    λ t s. rw (← c3 .bitlist-body .ensures, c .before .bits2 .given .1)
 
 pub list-check-spec : {M : Type 1} → statement M
 list-check-spec =
@@ -39,7 +36,6 @@ list-check-spec =
     bitlist-body-requires
     enum-known-bits
     raw-bytes-requires
-    leaf-requires
     enum-known-bits-2
     returns
     returns-2)

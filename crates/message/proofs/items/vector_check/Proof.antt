@@ -10,25 +10,22 @@ bitvector-body-requires c κs = search needs
 enum-told : tie.Need-enum-told
 enum-told c = search needs
 
-leaf-requires : tie.Need-leaf-requires
-leaf-requires c κs = search needs
-
 enum-known-told : tie.Need-enum-known-told
 enum-known-told c = search needs
 
 returns : tie.Need-returns
 unfolding readItem
 returns c =
-    let c3 = c .before .before .before in
-    rw (← c3 .bitvector-body .ensures, c .before .enum-told .given .1) (c .leaf .ensures)
+    let c2 = c .before .before in
+    λ t s. rw (← c2 .bitvector-body .ensures, c .enum-told .given .1)
 
 returns-2 : tie.Need-returns-2
 unfolding readItem
 returns-2 c =
     let c3 = c .before .before .before in
-    rw (← c3 .bitvector-body .ensures, c .before .told .given .1)
+    λ t s. rw (← c3 .bitvector-body .ensures, c .before .told .given .1)
 
 pub vector-check-spec : {M : Type 1} → statement M
 vector-check-spec =
     tie.close
-    (tie.spec bitvector-body-requires enum-told leaf-requires enum-known-told returns returns-2)
+    (tie.spec bitvector-body-requires enum-told enum-known-told returns returns-2)

@@ -1,29 +1,25 @@
--- Items, fields and the item of a field call each other; the type number falls. The loop over the fields keeps `Reading`. What is inside an
--- item was found before (`Found`). Assumes nothing.
+-- Items and fields call each other; the type number falls. The loop over the fields keeps `Reading`. What is inside an item was found before
+-- (`Found`). Assumes nothing.
 use mathlib.Core.Path.{_≡_, refl, sym, ap, _∙_}
 use native.Mathlib.Omega.{arith}
 use borrow.Author.Needs.{needs}
 use Prim.Native.Nat.{_+_, _*_}
 use lib.ListN.{length-take, length-drop}
-use Rattle.layout.proofs.Facts.{as-leaf}
 use Rattle.message.specs.Read.{one, andThen}
 use Rattle.message.proofs.Rows.{Lies, row-there, row-below, row-few, row-small, row-under, row-legal, under-below}
 use Rattle.message.proofs.Bodies.{Reading, reading-new, reading-small, reading-span, reading-item, reading-next, reading-stop, reading-end}
 use Rattle.message.proofs.Bodies.{plain-fits, plain-next, free-next, free-stop}
-use Rattle.message.proofs.Bodies.{item-small, small-more, node-ok}
+use Rattle.message.proofs.Bodies.{item-small, small-more, node-ok, leaf-told}
 use Rattle.message.proofs.Bodies.{bare-read, wrong-read, body-below, body-read}
 use Prim.Native.Nat.{ℕ, _<_}
 use borrow.Fn.Kinds.{In}
 use borrow.Fn.PlainCycle.{Measures, is, falls, and}
 use Rattle.message.proofs.items.field_check.Reads as field-check
 use Rattle.message.proofs.items.field_check.Kinds as field-check-kinds
-use Rattle.message.proofs.items.+field_check+field_item+item_check.Lts-field_check as field-check-lts
-use Rattle.message.proofs.items.field_item.Reads as field-item
-use Rattle.message.proofs.items.field_item.Kinds as field-item-kinds
-use Rattle.message.proofs.items.+field_check+field_item+item_check.Lts-field_item as field-item-lts
+use Rattle.message.proofs.items.+field_check+item_check.Lts-field_check as field-check-lts
 use Rattle.message.proofs.items.item_check.Reads as item-check
 use Rattle.message.proofs.items.item_check.Kinds as item-check-kinds
-use Rattle.message.proofs.items.+field_check+field_item+item_check.Lts-item_check as item-check-lts
+use Rattle.message.proofs.items.+field_check+item_check.Lts-item_check as item-check-lts
 use Rattle.message.proofs.words.look_in.Reads as look-in-reads
 use Rattle.message.proofs.fields.locate.Reads as locate-reads
 use Rattle.message.proofs.items.add.Reads as add-reads
@@ -36,17 +32,14 @@ use Rattle.message.proofs.items.own_record.Reads as own-record-reads
 use Rattle.message.proofs.items.select.Reads as select-reads
 use Rattle.message.proofs.items.with_selector.Reads as with-selector-reads
 use Rattle.message.proofs.words.word_in.Reads as word-in-reads
-use Rattle.message.proofs.items.+field_check+field_item+item_check.{statement}
-use Rattle.message.proofs.items.+field_check+field_item+item_check.Tie.{close}
+use Rattle.message.proofs.items.+field_check+item_check.{statement}
+use Rattle.message.proofs.items.+field_check+item_check.Tie.{close}
 
 abbrev μ-field-check : Measures 3 field-check-kinds.ps ℕ
-μ-field-check κs a = 3 * a .1 .1 .0
-
-abbrev μ-field-item : Measures 3 field-item-kinds.ps ℕ
-μ-field-item κs a = 3 * a .1 .1 .1 .0 + 2
+μ-field-check κs a = 2 * a .1 .1 .0
 
 abbrev μ-item-check : Measures 3 item-check-kinds.ps ℕ
-μ-item-check κs a = 3 * a .1 .1 .0 + 1
+μ-item-check κs a = 2 * a .1 .1 .0 + 1
 
 abbrev field-check-at : ℕ → In 3 field-check-kinds.ps
 field-check-at t =
@@ -55,14 +48,6 @@ field-check-at t =
 abbrev field-check-below : ℕ → In 3 field-check-kinds.ps
 field-check-below t =
     and 3 field-check-kinds.ps (falls 3 field-check-kinds.ps _<_ μ-field-check t) field-check.Pre
-
-abbrev field-item-at : ℕ → In 3 field-item-kinds.ps
-field-item-at t =
-    and 3 field-item-kinds.ps (is 3 field-item-kinds.ps μ-field-item t) field-item.Pre
-
-abbrev field-item-below : ℕ → In 3 field-item-kinds.ps
-field-item-below t =
-    and 3 field-item-kinds.ps (falls 3 field-item-kinds.ps _<_ μ-field-item t) field-item.Pre
 
 abbrev item-check-at : ℕ → In 3 item-check-kinds.ps
 item-check-at t =
@@ -93,15 +78,13 @@ field-check-calls t = (
   one-more-reads.Learnt,
   locate-reads.Asked,
   locate-reads.Learnt,
-  field-item-below t,
-  field-item.Post,
+  leaf-check-reads.Asked,
+  leaf-check-reads.Learnt,
+  item-check-below t,
+  item-check.Post,
   add-reads.Asked,
   add-reads.Learnt,
 )
-
--- what `field_item` calls, at the measure t
-abbrev field-item-calls : ℕ → field-item-lts.Claims
-field-item-calls t = (leaf-check-reads.Asked, leaf-check-reads.Learnt, item-check-below t, item-check.Post)
 
 -- what `item_check` calls, at the measure t
 abbrev item-check-calls : ℕ → item-check-lts.Claims
@@ -110,10 +93,10 @@ item-check-calls t = (
   look-in-reads.Learnt,
   leaf-check-reads.Asked,
   leaf-check-reads.Learnt,
-  select-reads.Asked,
-  select-reads.Learnt,
   leaf-reads.Asked,
   leaf-reads.Learnt,
+  select-reads.Asked,
+  select-reads.Learnt,
   item-check-below t,
   item-check.Post,
   with-selector-reads.Asked,
@@ -186,12 +169,10 @@ field-check-one-more-requires : (t : ℕ) → field-check-lts.Need-one-more-requ
 field-check-one-more-requires t c κs =
     let c4 = c .before .before .before .before in
     let c5 = c4 .before in
-    let c6 = c5 .before in
-    let c10 = c6 .before .before .before .before in (
+    let c6 = c5 .before in (
       reading-small _ _ _ _ _ _ _ _ _ _ _ _ _ (c6 .loop .inv),
       omega arith,
-      row-small _ _ _ _ _ _ _ (c6 .loop .inv .row)
-          (c5 .loop-test .taken) (c4 .word-in .ensures .0),
+      omega (arith, row-small _ _ _ _ _ _ _ (c6 .loop .inv .row) (c5 .loop-test .taken) (c4 .word-in .ensures .0)),
     )
 
 field-check-add-p : (t : ℕ) → field-check-lts.Need-add-p (field-check-calls t) (field-check-at t) field-check.Post field-check-Inv-loop field-check-μ-loop
@@ -304,112 +285,137 @@ field-check-loop-again-2 t c =
     rw (c .one-more2 .ensures) (free-next _ _ _ _ _ _ _ _ _ _ _ _ _ _ (c11 .loop .inv) (c10 .loop-test .taken) (c9 .word-in .ensures .0) _
     (c5 .locate .ensures) _ (c8 .look-in .ensures) (c3 .if2 .taken) (c1 .if3 .left) (c15 .pre .1 .1))
 
-field-check-sub-field-item : (t : ℕ) → field-check-lts.Need-sub-field-item (field-check-calls t) (field-check-at t) field-check.Post
-    field-check-Inv-loop field-check-μ-loop
-field-check-sub-field-item t c =
-    let c2 = c .before .before in
-    field-check-lies t c2 .0
+field-check-sub-leaf-check : (t : ℕ) → field-check-lts.Need-sub-leaf-check (field-check-calls t) (field-check-at t) field-check.Post field-check-Inv-loop field-check-μ-loop
+field-check-sub-leaf-check t c = field-check-lies t (c .before .before .before .before) .0
 
-field-check-part-field-item-start : (t : ℕ) → field-check-lts.Need-part-field-item-start (field-check-calls t) (field-check-at t) field-check.Post
-    field-check-Inv-loop field-check-μ-loop
-field-check-part-field-item-start t c =
-    let c2 = c .before .before in
-    field-check-lies t c2 .0
+field-check-part-leaf-check-start : (t : ℕ) → field-check-lts.Need-part-leaf-check-start (field-check-calls t) (field-check-at t) field-check.Post field-check-Inv-loop field-check-μ-loop
+field-check-part-leaf-check-start t c = field-check-lies t (c .before .before .before .before) .0
 
-field-check-part-field-item-end : (t : ℕ) → field-check-lts.Need-part-field-item-end (field-check-calls t) (field-check-at t) field-check.Post
-    field-check-Inv-loop field-check-μ-loop
-field-check-part-field-item-end t c =
-    let c2 = c .before .before in
-    field-check-lies t c2 .1
+field-check-part-leaf-check-end : (t : ℕ) → field-check-lts.Need-part-leaf-check-end (field-check-calls t) (field-check-at t) field-check.Post field-check-Inv-loop field-check-μ-loop
+field-check-part-leaf-check-end t c = field-check-lies t (c .before .before .before .before) .1
 
-field-check-field-item-requires : (t : ℕ) → field-check-lts.Need-field-item-requires (field-check-calls t) (field-check-at t) field-check.Post
-    field-check-Inv-loop field-check-μ-loop
-field-check-field-item-requires t c κs =
-    let c3 = c .before .before .before in
-    let c6 = c3 .before .before .before in
-    let c7 = c6 .before in
-    let c8 = c7 .before in
-    let c9 = c8 .before in
-    let c13 = c9 .before .before .before .before in
-    let lower = row-below _ _ _ _ _ _ _ (c9 .loop .inv .row) (c8 .loop-test .taken) (c7 .word-in .ensures .0) in
-    let under = row-under _ _ _ _ _ _ _ (c9 .loop .inv .row) (c8 .loop-test .taken) (c7 .word-in .ensures .0) in
-    (omega (arith, lower, c13 .pre .0), (under, omega (arith, field-check-lies t c3, c13 .pre .1 .1), c6 .look-in .ensures))
+field-check-leaf-check-requires : (t : ℕ) → field-check-lts.Need-leaf-check-requires (field-check-calls t) (field-check-at t) field-check.Post field-check-Inv-loop field-check-μ-loop
+field-check-leaf-check-requires t c κs = search needs
 
-field-check-enum-known-r : (t : ℕ) → field-check-lts.Need-enum-known-r (field-check-calls t) (field-check-at t) field-check.Post
-    field-check-Inv-loop field-check-μ-loop
+field-check-enum-known-r : (t : ℕ) → field-check-lts.Need-enum-known-r (field-check-calls t) (field-check-at t) field-check.Post field-check-Inv-loop field-check-μ-loop
 field-check-enum-known-r t c = search needs
 
-field-check-add-requires : (t : ℕ) → field-check-lts.Need-add-requires (field-check-calls t) (field-check-at t) field-check.Post
-    field-check-Inv-loop field-check-μ-loop
-field-check-add-requires t c κs =
-    let c1 = c .before in
-    let c3 = c1 .before .before in
-    let c7 = c3 .before .before .before .before in
-    let c11 = c7 .before .before .before .before in
-    let c12 = c11 .before in
-    let c13 = c12 .before in
-    let c17 = c13 .before .before .before .before in
-    let told = sym (c1 .r .given .1) ∙ c3 .field-item .ensures in
-    let counts = reading-item _ _ _ _ _ _ _ _ _ _ _ _ _ _ (c13 .loop .inv) (c12 .loop-test .taken) (c11 .word-in .ensures .0) _ (c7 .locate .ensures) _
-    (c17 .pre .1 .1) told in
-    (reading-small _ _ _ _ _ _ _ _ _ _ _ _ _ (c13 .loop .inv), small-more _ counts)
+field-check-one-more-requires-3 : (t : ℕ) → field-check-lts.Need-one-more-requires-3 (field-check-calls t) (field-check-at t) field-check.Post field-check-Inv-loop field-check-μ-loop
+field-check-one-more-requires-3 t c κs =
+    let told = c .before in
+    let said = told .before .before in
+    let small = said .before .before in
+    let at = small .before .before .before .before in
+    let word = at .before .before .before .before in
+    let test = word .before in
+    let loop = test .before in
+    let start = loop .before .before .before .before in
+    let says = leaf-told _ _ _ (at .before .before .before .look-in .ensures) (small .if4 .taken) _ _ _ (told .r .given .1) (said .leaf-check .ensures) in
+    let counts = reading-item _ _ _ _ _ _ _ _ _ _ _ _ _ _ (loop .loop .inv) (test .loop-test .taken) (word .word-in .ensures .0) _ (at .locate .ensures) _ (start .pre .1 .1) (says _) in
+    (reading-small _ _ _ _ _ _ _ _ _ _ _ _ _ (loop .loop .inv), small-more _ counts .words, small-more _ counts .bytes)
 
-field-check-loop-less-3 : (t : ℕ) → field-check-lts.Need-loop-less-3 (field-check-calls t) (field-check-at t) field-check.Post
-    field-check-Inv-loop field-check-μ-loop
-field-check-loop-less-3 t c = omega arith
-
-field-check-loop-again-3 : (t : ℕ) → field-check-lts.Need-loop-again-3 (field-check-calls t) (field-check-at t) field-check.Post
-    field-check-Inv-loop field-check-μ-loop
-field-check-loop-again-3 t c =
-    let c2 = c .before .before in
-    let c4 = c2 .before .before in
-    let c8 = c4 .before .before .before .before in
-    let c12 = c8 .before .before .before .before in
-    let c13 = c12 .before in
-    let c14 = c13 .before in
-    let c18 = c14 .before .before .before .before in
-    let told = sym (c2 .r .given .1) ∙ c4 .field-item .ensures in
-    rw (c .add .ensures) (reading-next _ _ _ _ _ _ _ _ _ _ _ _ _ _ (c14 .loop .inv) (c13 .loop-test .taken) (c12 .word-in .ensures .0) _
-    (c8 .locate .ensures) _ (c18 .pre .1 .1) told)
-
-field-check-enum-known-r-2 : (t : ℕ) → field-check-lts.Need-enum-known-r-2 (field-check-calls t) (field-check-at t) field-check.Post
-    field-check-Inv-loop field-check-μ-loop
+field-check-enum-known-r-2 : (t : ℕ) → field-check-lts.Need-enum-known-r-2 (field-check-calls t) (field-check-at t) field-check.Post field-check-Inv-loop field-check-μ-loop
 field-check-enum-known-r-2 t c = search needs
 
-field-check-returns-2 : (t : ℕ) → field-check-lts.Need-returns-2 (field-check-calls t) (field-check-at t) field-check.Post
-    field-check-Inv-loop field-check-μ-loop
+field-check-returns-2 : (t : ℕ) → field-check-lts.Need-returns-2 (field-check-calls t) (field-check-at t) field-check.Post field-check-Inv-loop field-check-μ-loop
 field-check-returns-2 t c =
-    let c1 = c .before in
-    let c3 = c1 .before .before in
-    let c7 = c3 .before .before .before .before in
-    let c11 = c7 .before .before .before .before in
-    let c12 = c11 .before in
-    let c13 = c12 .before in
-    reading-stop _ _ _ _ _ _ _ _ _ _ _ _ _ _ (c13 .loop .inv) (c12 .loop-test .taken) (c11 .word-in .ensures .0) _ (c7 .locate .ensures) _ _ _
-    (sym (c1 .r2 .given .1) ∙ c3 .field-item .ensures)
+    let told = c .before in
+    let said = told .before .before in
+    let small = said .before .before in
+    let at = small .before .before .before .before in
+    let word = at .before .before .before .before in
+    let test = word .before in
+    let loop = test .before in
+    let start = loop .before .before .before .before in
+    let says = leaf-told _ _ _ (at .before .before .before .look-in .ensures) (small .if4 .taken) _ _ _ (told .r2 .given .1) (said .leaf-check .ensures) in
+    reading-stop _ _ _ _ _ _ _ _ _ _ _ _ _ _ (loop .loop .inv) (test .loop-test .taken) (word .word-in .ensures .0) _ (at .locate .ensures) _ _ _ (says _)
 
-field-check-returns-3 : (t : ℕ) → field-check-lts.Need-returns-3 (field-check-calls t) (field-check-at t) field-check.Post
-    field-check-Inv-loop field-check-μ-loop
+field-check-loop-less-3 : (t : ℕ) → field-check-lts.Need-loop-less-3 (field-check-calls t) (field-check-at t) field-check.Post field-check-Inv-loop field-check-μ-loop
+field-check-loop-less-3 t c = omega arith
+
+field-check-loop-again-3 : (t : ℕ) → field-check-lts.Need-loop-again-3 (field-check-calls t) (field-check-at t) field-check.Post field-check-Inv-loop field-check-μ-loop
+field-check-loop-again-3 t c =
+    let told = c .before .before in
+    let said = told .before .before in
+    let small = said .before .before in
+    let at = small .before .before .before .before in
+    let word = at .before .before .before .before in
+    let test = word .before in
+    let loop = test .before in
+    let start = loop .before .before .before .before in
+    let says = leaf-told _ _ _ (at .before .before .before .look-in .ensures) (small .if4 .taken) _ _ _ (told .r .given .1) (said .leaf-check .ensures) in
+    rw (c .one-more3 .ensures) (reading-next _ _ _ _ _ _ _ _ _ _ _ _ _ _ (loop .loop .inv) (test .loop-test .taken) (word .word-in .ensures .0) _ (at .locate .ensures) _ (start .pre .1 .1) (says _))
+
+field-check-sub-item-check : (t : ℕ) → field-check-lts.Need-sub-item-check (field-check-calls t) (field-check-at t) field-check.Post field-check-Inv-loop field-check-μ-loop
+field-check-sub-item-check t c = field-check-lies t (c .before .before .before .before) .0
+
+field-check-part-item-check-start : (t : ℕ) → field-check-lts.Need-part-item-check-start (field-check-calls t) (field-check-at t) field-check.Post field-check-Inv-loop field-check-μ-loop
+field-check-part-item-check-start t c = field-check-lies t (c .before .before .before .before) .0
+
+field-check-part-item-check-end : (t : ℕ) → field-check-lts.Need-part-item-check-end (field-check-calls t) (field-check-at t) field-check.Post field-check-Inv-loop field-check-μ-loop
+field-check-part-item-check-end t c = field-check-lies t (c .before .before .before .before) .1
+
+field-check-item-check-requires : (t : ℕ) → field-check-lts.Need-item-check-requires (field-check-calls t) (field-check-at t) field-check.Post field-check-Inv-loop field-check-μ-loop
+field-check-item-check-requires t c κs =
+    let at = c .before .before .before .before .before in
+    let word = at .before .before .before .before in
+    let test = word .before in
+    let loop = test .before in
+    let start = loop .before .before .before .before in
+    let lower = row-below _ _ _ _ _ _ _ (loop .loop .inv .row) (test .loop-test .taken) (word .word-in .ensures .0) in
+    let under = row-under _ _ _ _ _ _ _ (loop .loop .inv .row) (test .loop-test .taken) (word .word-in .ensures .0) in
+    (omega (arith, lower, start .pre .0), (under, omega (arith, field-check-lies t at, start .pre .1 .1)))
+
+field-check-enum-known-r-3 : (t : ℕ) → field-check-lts.Need-enum-known-r-3 (field-check-calls t) (field-check-at t) field-check.Post field-check-Inv-loop field-check-μ-loop
+field-check-enum-known-r-3 t c = search needs
+
+field-check-add-requires : (t : ℕ) → field-check-lts.Need-add-requires (field-check-calls t) (field-check-at t) field-check.Post field-check-Inv-loop field-check-μ-loop
+field-check-add-requires t c κs =
+    let told = c .before in
+    let said = told .before .before in
+    let at = said .before .before .before .before .before .before in
+    let word = at .before .before .before .before in
+    let test = word .before in
+    let loop = test .before in
+    let start = loop .before .before .before .before in
+    let says = sym (told .r3 .given .1) ∙ said .item-check .ensures in
+    let counts = reading-item _ _ _ _ _ _ _ _ _ _ _ _ _ _ (loop .loop .inv) (test .loop-test .taken) (word .word-in .ensures .0) _ (at .locate .ensures) _ (start .pre .1 .1) says in
+    (reading-small _ _ _ _ _ _ _ _ _ _ _ _ _ (loop .loop .inv), small-more _ counts)
+
+field-check-loop-less-4 : (t : ℕ) → field-check-lts.Need-loop-less-4 (field-check-calls t) (field-check-at t) field-check.Post field-check-Inv-loop field-check-μ-loop
+field-check-loop-less-4 t c = omega arith
+
+field-check-loop-again-4 : (t : ℕ) → field-check-lts.Need-loop-again-4 (field-check-calls t) (field-check-at t) field-check.Post field-check-Inv-loop field-check-μ-loop
+field-check-loop-again-4 t c =
+    let told = c .before .before in
+    let said = told .before .before in
+    let at = said .before .before .before .before .before .before in
+    let word = at .before .before .before .before in
+    let test = word .before in
+    let loop = test .before in
+    let start = loop .before .before .before .before in
+    let says = sym (told .r3 .given .1) ∙ said .item-check .ensures in
+    rw (c .add .ensures) (reading-next _ _ _ _ _ _ _ _ _ _ _ _ _ _ (loop .loop .inv) (test .loop-test .taken) (word .word-in .ensures .0) _ (at .locate .ensures) _ (start .pre .1 .1) says)
+
+field-check-enum-known-r-4 : (t : ℕ) → field-check-lts.Need-enum-known-r-4 (field-check-calls t) (field-check-at t) field-check.Post field-check-Inv-loop field-check-μ-loop
+field-check-enum-known-r-4 t c = search needs
+
+field-check-returns-3 : (t : ℕ) → field-check-lts.Need-returns-3 (field-check-calls t) (field-check-at t) field-check.Post field-check-Inv-loop field-check-μ-loop
 field-check-returns-3 t c =
-    let c1 = c .before in
-    reading-end _ _ _ _ _ _ _ _ _ _ _ _ _ (c1 .loop .inv) (c .loop-test .left)
+    let told = c .before in
+    let said = told .before .before in
+    let at = said .before .before .before .before .before .before in
+    let word = at .before .before .before .before in
+    let test = word .before in
+    let loop = test .before in
+    let start = loop .before .before .before .before in
+    let says = sym (told .r4 .given .1) ∙ said .item-check .ensures in
+    reading-stop _ _ _ _ _ _ _ _ _ _ _ _ _ _ (loop .loop .inv) (test .loop-test .taken) (word .word-in .ensures .0) _ (at .locate .ensures) _ _ _ says
 
-field-item-leaf-check-requires : (t : ℕ) → field-item-lts.Need-leaf-check-requires (field-item-calls t) (field-item-at t) field-item.Post
-field-item-leaf-check-requires t c κs = search needs
-
-field-item-returns : (t : ℕ) → field-item-lts.Need-returns (field-item-calls t) (field-item-at t) field-item.Post
-field-item-returns t c =
-    let c1 = c .before in
-    let c5 = c1 .before .before .before .before in
-    rw (as-leaf _ _ _ (c5 .pre .1 .2) (c1 .if1 .taken)) (c .leaf-check .ensures)
-
-field-item-item-check-requires : (t : ℕ) → field-item-lts.Need-item-check-requires (field-item-calls t) (field-item-at t) field-item.Post
-field-item-item-check-requires t c κs =
-    let c4 = c .before .before .before .before in
-    (omega (arith, c4 .pre .0), (c4 .pre .1 .0, c4 .pre .1 .1))
-
-field-item-returns-2 : (t : ℕ) → field-item-lts.Need-returns-2 (field-item-calls t) (field-item-at t) field-item.Post
-field-item-returns-2 t c = c .item-check .ensures
+field-check-returns-4 : (t : ℕ) → field-check-lts.Need-returns-4 (field-check-calls t) (field-check-at t) field-check.Post field-check-Inv-loop field-check-μ-loop
+field-check-returns-4 t c =
+    let loop = c .before in
+    reading-end _ _ _ _ _ _ _ _ _ _ _ _ _ (loop .loop .inv) (c .loop-test .left)
 
 item-check-look-in-requires : (t : ℕ) → item-check-lts.Need-look-in-requires (item-check-calls t) (item-check-at t) item-check.Post
 item-check-look-in-requires t c κs = c .before .before .pre .1 .0 .legal
@@ -417,10 +423,28 @@ item-check-look-in-requires t c κs = c .before .before .pre .1 .0 .legal
 item-check-leaf-check-requires : (t : ℕ) → item-check-lts.Need-leaf-check-requires (item-check-calls t) (item-check-at t) item-check.Post
 item-check-leaf-check-requires t c κs = search needs
 
+item-check-enum-known-r : (t : ℕ) → item-check-lts.Need-enum-known-r (item-check-calls t) (item-check-at t) item-check.Post
+item-check-enum-known-r t c = search needs
+
+item-check-leaf-requires : (t : ℕ) → item-check-lts.Need-leaf-requires (item-check-calls t) (item-check-at t) item-check.Post
+item-check-leaf-requires t c κs = search needs
+
+item-check-enum-known-r-2 : (t : ℕ) → item-check-lts.Need-enum-known-r-2 (item-check-calls t) (item-check-at t) item-check.Post
+item-check-enum-known-r-2 t c = search needs
+
 item-check-returns : (t : ℕ) → item-check-lts.Need-returns (item-check-calls t) (item-check-at t) item-check.Post
 item-check-returns t c =
-    let c1 = c .before in
-    rw (as-leaf _ _ _ (c1 .before .before .look-in .ensures) (c1 .if1 .taken)) (c .leaf-check .ensures)
+    let told = c .before .before in
+    let said = told .before .before in
+    let small = said .before in
+    c .leaf .ensures ∙ leaf-told _ _ _ (small .before .before .look-in .ensures) (small .if1 .taken) _ _ _ (told .r .given .1) (said .leaf-check .ensures) _
+
+item-check-returns-2 : (t : ℕ) → item-check-lts.Need-returns-2 (item-check-calls t) (item-check-at t) item-check.Post
+item-check-returns-2 t c =
+    let told = c .before in
+    let said = told .before .before in
+    let small = said .before in
+    leaf-told _ _ _ (small .before .before .look-in .ensures) (small .if1 .taken) _ _ _ (told .r2 .given .1) (said .leaf-check .ensures) _
 
 item-check-add-first : (t : ℕ) → item-check-lts.Need-add-first (item-check-calls t) (item-check-at t) item-check.Post
 item-check-add-first t c =
@@ -435,8 +459,8 @@ item-check-select-requires t c κs =
 item-check-enum-told : (t : ℕ) → item-check-lts.Need-enum-told (item-check-calls t) (item-check-at t) item-check.Post
 item-check-enum-told t c = search needs
 
-item-check-leaf-requires : (t : ℕ) → item-check-lts.Need-leaf-requires (item-check-calls t) (item-check-at t) item-check.Post
-item-check-leaf-requires t c κs = search needs
+item-check-leaf-requires-2 : (t : ℕ) → item-check-lts.Need-leaf-requires-2 (item-check-calls t) (item-check-at t) item-check.Post
+item-check-leaf-requires-2 t c κs = search needs
 
 item-check-enum-known-c : (t : ℕ) → item-check-lts.Need-enum-known-c (item-check-calls t) (item-check-at t) item-check.Post
 item-check-enum-known-c t c = search needs
@@ -501,17 +525,17 @@ item-check-with-selector-requires t c κs =
 item-check-enum-known-c-2 : (t : ℕ) → item-check-lts.Need-enum-known-c-2 (item-check-calls t) (item-check-at t) item-check.Post
 item-check-enum-known-c-2 t c = search needs
 
-item-check-returns-2 : (t : ℕ) → item-check-lts.Need-returns-2 (item-check-calls t) (item-check-at t) item-check.Post
-item-check-returns-2 t c =
+item-check-returns-3 : (t : ℕ) → item-check-lts.Need-returns-3 (item-check-calls t) (item-check-at t) item-check.Post
+item-check-returns-3 t c =
     let select = c .before .before .before in
     let union = select .before .before in
     let look = union .before .before .before .before in
     let start = look .before .before .before in
-    c .leaf .ensures ∙ bare-read _ _ _ _ (look .look-in .ensures) (start .pre .1 .0) (union .if2 .taken) _ _
+    c .leaf2 .ensures ∙ bare-read _ _ _ _ (look .look-in .ensures) (start .pre .1 .0) (union .if2 .taken) _ _
     (sym (c .before .enum-told .given .1) ∙ select .select .ensures)
 
-item-check-returns-3 : (t : ℕ) → item-check-lts.Need-returns-3 (item-check-calls t) (item-check-at t) item-check.Post
-item-check-returns-3 t c =
+item-check-returns-4 : (t : ℕ) → item-check-lts.Need-returns-4 (item-check-calls t) (item-check-at t) item-check.Post
+item-check-returns-4 t c =
     let chosen = c .before .before .before .before in
     let select = chosen .before .before in
     let union = select .before .before in
@@ -520,8 +544,8 @@ item-check-returns-3 t c =
     c .with-selector .ensures ∙ ap (andThen (one 1 0)) (c .before .item-check .ensures) ∙
     body-read _ _ _ _ (look .look-in .ensures) (start .pre .1 .0) (union .if2 .taken) _ _ (sym (chosen .c .given .1) ∙ select .select .ensures) _
 
-item-check-returns-4 : (t : ℕ) → item-check-lts.Need-returns-4 (item-check-calls t) (item-check-at t) item-check.Post
-item-check-returns-4 t c =
+item-check-returns-5 : (t : ℕ) → item-check-lts.Need-returns-5 (item-check-calls t) (item-check-at t) item-check.Post
+item-check-returns-5 t c =
     let select = c .before .before .before in
     let union = select .before .before in
     let look = union .before .before .before .before in
@@ -552,24 +576,24 @@ item-check-field-check-requires t c κs =
     let z = rw (found .found3 .given .1) at (inside .inside-of .ensures) in
     (omega (arith, start .pre .0), (z .0, start .pre .1 .1, z .1, z .2))
 
-item-check-returns-5 : (t : ℕ) → item-check-lts.Need-returns-5 (item-check-calls t) (item-check-at t) item-check.Post
-item-check-returns-5 t c =
-    let found = c .before in
-    (rw (found .found .given .1) at (found .before .before .inside-of .ensures)) _
-
 item-check-returns-6 : (t : ℕ) → item-check-lts.Need-returns-6 (item-check-calls t) (item-check-at t) item-check.Post
 item-check-returns-6 t c =
     let found = c .before in
-    (rw (found .found2 .given .1) at (found .before .before .inside-of .ensures)) _
+    (rw (found .found .given .1) at (found .before .before .inside-of .ensures)) _
 
 item-check-returns-7 : (t : ℕ) → item-check-lts.Need-returns-7 (item-check-calls t) (item-check-at t) item-check.Post
 item-check-returns-7 t c =
+    let found = c .before in
+    (rw (found .found2 .given .1) at (found .before .before .inside-of .ensures)) _
+
+item-check-returns-8 : (t : ℕ) → item-check-lts.Need-returns-8 (item-check-calls t) (item-check-at t) item-check.Post
+item-check-returns-8 t c =
     let found = c .before .before in
     c .field-check .ensures ∙ (rw (found .found3 .given .1) at (found .before .before .inside-of .ensures)) .3 _
 
-pub +field-check+field-item+item-check-spec : {M : Type 1} → statement M
-+field-check+field-item+item-check-spec =
-    close μ-field-check μ-field-item μ-item-check
+pub +field-check+item-check-spec : {M : Type 1} → statement M
++field-check+item-check-spec =
+    close μ-field-check μ-item-check
     (λ t. field-check-lts.spec (field-check-calls t)
     (field-check-at t)
     field-check.Post
@@ -598,34 +622,41 @@ pub +field-check+field-item+item-check-spec : {M : Type 1} → statement M
     (field-check-one-more-requires-2 t)
     (field-check-loop-less-2 t)
     (field-check-loop-again-2 t)
-    (field-check-sub-field-item t)
-    (field-check-part-field-item-start t)
-    (field-check-part-field-item-end t)
-    (field-check-field-item-requires t)
+    (field-check-sub-leaf-check t)
+    (field-check-part-leaf-check-start t)
+    (field-check-part-leaf-check-end t)
+    (field-check-leaf-check-requires t)
     (field-check-enum-known-r t)
-    (field-check-add-requires t)
-    (field-check-loop-less-3 t)
-    (field-check-loop-again-3 t)
+    (field-check-one-more-requires-3 t)
     (field-check-enum-known-r-2 t)
     (field-check-returns-2 t)
-    (field-check-returns-3 t))
-    (λ t. field-item-lts.spec (field-item-calls t)
-    (field-item-at t)
-    field-item.Post
-    (field-item-leaf-check-requires t)
-    (field-item-returns t)
-    (field-item-item-check-requires t)
-    (field-item-returns-2 t))
+    (field-check-loop-less-3 t)
+    (field-check-loop-again-3 t)
+    (field-check-sub-item-check t)
+    (field-check-part-item-check-start t)
+    (field-check-part-item-check-end t)
+    (field-check-item-check-requires t)
+    (field-check-enum-known-r-3 t)
+    (field-check-add-requires t)
+    (field-check-loop-less-4 t)
+    (field-check-loop-again-4 t)
+    (field-check-enum-known-r-4 t)
+    (field-check-returns-3 t)
+    (field-check-returns-4 t))
     λ t. item-check-lts.spec (item-check-calls t)
     (item-check-at t)
     item-check.Post
     (item-check-look-in-requires t)
     (item-check-leaf-check-requires t)
+    (item-check-enum-known-r t)
+    (item-check-leaf-requires t)
+    (item-check-enum-known-r-2 t)
     (item-check-returns t)
+    (item-check-returns-2 t)
     (item-check-add-first t)
     (item-check-select-requires t)
     (item-check-enum-told t)
-    (item-check-leaf-requires t)
+    (item-check-leaf-requires-2 t)
     (item-check-enum-known-c t)
     (item-check-add-inside t)
     (item-check-sub-item-check t)
@@ -634,14 +665,14 @@ pub +field-check+field-item+item-check-spec : {M : Type 1} → statement M
     (item-check-item-check-requires t)
     (item-check-with-selector-requires t)
     (item-check-enum-known-c-2 t)
-    (item-check-returns-2 t)
     (item-check-returns-3 t)
     (item-check-returns-4 t)
+    (item-check-returns-5 t)
     (item-check-inside-of-requires t)
     (item-check-enum-known-found t)
     (item-check-enum-known-found-2 t)
     (item-check-enum-known-found-3 t)
     (item-check-field-check-requires t)
-    (item-check-returns-5 t)
     (item-check-returns-6 t)
     (item-check-returns-7 t)
+    (item-check-returns-8 t)
