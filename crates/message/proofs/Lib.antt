@@ -12,6 +12,7 @@ pub mod Bodies
 pub mod Alike
 pub mod Records
 pub mod Entries
+pub mod Fixed
 pub mod UnfoldLeaves
 pub mod Unfolds
 pub mod UnfoldCounts
