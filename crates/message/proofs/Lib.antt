@@ -13,6 +13,7 @@ pub mod Alike
 pub mod Records
 pub mod Entries
 pub mod Fixed
+pub mod Series
 pub mod UnfoldLeaves
 pub mod Unfolds
 pub mod UnfoldCounts

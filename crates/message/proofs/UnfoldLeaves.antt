@@ -11,7 +11,8 @@ use lib.Seq.{length-sets, take-suc, take-all, drop-cons, drop-length}
 use lib.Pow.{pow-add}
 use lib.Pow as Pow
 use Rattle.standard.specs.Bytes.{Bytes, le, num, Stored, Room}
-use Rattle.standard.specs.Types.{freeBytes, bitList}
+use Rattle.standard.specs.Types.{freeBytes, bitList, head}
+use Rattle.standard.specs.declared.Head.the-variants.{Fixed, Variable}
 use Rattle.standard.specs.declared.Refusal.{Refusal}
 use Rattle.standard.proofs.Bytes.{bytes-take, bytes-append, le-num}
 use Rattle.standard.proofs.Bits.{bitsOf, packs-le, length-packs, length-bitsOf, bitNum-low, bitNum-bound, length-marked, num-marked, num-append, pow-bytes}
@@ -174,18 +175,21 @@ leaf-bits t n h =
           4 (no 4 (omega arith)),
     )
 
-pub leaf-plain : (t : ℕ) (n : Node) (b : List ℕ) → (n .kind ≡ 3 → ⊥) → n .kind < 5 → (unfoldWords (leafOf t n) b ≡ []) × (unfoldBytes (leafOf t n) b ≡ b)
-unfolding leafOf unfoldWords unfoldBytes
-leaf-plain t n b f h = go (n .kind) f h
+-- what is of variable size and no free bytes
+pub variable-bits : (t : ℕ) (n : Node) → head (leafOf t n) ≡ Variable → (n .kind ≡ 3 → ⊥) → 5 ≤ n .kind
+unfolding leafOf head
+variable-bits t n h f = go (n .kind) h f
   where
-    go : (i : ℕ) → (i ≡ 3 → ⊥) → i < 5 → (unfoldWords (leafOf t (record { kind = i; at = n .at; second = n .second })) b ≡ []) ×
-        (unfoldBytes (leafOf t (record { kind = i; at = n .at; second = n .second })) b ≡ b)
-    go zero f h = (refl, refl)
-    go (suc zero) f h = (refl, refl)
-    go (suc (suc zero)) f h = (refl, refl)
-    go (suc (suc (suc zero))) f h = absurd (f refl)
-    go (suc (suc (suc (suc zero)))) f h = (refl, refl)
-    go (suc (suc (suc (suc (suc i))))) f h = absurd (omega arith)
+    no : (k : ℕ) → Fixed k ≡ Variable → ⊥
+    no k e = let z : _≡_ {A = ℕ} 0 1 = cc in omega arith
+
+    go : (i : ℕ) → head (leafOf t (record { kind = i; at = n .at; second = n .second })) ≡ Variable → (i ≡ 3 → ⊥) → 5 ≤ i
+    go zero h f = absurd (no _ h)
+    go (suc zero) h f = absurd (no _ h)
+    go (suc (suc zero)) h f = absurd (no _ h)
+    go (suc (suc (suc zero))) h f = absurd (f refl)
+    go (suc (suc (suc (suc zero)))) h f = absurd (no _ h)
+    go (suc (suc (suc (suc (suc i))))) h f = omega arith
 
 -- A body that is refused is not accepted.
 pub bits-refused : (t limit : ℕ) (b : List ℕ) (r : Refusal) → BodyBits.Refused r ≡ bitListBody b limit → Accepts (bitList t limit) b → ⊥
@@ -197,8 +201,8 @@ module _ (x y b : List ℕ) (e : (x ≡ []) × (y ≡ b)) (o p : List ℕ) (at :
   pub bytes-room : Rooms o p at x y → Room p (at .byte) b
   bytes-room g = rw (e .1) at (g .bytes)
 
-  pub bytes-filled : (r : ℕ) (p′ : List ℕ) → Stored p (at .byte) b r p′ → Filled o p at x y (record { word = at .word; byte = r }) o p′
-  bytes-filled r p′ g = record { words = stored-none o (at .word) x (e .0); bytes = rw (e .1) g }
+  pub bytes-filled : (r : Place) (p′ : List ℕ) → Stored p (at .byte) b (r .byte) p′ → r .word ≡ at .word → Filled o p at x y r o p′
+  bytes-filled r p′ g q = record { words = rw q (stored-none o (at .word) x (e .0)); bytes = rw (e .1) g }
 
 -- A leaf's room and what is stored there, by its kind
 module _ (t : ℕ) (n : Node) (b o p : List ℕ) (at : Place) where
@@ -211,14 +215,6 @@ module _ (t : ℕ) (n : Node) (b o p : List ℕ) (at : Place) where
         Filled o p at (unfoldWords (leafOf t n) b) (unfoldBytes (leafOf t n) b) r o′ p′
     unfolding unfoldWords unfoldBytes
     free-filled r o′ p′ g = rw (leaf-free t n k) g
-
-  module _ (k : n .kind ≡ 3 → ⊥) (h : n .kind < 5) where
-    pub plain-room : Rooms o p at (unfoldWords (leafOf t n) b) (unfoldBytes (leafOf t n) b) → Room p (at .byte) b
-    plain-room = bytes-room _ _ b (leaf-plain t n b k h) o p at
-
-    pub plain-filled : (r : ℕ) (p′ : List ℕ) → Stored p (at .byte) b r p′ →
-        Filled o p at (unfoldWords (leafOf t n) b) (unfoldBytes (leafOf t n) b) (record { word = at .word; byte = r }) o p′
-    plain-filled = bytes-filled _ _ b (leaf-plain t n b k h) o p at
 
   module _ (k : 5 ≤ n .kind) (c : ℕ) (e : BodyBits.Bits c ≡ bitListBody b (n .second)) where
     pub bits-rooms : Rooms o p at (unfoldWords (leafOf t n) b) (unfoldBytes (leafOf t n) b) → Rooms o p at (c ∷ []) (rawOf b c)

@@ -2,38 +2,41 @@
 use mathlib.Core.Path.{_≡_, refl, sym, ap, _∙_}
 use mathlib.Core.List.{List, [], _∷_, _++_, append-nil, append-assoc}
 use mathlib.Core.Bool.{Bool, true, false}
-use Prim.Native.Nat.{ℕ, zero, suc, _+_, _-_, _*_, _≤_, _<_, _^_}
+use Prim.Native.Nat.{ℕ, zero, suc, _+_, _-_, _≤_, _<_}
 use native.Mathlib.Nat.{add-zero}
 use native.Mathlib.Omega.{arith}
-use borrow.Author.Tests.{eqb-true, eqb-false, eq-eqb, ne-eqb}
-use lib.ListN.{length, getD, take, drop, length-drop, take-append-drop, drop-of-length-le}
-use lib.Seq.{take-all, drop-drop}
-use lib.Dec.{eqb}
+use borrow.Author.Tests.{eqb-true, eqb-false, ltb-true, eq-eqb, ne-eqb}
+use lib.ListN.{length, getD, take, drop, length-take, length-drop}
+use lib.Seq.{take-all}
+use lib.Dec.{eqb, ltb}
 use Rattle.standard.specs.Choice.{pick}
 use Rattle.standard.specs.Bytes.{wordAt, Stored, Room}
-use Rattle.standard.specs.Types.{Ty, Opts, boolean, union, bare, body, head}
+use Rattle.standard.specs.Types.{Ty, Opts, boolean, union, bare, body, head, heads}
 use Rattle.standard.specs.Parts.{spanOf, part, InRange}
-use Rattle.standard.specs.declared.Head.the-variants.{Fixed}
+use Rattle.standard.specs.declared.Head.the-variants.{Fixed, Variable}
 use Rattle.standard.specs.declared.Span.{Span}
 use Rattle.standard.specs.declared.Refusal.{Refusal}
-use Rattle.standard.proofs.Elements.{copies}
 use Rattle.standard.proofs.Store.{stored-then, stored-none, room-first, room-then}
 use Rattle.layout.specs.Tree.{nodeOf, leafOf, options, trees, treeOf}
 use Rattle.layout.specs.declared.Node.{Node}
-use Rattle.layout.proofs.Facts.{trees-get, as-union, as-leaf, legal-node}
-use Rattle.message.specs.Read.{elements, manyOf, readItem, readFields}
-use Rattle.message.specs.Unfold.{unfoldWords, wordsFields, wordsOption, unfoldBytes, bytesFields, bytesOption, Accepts, AcceptsAll, Rooms, Filled}
-use Rattle.message.specs.Steps.{Under, Row, rowOf, headsOf, manyIn, countOf, choose, IsAccepted}
+use Rattle.layout.proofs.Facts.{trees-get, as-union, as-leaf}
+use Rattle.layout.proofs.Trees.{legal-tree}
+use Rattle.message.specs.Read.{readItem, readFields}
+use Rattle.message.specs.Unfold.{unfoldWords, wordsFields, wordsOption, unfoldBytes, bytesFields, bytesOption, Accepts, Rooms, Filled}
+use Rattle.message.specs.Steps.{Under, Row, Named, rowOf, headsOf, choose, IsAccepted}
+use Rattle.message.specs.Series.{MadeOf, typesOf, countWord}
+use Rattle.message.specs.Unfolding.{Filling}
 use Rattle.message.specs.declared.items.Choice.{Choice}
+use Rattle.message.specs.declared.parts.Series.{Series}
 use Rattle.message.specs.declared.unfolding.Place.{Place}
-use Rattle.message.proofs.Answers.{then-both}
-use Rattle.message.proofs.Copies.{laid-fixed}
-use Rattle.message.proofs.Rows.{row-none, row-first, row-next, container-tree, span-ok}
+use Rattle.message.specs.declared.unfolding.Opened.{Opened}
+use Rattle.message.proofs.Answers.{pick-left, then-both}
+use Rattle.message.proofs.Rows.{under-below, under-head, row-none, row-first, row-next, row-fixed, first-fits, span-ok}
 use Rattle.message.proofs.Bodies.{fields-read, bare-says, body-says, body-below}
-use Rattle.message.proofs.Entries.{accepted-start, container-accepted, union-never, body-accepted}
-use Rattle.message.proofs.Repeats.{element-copies, list-words, vector-words}
-use Rattle.message.proofs.Manys.{many-held, many-ranges, many-few, many-row}
-use Rattle.message.proofs.UnfoldLeaves.{leaf-plain, bytes-room, bytes-filled}
+use Rattle.message.proofs.Entries.{accepted-start, union-never, body-accepted}
+use Rattle.message.proofs.Repeats.{element-below}
+use Rattle.message.proofs.Fixed.{fixed-form, fixed-long}
+use Rattle.message.proofs.UnfoldLeaves.{bytes-room, bytes-filled}
 
 -- An item that is accepted where it starts
 pub accepts-at : (t : Ty) (b : List ℕ) (s : ℕ) → IsAccepted (readItem t b s) → Accepts t b
@@ -84,58 +87,79 @@ module _ (lens l : List ℕ) (t a step left f : ℕ) (b : List ℕ) (q : ℕ) (g
   fields-bytes = rw (row-first l t a step left (g .named) z, i, e)
 
 -- The loop of `unfold_fields`.
-pub record Filling (lens l : List ℕ) (t a₀ step n : ℕ) (b o₀ p₀ : List ℕ) (at₀ : Place) (o p : List ℕ) (at : Place) (a left q : ℕ) : Type 0 where
-  pub row : Row lens l t a step left
-  pub ranges : InRange (headsOf l t a step left) b q 0
-  pub accepted : AcceptsAll (rowOf l t a step left) b q
-  pub rooms : Rooms o p at (wordsFields (rowOf l t a step left) b q) (bytesFields (rowOf l t a step left) b q)
-  pub words : List ℕ
-  pub bytes : List ℕ
-  pub filled : Filled o₀ p₀ at₀ words bytes at o p
-  pub all-words : wordsFields (rowOf l t a₀ step n) b 0 ≡ words ++ wordsFields (rowOf l t a step left) b q
-  pub all-bytes : bytesFields (rowOf l t a₀ step n) b 0 ≡ bytes ++ bytesFields (rowOf l t a step left) b q
+module _ (lens l : List ℕ) (t step : ℕ) (b x y o₀ p₀ : List ℕ) (at₀ : Place) (o p : List ℕ) (at : Place) (a left q : ℕ)
+    (g : Filling lens l t step b x y o₀ p₀ at₀ o p at a left q) where
+  module _ (f : ℕ) (z : 0 < left) (e : f ≡ wordAt l a) where
+    module _ (w : Span) (i : w ≡ spanOf (head (treeOf l f)) (headsOf l t (a + step) step (left - 1)) b q) where
+      filling-both : IsAccepted (readItem (treeOf l f) (part b w) (0 + w .from)) ×
+          IsAccepted (readFields (rowOf l t (a + step) step (left - 1)) b (w .next) 0)
+      filling-both = then-both (readItem (treeOf l f) (part b w) (0 + w .from)) (readFields (rowOf l t (a + step) step (left - 1)) b (w .next) 0)
+          (rw (fields-read lens l t a step left f b q (g .row) z e w i 0) at (g .accepted .accepted))
 
-module _ (lens l : List ℕ) (t a₀ step n : ℕ) (b o₀ p₀ : List ℕ) (at₀ : Place) (o p : List ℕ) (at : Place) (a left q f : ℕ)
-    (g : Filling lens l t a₀ step n b o₀ p₀ at₀ o p at a left q) (z : 0 < left) (e : f ≡ wordAt l a) (w : Span)
-    (i : w ≡ spanOf (head (treeOf l f)) (headsOf l t (a + step) step (left - 1)) b q) where
-  filling-both : IsAccepted (readItem (treeOf l f) (part b w) (0 + w .from)) × IsAccepted (readFields (rowOf l t (a + step) step (left - 1)) b (w .next) 0)
-  filling-both = then-both (readItem (treeOf l f) (part b w) (0 + w .from)) (readFields (rowOf l t (a + step) step (left - 1)) b (w .next) 0)
-      (rw (fields-read lens l t a step left f b q (g .row) z e w i 0) at (g .accepted .accepted))
+      pub filling-accepts : Accepts (treeOf l f) (part b w)
+      filling-accepts = accepts-at (treeOf l f) (part b w) (0 + w .from) (filling-both .0)
 
-  pub filling-accepts : Accepts (treeOf l f) (part b w)
-  filling-accepts = accepts-at (treeOf l f) (part b w) (0 + w .from) (filling-both .0)
+      pub filling-rooms : Rooms o p at (unfoldWords (treeOf l f) (part b w)) (unfoldBytes (treeOf l f) (part b w))
+      filling-rooms = rooms-first o p at _ _ _ _ _ _ (g .rooms) (fields-words lens l t a step left f b q (g .row) z e w i)
+          (fields-bytes lens l t a step left f b q (g .row) z e w i)
 
-  pub filling-rooms : Rooms o p at (unfoldWords (treeOf l f) (part b w)) (unfoldBytes (treeOf l f) (part b w))
-  filling-rooms = rooms-first o p at _ _ _ _ _ _ (g .rooms) (fields-words lens l t a step left f b q (g .row) z e w i)
-      (fields-bytes lens l t a step left f b q (g .row) z e w i)
+      pub filling-next :
+          (r : Place) (o′ p′ : List ℕ) → Filled o p at (unfoldWords (treeOf l f) (part b w)) (unfoldBytes (treeOf l f) (part b w)) r o′ p′
+          → Filling lens l t step b x y o₀ p₀ at₀ o′ p′ r (a + step) (left - 1) (w .next)
+      filling-next r o′ p′ h =
+          let u = fields-words lens l t a step left f b q (g .row) z e w i in
+          let v = fields-bytes lens l t a step left f b q (g .row) z e w i in
+          record {
+            row = row-next lens l t a step left f (g .row) z e;
+            ranges = span-ok lens l t a step left f b q (g .row) z e (g .ranges) w i .2;
+            accepted = record { accepted = filling-both .1 };
+            rooms = rooms-then o p at _ _ _ _ _ _ r o′ p′ (g .rooms) u v h;
+            words = g .words ++ unfoldWords (treeOf l f) (part b w);
+            bytes = g .bytes ++ unfoldBytes (treeOf l f) (part b w);
+            filled = filled-then o₀ p₀ at₀ (g .words) (g .bytes) at o p _ _ r o′ p′ _ _ (g .filled) h refl refl;
+            all-words = g .all-words ∙ rw (u, ← append-assoc);
+            all-bytes = g .all-bytes ∙ rw (v, ← append-assoc);
+          }
 
-  pub filling-next :
-      (r : Place) (o′ p′ : List ℕ) → Filled o p at (unfoldWords (treeOf l f) (part b w)) (unfoldBytes (treeOf l f) (part b w)) r o′ p′
-      → Filling lens l t a₀ step n b o₀ p₀ at₀ o′ p′ r (a + step) (left - 1) (w .next)
-  filling-next r o′ p′ h =
-      let u = fields-words lens l t a step left f b q (g .row) z e w i in
-      let v = fields-bytes lens l t a step left f b q (g .row) z e w i in
-      record {
-        row = row-next lens l t a step left f (g .row) z e;
-        ranges = span-ok lens l t a step left f b q (g .row) z e (g .ranges) w i .2;
-        accepted = record { accepted = filling-both .1 };
-        rooms = rooms-then o p at _ _ _ _ _ _ r o′ p′ (g .rooms) u v h;
-        words = g .words ++ unfoldWords (treeOf l f) (part b w);
-        bytes = g .bytes ++ unfoldBytes (treeOf l f) (part b w);
-        filled = filled-then o₀ p₀ at₀ (g .words) (g .bytes) at o p _ _ r o′ p′ _ _ (g .filled) h refl refl;
-        all-words = g .all-words ∙ rw (u, ← append-assoc);
-        all-bytes = g .all-bytes ∙ rw (v, ← append-assoc);
-      }
+    -- A field of the fixed length k is its own bytes.
+    module _ (k : ℕ) (i : k ≡ getD lens f 0) (j : 0 < k) where
+      abbrev ownSpan : Span
+      ownSpan = record { from = q; to = q + k; next = q + k }
 
-pub filling-end :
-    (lens l : List ℕ) (t a₀ step n : ℕ) (b o₀ p₀ : List ℕ) (at₀ : Place) (o p : List ℕ) (at : Place) (a left q : ℕ)
-    → Filling lens l t a₀ step n b o₀ p₀ at₀ o p at a left q → left ≤ 0
-    → Filled o₀ p₀ at₀ (wordsFields (rowOf l t a₀ step n) b 0) (bytesFields (rowOf l t a₀ step n) b 0) at o p
-unfolding unfoldWords unfoldBytes
-filling-end lens l t a₀ step n b o₀ p₀ at₀ o p at a left q g h =
-    let e : wordsFields (rowOf l t a₀ step n) b 0 ≡ g .words = g .all-words ∙ rw (row-none l t a step left h, append-nil) in
-    let f : bytesFields (rowOf l t a₀ step n) b 0 ≡ g .bytes = g .all-bytes ∙ rw (row-none l t a step left h, append-nil) in
-    rw (e, f) (g .filled)
+      own-head : Fixed k ≡ head (treeOf l f)
+      own-head = row-fixed lens l t a step left f (g .row) z e k i (λ (v : k ≡ 0). omega arith)
+
+      own-span : ownSpan ≡ spanOf (head (treeOf l f)) (headsOf l t (a + step) step (left - 1)) b q
+      own-span = rw (← own-head)
+
+      pub own-fits : q + k ≤ length b
+      own-fits = first-fits lens l t a step left f b q (g .row) z e (g .ranges) k own-head
+
+      own-form : (unfoldWords (treeOf l f) (part b ownSpan) ≡ []) × (unfoldBytes (treeOf l f) (part b ownSpan) ≡ part b ownSpan)
+      own-form =
+          let r = own-fits in
+          let m : length (part b ownSpan) ≡ k = simp (length-take, length-drop) (omega arith) in
+          fixed-form (treeOf l f) (part b ownSpan) (sym own-head ∙ ap Fixed (sym m))
+
+      pub own-room : Room p (at .byte) (part b ownSpan)
+      own-room = bytes-room _ _ _ own-form o p at (filling-rooms ownSpan own-span)
+
+      pub own-next : (r : Place) (p′ : List ℕ) → Stored p (at .byte) (part b ownSpan) (r .byte) p′ → r .word ≡ at .word →
+          Filling lens l t step b x y o₀ p₀ at₀ o p′ r (a + step) (left - 1) (q + k)
+      own-next r p′ h v = filling-next ownSpan own-span r o p′ (bytes-filled _ _ _ own-form o p at r p′ h v)
+
+  -- what is left, stored
+  pub filling-last :
+      (r : Place) (o′ p′ : List ℕ) → Filled o p at (wordsFields (rowOf l t a step left) b q) (bytesFields (rowOf l t a step left) b q) r o′ p′
+      → Filled o₀ p₀ at₀ x y r o′ p′
+  filling-last r o′ p′ h = filled-then o₀ p₀ at₀ (g .words) (g .bytes) at o p _ _ r o′ p′ x y (g .filled) h (g .all-words) (g .all-bytes)
+
+  pub filling-end : left ≤ 0 → Filled o₀ p₀ at₀ x y at o p
+  unfolding unfoldWords unfoldBytes
+  filling-end h =
+      let e : x ≡ g .words = g .all-words ∙ rw (row-none l t a step left h, append-nil) in
+      let f : y ≡ g .bytes = g .all-bytes ∙ rw (row-none l t a step left h, append-nil) in
+      rw (e, f) (g .filled)
 
 -- The option that is asked for: of words and of bytes alike.
 made : List Ty → List ℕ → (Ty → List ℕ → List ℕ) → ℕ → List ℕ
@@ -187,45 +211,73 @@ module _ (l : List ℕ) (lower : List Ty) (b : List ℕ) (a n : ℕ) (h : getD b
   unfolding unfoldBytes
   bytes-chosen = made-chosen l lower b unfoldBytes bytesOption (λ j os k. refl) (λ j o os k. refl) a n h
 
--- The items of a kind below 3 are copied.
-module _ (l : List ℕ) (f : ℕ) (n : Node) (e : n ≡ nodeOf l f) (h : n .kind < 3) where
-  copied-tree : treeOf l f ≡ leafOf f n
-  copied-tree = as-leaf l f n e (omega arith)
+pub no-more : (k : ℕ) → k ≤ 0 → k ≡ 0
+no-more k h = omega arith
 
-  copied-item : (b : List ℕ) → (unfoldWords (treeOf l f) b ≡ []) × (unfoldBytes (treeOf l f) b ≡ b)
-  copied-item b = rw copied-tree (leaf-plain f n b (λ (q : n .kind ≡ 3). omega arith) (omega arith))
+-- An item of a type whose length stands in the table
+module _ (lens l : List ℕ) (t : ℕ) (g : Under lens l (t + 1)) where
+  pub len-variable : getD lens t 0 ≡ 0 → head (treeOf l t) ≡ Variable
+  len-variable z = sym (under-head lens l (t + 1) g t (omega arith)) ∙ rw (eq-eqb (getD lens t 0) 0 z)
 
-  copied-head : (w : ℕ) × (head (treeOf l f) ≡ Fixed w)
-  unfolding leafOf head
-  copied-head = rw copied-tree (go (n .kind) h)
-    where
-      go : (i : ℕ) → i < 3 → (w : ℕ) × (head (leafOf f (record { kind = i; at = n .at; second = n .second })) ≡ Fixed w)
-      go zero k = (_, refl)
-      go (suc zero) k = (_, refl)
-      go (suc (suc zero)) k = (_, refl)
-      go (suc (suc (suc i))) k = absurd (omega arith)
+  len-fixed : 0 < getD lens t 0 → head (treeOf l t) ≡ Fixed (getD lens t 0)
+  len-fixed z = sym (under-head lens l (t + 1) g t (omega arith)) ∙ rw (ne-eqb (getD lens t 0) 0 (λ (v : getD lens t 0 ≡ 0). omega arith))
 
-  module _ (b o p : List ℕ) (at : Place) where
-    pub copied-room : Rooms o p at (unfoldWords (treeOf l f) b) (unfoldBytes (treeOf l f) b) → Room p (at .byte) b
-    copied-room = bytes-room _ _ b (copied-item b) o p at
+  pub item-form : (b : List ℕ) → Accepts (treeOf l t) b → 0 < getD lens t 0 → (unfoldWords (treeOf l t) b ≡ []) × (unfoldBytes (treeOf l t) b ≡ b)
+  item-form b h z =
+      let m = fixed-long (treeOf l t) b (getD lens t 0) (legal-tree l (t + 1) t (g .legal) (omega arith)) h (len-fixed z) in
+      fixed-form (treeOf l t) b (len-fixed z ∙ ap Fixed (sym m))
 
-    pub copied-filled : (r : ℕ) (p′ : List ℕ) → Stored p (at .byte) b r p′ →
-        Filled o p at (unfoldWords (treeOf l f) b) (unfoldBytes (treeOf l f) b) (record { word = at .word; byte = r }) o p′
-    copied-filled = bytes-filled _ _ b (copied-item b) o p at
+  -- Nothing is left of an item that was stored.
+  pub all-stored :
+      (b x y o₀ p₀ : List ℕ) (at₀ : Place) (o p : List ℕ) (at : Place) (r : Opened)
+      → r ≡ record { at = at; left = record { first = 0; step = 0; many = 0 } } → Rooms o₀ p₀ at₀ x y → Filled o₀ p₀ at₀ x y at o p
+      → Filling lens l t (r .left .step) b x y o₀ p₀ at₀ o p (r .at) (r .left .first) (r .left .many) 0
+  unfolding rowOf heads InRange Named readItem unfoldWords unfoldBytes
+  all-stored b x y o₀ p₀ at₀ o p at r e i h =
+      rw e (record {
+        row = record { under = under-below lens l (t + 1) t (omega arith) g; near = omega arith; steps = omega arith; named = tt };
+        ranges = omega arith;
+        accepted = record { accepted = tt };
+        rooms = rooms-then o₀ p₀ at₀ x y x y [] [] at o p i (sym (append-nil x)) (sym (append-nil y)) h;
+        words = x;
+        bytes = y;
+        filled = h;
+        all-words = sym (append-nil x);
+        all-bytes = sym (append-nil y);
+      })
 
--- Items of one such type lie one behind another from p on: together they are the bytes from there.
-copied-row :
-    (e : Ty) (w m : ℕ) → head e ≡ Fixed w → ((x : List ℕ) → (unfoldWords e x ≡ []) × (unfoldBytes e x ≡ x)) → (b : List ℕ) (p : ℕ)
-    → p + m * w ≡ length b → (wordsFields (copies e m) b p ≡ []) × (bytesFields (copies e m) b p ≡ drop p b)
-unfolding unfoldWords unfoldBytes
-copied-row e w zero q f b p h = (refl, sym (drop-of-length-le b {i = p} (omega arith)))
-copied-row e w (suc m) q f b p h =
-    let r = copied-row e w m q f b (p + w) (omega arith) in
-    let i : p + w - p ≡ w = omega arith in (
-      rw (q, f _ .0, r .0),
-      rw (q, f _ .1, r .1, i, ← drop-drop w p b)
-          (take-append-drop w (drop p b)),
-    )
+-- A list of elements of fixed size
+pub list-below : (lens l : List ℕ) (t : ℕ) (n : Node) → n ≡ nodeOf l t → Under lens l (t + 1) → n .kind ≡ 8 → n .second < 64
+list-below lens l t n e g k = omega (arith, element-below lens l t n e g (omega arith), g .few)
+
+pub fixed-list : (i k : ℕ) (c : Bool) → c ≡ pick (eqb i 8) (ltb 0 k) false → c ≡ true → (i ≡ 8) × (0 < k)
+fixed-list i k c e h =
+    let q = pick-left (eqb i 8) (ltb 0 k) false true (λ r. let z : _≡_ {A = ℕ} 0 1 = cc in omega arith) (sym e ∙ h) in
+    (eqb-true _ _ (q .0), ltb-true _ _ (q .1))
+
+-- An item that is made of fields or elements: a list's count, then theirs.
+module _ (lens l : List ℕ) (t : ℕ) (n : Node) (b : List ℕ) (r : Series) (g : MadeOf lens l t n b r) (k : 6 ≤ n .kind) (o p : List ℕ) (at : Place)
+    (h : Rooms o p at (unfoldWords (treeOf l t) b) (unfoldBytes (treeOf l t) b)) where
+  pub count-room : Room o (at .word) (countWord n (r .many))
+  count-room = room-first o (at .word) _ (countWord n (r .many)) _ (h .words) (g .words k)
+
+  module _ (i : Place) (o′ : List ℕ) (s : Stored o (at .word) (countWord n (r .many)) (i .word) o′) (q : i .byte ≡ at .byte) where
+    pub parts-rooms : Rooms o′ p i (wordsFields (typesOf l t r) b 0) (bytesFields (typesOf l t r) b 0)
+    parts-rooms = rooms-then o p at _ _ _ _ _ _ i o′ p h (g .words k) (g .bytes k) (words-filled o p at _ i o′ s q)
+
+    pub parts-left : Filling lens l t (r .step) b (unfoldWords (treeOf l t) b) (unfoldBytes (treeOf l t) b) o p at o′ p i (r .first) (r .many) 0
+    parts-left =
+        record {
+          row = g .row;
+          ranges = g .ranges;
+          accepted = record { accepted = g .accepted 0 };
+          rooms = parts-rooms;
+          words = countWord n (r .many);
+          bytes = [];
+          filled = words-filled o p at _ i o′ s q;
+          all-words = g .words k;
+          all-bytes = g .bytes k;
+        }
 
 -- Items, by their kind
 pub union-some : (t : ℕ) (os : Opts) (b : List ℕ) → Accepts (union t os) b → 1 ≤ length b
@@ -234,31 +286,10 @@ union-some t os [] g = absurd (g .accepted)
 union-some t os (x ∷ b) g = omega arith
 
 module _ (lens l : List ℕ) (t : ℕ) (n : Node) (e : n ≡ nodeOf l t) (g : Under lens l (t + 1)) (b : List ℕ) (h : Accepts (treeOf l t) b) where
-  module _ (k : n .kind ≡ 6) where
-    pub fields-accepts : InRange (headsOf l t (n .at + 2) 1 (n .second)) b 0 0 × AcceptsAll (rowOf l t (n .at + 2) 1 (n .second)) b 0
-    fields-accepts =
-        let q = container-accepted lens l t n e g b 0 (h .accepted) k in
-        (q .0, record { accepted = q .1 })
-
-    pub container-words : unfoldWords (treeOf l t) b ≡ wordsFields (rowOf l t (n .at + 2) 1 (n .second)) b 0
-    unfolding unfoldWords
-    container-words = rw (container-tree l t n e k)
-
-    pub container-bytes : unfoldBytes (treeOf l t) b ≡ bytesFields (rowOf l t (n .at + 2) 1 (n .second)) b 0
-    unfolding unfoldBytes
-    container-bytes = rw (container-tree l t n e k)
-
-    pub container-rooms : (o p : List ℕ) (at : Place) → Rooms o p at (unfoldWords (treeOf l t) b) (unfoldBytes (treeOf l t) b) →
-        Rooms o p at (wordsFields (rowOf l t (n .at + 2) 1 (n .second)) b 0) (bytesFields (rowOf l t (n .at + 2) 1 (n .second)) b 0)
-    container-rooms o p at r = rw (container-words, container-bytes) at r
-
-    pub container-filled :
-        (o p : List ℕ) (at r : Place) (o′ p′ : List ℕ) → Filled o p at (wordsFields (rowOf l t (n .at + 2) 1 (n .second)) b 0)
-        (bytesFields (rowOf l t (n .at + 2) 1 (n .second)) b 0) r o′ p′
-        → Filled o p at (unfoldWords (treeOf l t) b) (unfoldBytes (treeOf l t) b) r o′ p′
-    container-filled o p at r o′ p′ q = rw (container-words, container-bytes) q
-
   module _ (c : n .kind < 6) where
+    pub leaf-variable : getD lens t 0 ≡ 0 → head (leafOf t n) ≡ Variable
+    leaf-variable z = rw (as-leaf l t n e c) at (len-variable lens l t g z)
+
     pub leaf-accepts : Accepts (leafOf t n) b
     leaf-accepts = rw (as-leaf l t n e c) at h
 
@@ -270,57 +301,6 @@ module _ (lens l : List ℕ) (t : ℕ) (n : Node) (e : n ≡ nodeOf l t) (g : Un
         (o p : List ℕ) (at r : Place) (o′ p′ : List ℕ) → Filled o p at (unfoldWords (leafOf t n) b) (unfoldBytes (leafOf t n) b) r o′ p′
         → Filled o p at (unfoldWords (treeOf l t) b) (unfoldBytes (treeOf l t) b) r o′ p′
     leaf-filled o p at r o′ p′ q = rw (as-leaf l t n e c) q
-
-  -- The m elements of a list or vector, behind a list's count.
-  module _ (k : 8 ≤ n .kind) (m : ℕ) (c : m ≡ manyIn l n (head (treeOf l (n .second))) b) where
-    pub elements-accept : length b < 2 ^ 32 → Row lens l t (n .at + 1) 0 m × InRange (headsOf l t (n .at + 1) 0 m) b 0 0 ×
-        AcceptsAll (rowOf l t (n .at + 1) 0 m) b 0 × (m < 2 ^ 32)
-    elements-accept z =
-        rw c (
-          many-row lens l t n e g k b 0 (h .accepted) z,
-          many-ranges lens l t n e g k b 0 (h .accepted),
-          record { accepted = many-held lens l t n e g k b 0 (h .accepted) .accepted },
-          omega (arith, many-few lens l t n e g k b 0 (h .accepted)),
-        )
-
-    pub elements-words : unfoldWords (treeOf l t) b ≡ countOf n m ++ wordsFields (rowOf l t (n .at + 1) 0 m) b 0
-    elements-words = rw c (go (eqb (n .kind) 9) refl)
-      where
-        -- as many as the table says, or as the list says
-        said : Bool → ℕ
-        said d = pick d (wordAt l (n .at + 2)) (manyOf (elements (head (treeOf l (n .second))) (wordAt l (n .at + 2)) b))
-
-        go : (d : Bool) → eqb (n .kind) 9 ≡ d → unfoldWords (treeOf l t) b ≡ pick d [] (said d ∷ []) ++ wordsFields (rowOf l t (n .at + 1) 0 (said d)) b 0
-        go true q = vector-words lens l t n e g k (eqb-true (n .kind) 9 q) b
-        go false q = list-words lens l t n e g k (omega (arith, eqb-false (n .kind) 9 q, legal-node l t n e (g .legal) .known)) b
-
-    pub elements-bytes : unfoldBytes (treeOf l t) b ≡ [] ++ bytesFields (rowOf l t (n .at + 1) 0 m) b 0
-    elements-bytes = rw c (many-held lens l t n e g k b 0 (h .accepted) .bytes)
-
-    pub count-room : (o p : List ℕ) (at : Place) → Rooms o p at (unfoldWords (treeOf l t) b) (unfoldBytes (treeOf l t) b) → Room o (at .word) (countOf n m)
-    count-room o p at r = room-first o (at .word) _ (countOf n m) _ (r .words) elements-words
-
-    -- behind the count
-    pub elements-rooms :
-        (o p : List ℕ) (at r : Place) (o′ : List ℕ) → Rooms o p at (unfoldWords (treeOf l t) b) (unfoldBytes (treeOf l t) b)
-        → Filled o p at (countOf n m) [] r o′ p
-        → Rooms o′ p r (wordsFields (rowOf l t (n .at + 1) 0 m) b 0) (bytesFields (rowOf l t (n .at + 1) 0 m) b 0)
-    elements-rooms o p at r o′ i q = rooms-then o p at _ _ _ _ _ _ r o′ p i elements-words elements-bytes q
-
-    pub elements-filled :
-        (o p : List ℕ) (at r : Place) (o′ : List ℕ) (r′ : Place) (o″ p′ : List ℕ) → Filled o p at (countOf n m) [] r o′ p
-        → Filled o′ p r (wordsFields (rowOf l t (n .at + 1) 0 m) b 0) (bytesFields (rowOf l t (n .at + 1) 0 m) b 0) r′ o″ p′
-        → Filled o p at (unfoldWords (treeOf l t) b) (unfoldBytes (treeOf l t) b) r′ o″ p′
-    elements-filled o p at r o′ r′ o″ p′ i q = filled-then o p at _ _ r o′ p _ _ r′ o″ p′ _ _ i q elements-words elements-bytes
-
-    -- elements of a kind below 3 are the bytes of the whole
-    module _ (i : Node) (j : i ≡ nodeOf l (n .second)) (z : i .kind < 3) where
-      pub copied-elements : (wordsFields (rowOf l t (n .at + 1) 0 m) b 0 ≡ []) × (bytesFields (rowOf l t (n .at + 1) 0 m) b 0 ≡ b)
-      copied-elements =
-          let w = copied-head l (n .second) i j z in
-          let long = laid-fixed m (w .0) b (rw (← w .1) (rw c (many-held lens l t n e g k b 0 (h .accepted) .laid))) in
-          rw (element-copies lens l t n e g k m)
-          (copied-row (treeOf l (n .second)) (w .0) m (w .1) (copied-item l (n .second) i j z) b 0 (omega (arith, long)))
 
   module _ (k : n .kind ≡ 7) where
     pub union-room : (o p : List ℕ) (at : Place) → Rooms o p at (unfoldWords (treeOf l t) b) (unfoldBytes (treeOf l t) b) → at .word < length o

@@ -4,3 +4,5 @@ pub mod Listing
 pub mod Check
 pub mod Steps
 pub mod Unfold
+pub mod Series
+pub mod Unfolding

@@ -3,6 +3,7 @@ mod elements;
 mod fields;
 mod items;
 mod listing;
+mod parts;
 mod unfolding;
 mod words;
 

@@ -1,8 +1,8 @@
 // The listing of an accepted message: three words an item, in preorder.
-use crate::elements::many_in;
 use crate::fields::locate;
 use crate::items::Choice;
 use crate::items::select;
+use crate::parts::series_in;
 use crate::words::look_in;
 use crate::words::word_in;
 use standard::words::put_four;
@@ -45,11 +45,8 @@ pub(crate) fn list_item(
     put_entry(out, at, t, b, start);
     let next = at + 12;
     let n = look_in(layout, t);
-    let first = n.at + 2;
-    if n.kind == 6 {
-        list_fields(out, next, lens, layout, t, first, 1, n.second, b, start)
-    } else if n.kind == 7 {
-        let c = select(layout, first, n.second, b);
+    if n.kind == 7 {
+        let c = select(layout, n.at + 2, n.second, b);
         match c {
             Choice::Bare => next,
             Choice::Body(o) => {
@@ -58,11 +55,20 @@ pub(crate) fn list_item(
             }
             Choice::Wrong(_) => next,
         }
-    } else if n.kind < 6 {
-        next
     } else {
-        let m = many_in(lens, layout, n, t, b);
-        list_fields(out, next, lens, layout, t, n.at + 1, 0, m, b, start)
+        let s = series_in(lens, layout, n, t, b);
+        list_fields(
+            out,
+            next,
+            lens,
+            layout,
+            t,
+            s.first,
+            s.step,
+            s.many,
+            b,
+            start,
+        )
     }
 }
 

@@ -1,8 +1,10 @@
 // The unfolding of an accepted message: contents words and body bytes of its value form.
-use crate::elements::many_in;
 use crate::fields::locate;
 use crate::items::Choice;
 use crate::items::select;
+use crate::parts::Series;
+use crate::parts::no_items;
+use crate::parts::series_in;
 use crate::words::look_in;
 use crate::words::word_in;
 use bitfield::BodyBits;
@@ -10,19 +12,31 @@ use bitfield::body::bitlist_body;
 use layout::Node;
 ghost use mathlib.Core.Path.{_≡_};
 ghost use mathlib.Core.List.{[], _∷_};
+ghost use mathlib.Core.Bool.{false};
 ghost use Prim.Native.Nat.{_+_, _-_, _≤_, _<_, _^_};
 ghost use lib.ListN.{length, getD};
+ghost use lib.Dec.{eqb, ltb};
+ghost use Rattle.standard.specs.Choice.{pick};
 ghost use Rattle.standard.specs.Bytes.{Stored, Room};
-ghost use Rattle.standard.specs.Types.{freeBytes, bitList};
+ghost use Rattle.standard.specs.Types.{head};
+ghost use Rattle.standard.specs.declared.Head.the-variants.{Variable};
 ghost use Rattle.standard.specs.Parts.{InRange};
 ghost use Rattle.layout.specs.Tree.{nodeOf, leafOf, treeOf};
-ghost use Rattle.message.specs.Steps.{Under, Row, rowOf, headsOf, countOf};
+ghost use Rattle.message.specs.Steps.{Under, Row, rowOf, headsOf};
 ghost use Rattle.message.specs.Unfold.{rawOf, unfoldWords, wordsFields, unfoldBytes, bytesFields, Accepts, AcceptsAll, Rooms, Filled, MarkedAt};
+ghost use Rattle.message.specs.Series.{countWord};
+ghost use Rattle.message.specs.Unfolding.{Filling};
 
 // How many contents words and body bytes are filled.
 pub(crate) struct Place {
     pub word: usize,
     pub byte: usize,
+}
+
+// What is stored of an item ends here, and these of its fields or elements are left to be unfolded.
+struct Opened {
+    at: Place,
+    left: Series,
 }
 
 // Copies src to out from at on, and returns where it ends.
@@ -93,7 +107,18 @@ fn unfold_bits(contents: &mut [u32], bodies: &mut [u8], at: Place, k: usize, b: 
     Place { word, byte }
 }
 
-// An item of a type that has no lower types.
+// Stores body bytes that need no contents word.
+fn put_bytes(bodies: &mut [u8], at: Place, b: &[u8]) -> Place
+    requires { ⌜ Room (now bodies) (at .byte) (now b) ⌝ }
+    ensures { λ r. ⌜ Stored (now (bodies .entry)) (at .byte) (now (b .entry)) (r .byte) (now (bodies .exit)) × (r .word ≡ at .word) ⌝ }
+{
+    let word = at.word;
+    let place = at.byte;
+    let byte = copy_into(bodies, place, b);
+    Place { word, byte }
+}
+
+// A leaf of variable size: free bytes or a bit list.
 fn unfold_leaf(
     contents: &mut [u32],
     bodies: &mut [u8],
@@ -102,19 +127,12 @@ fn unfold_leaf(
     t: usize,
     b: &[u8],
 ) -> Place
-    requires { ⌜ (n .second < 2 ^ 32) × (length (now b) < 2 ^ 32) × Accepts (leafOf t n) (now b) × Rooms (now contents) (now bodies) at (unfoldWords (leafOf t n) (now b)) (unfoldBytes (leafOf t n) (now b)) ⌝ }
+    requires { ⌜ (head (leafOf t n) ≡ Variable) × (n .second < 2 ^ 32) × (length (now b) < 2 ^ 32) × Accepts (leafOf t n) (now b) × Rooms (now contents) (now bodies) at (unfoldWords (leafOf t n) (now b)) (unfoldBytes (leafOf t n) (now b)) ⌝ }
     ensures { λ r. ⌜ Filled (now (contents .entry)) (now (bodies .entry)) at (unfoldWords (leafOf t n) (now (b .entry))) (unfoldBytes (leafOf t n) (now (b .entry))) r (now (contents .exit)) (now (bodies .exit)) ⌝ }
 {
-    let kind = n.kind;
     let second = n.second;
-    if kind == 3 {
+    if n.kind == 3 {
         return unfold_free(contents, bodies, at, b);
-    }
-    if kind < 5 {
-        let word = at.word;
-        let from = at.byte;
-        let byte = copy_into(bodies, from, b);
-        return Place { word, byte };
     }
     let bits = bitlist_body(b, second);
     match bits {
@@ -135,12 +153,12 @@ fn put_selector(contents: &mut [u32], at: Place, b: &[u8]) -> Place
     Place { word, byte }
 }
 
-// Stores the count of a list; a vector has none.
+// Stores the count of a list; a container and a vector have none.
 fn put_count(contents: &mut [u32], at: Place, n: Node, m: usize) -> Place
-    requires { ⌜ Room (now contents) (at .word) (countOf n m) × (m < 2 ^ 32) ⌝ }
-    ensures { λ r. ⌜ Stored (now (contents .entry)) (at .word) (countOf n m) (r .word) (now (contents .exit)) × (r .byte ≡ at .byte) ⌝ }
+    requires { ⌜ Room (now contents) (at .word) (countWord n m) × (m < 2 ^ 32) ⌝ }
+    ensures { λ r. ⌜ Stored (now (contents .entry)) (at .word) (countWord n m) (r .word) (now (contents .exit)) × (r .byte ≡ at .byte) ⌝ }
 {
-    if n.kind == 9 {
+    if n.kind != 8 {
         return at;
     }
     let place = at.word;
@@ -148,6 +166,58 @@ fn put_count(contents: &mut [u32], at: Place, n: Node, m: usize) -> Place
     contents[place] = m as u32;
     let word = place + 1;
     Place { word, byte }
+}
+
+// Whether the type whose words are n is a list of elements of fixed size.
+fn fixed_elements(lens: &[u32; 64], n: Node) -> bool
+    requires { ⌜ (n .kind ≡ 8 → n .second < 64) × (length (now lens) ≡ 64) ⌝ }
+    ensures { λ r. ⌜ r ≡ pick (eqb (n .kind) 8) (ltb 0 (getD (now (lens .entry)) (n .second) 0)) false ⌝ }
+{
+    if n.kind != 8 {
+        return false;
+    }
+    let e = n.second;
+    lens[e] > 0
+}
+
+// Nothing is left of an item whose value form ends here.
+fn nothing_left(at: Place) -> Opened
+    ensures { λ r. ⌜ r ≡ record { at = at; left = record { first = 0; step = 0; many = 0 } } ⌝ }
+{
+    let left = no_items();
+    Opened { at, left }
+}
+
+// Stores what an item that is no union has before its fields or elements, and says which of these are left. An item of fixed size is its
+// own bytes, and so are elements of fixed size: of those nothing is left.
+fn begin(
+    contents: &mut [u32],
+    bodies: &mut [u8],
+    at: Place,
+    lens: &[u32; 64],
+    layout: &[u8],
+    n: Node,
+    t: usize,
+    b: &[u8],
+) -> Opened
+    requires { ⌜ Under (now lens) (now layout) (t + 1) × (length (now b) < 2 ^ 32) × (n ≡ nodeOf (now layout) t) × (n .kind ≡ 7 → ⊥) × Accepts (treeOf (now layout) t) (now b) × Rooms (now contents) (now bodies) at (unfoldWords (treeOf (now layout) t) (now b)) (unfoldBytes (treeOf (now layout) t) (now b)) ⌝ }
+    ensures { λ r. ⌜ Filling (now (lens .entry)) (now (layout .entry)) t (r .left .step) (now (b .entry)) (unfoldWords (treeOf (now (layout .entry)) t) (now (b .entry))) (unfoldBytes (treeOf (now (layout .entry)) t) (now (b .entry))) (now (contents .entry)) (now (bodies .entry)) at (now (contents .exit)) (now (bodies .exit)) (r .at) (r .left .first) (r .left .many) 0 ⌝ }
+{
+    if lens[t] > 0 {
+        let end = put_bytes(bodies, at, b);
+        return nothing_left(end);
+    }
+    if n.kind < 6 {
+        let end = unfold_leaf(contents, bodies, at, n, t, b);
+        return nothing_left(end);
+    }
+    let left = series_in(lens, layout, n, t, b);
+    let inside = put_count(contents, at, n, left.many);
+    if fixed_elements(lens, n) {
+        let end = put_bytes(bodies, inside, b);
+        return nothing_left(end);
+    }
+    Opened { at: inside, left }
 }
 
 // Stores the value form of the item b from a place on, and returns where it ends.
@@ -164,11 +234,8 @@ pub(crate) fn unfold_item(
     ensures { λ r. ⌜ Filled (now (contents .entry)) (now (bodies .entry)) at (unfoldWords (treeOf (now (layout .entry)) t) (now (b .entry))) (unfoldBytes (treeOf (now (layout .entry)) t) (now (b .entry))) r (now (contents .exit)) (now (bodies .exit)) ⌝ }
 {
     let n = look_in(layout, t);
-    let first = n.at + 2;
-    if n.kind == 6 {
-        unfold_fields(contents, bodies, at, lens, layout, t, first, 1, n.second, b)
-    } else if n.kind == 7 {
-        let c = select(layout, first, n.second, b);
+    if n.kind == 7 {
+        let c = select(layout, n.at + 2, n.second, b);
         match c {
             Choice::Bare => put_selector(contents, at, b),
             Choice::Body(o) => {
@@ -177,43 +244,26 @@ pub(crate) fn unfold_item(
             }
             Choice::Wrong(_) => at,
         }
-    } else if n.kind < 6 {
-        unfold_leaf(contents, bodies, at, n, t, b)
     } else {
-        unfold_elements(contents, bodies, at, lens, layout, n, t, b)
+        let s = begin(contents, bodies, at, lens, layout, n, t, b);
+        let x = s.left;
+        unfold_fields(
+            contents,
+            bodies,
+            s.at,
+            lens,
+            layout,
+            t,
+            x.first,
+            x.step,
+            x.many,
+            b,
+        )
     }
 }
 
-// Stores the value form of the list or vector b of the type t, whose words are n: a list's count stands before its elements. Elements of a
-// kind below 3 are their bytes as they stand, and lie one behind another: they are copied at once.
-fn unfold_elements(
-    contents: &mut [u32],
-    bodies: &mut [u8],
-    at: Place,
-    lens: &[u32; 64],
-    layout: &[u8],
-    n: Node,
-    t: usize,
-    b: &[u8],
-) -> Place
-    requires { ⌜ Under (now lens) (now layout) (t + 1) × (length (now b) < 2 ^ 32) × (n ≡ nodeOf (now layout) t) × (8 ≤ n .kind) × Accepts (treeOf (now layout) t) (now b) × Rooms (now contents) (now bodies) at (unfoldWords (treeOf (now layout) t) (now b)) (unfoldBytes (treeOf (now layout) t) (now b)) ⌝ }
-    ensures { λ r. ⌜ Filled (now (contents .entry)) (now (bodies .entry)) at (unfoldWords (treeOf (now (layout .entry)) t) (now (b .entry))) (unfoldBytes (treeOf (now (layout .entry)) t) (now (b .entry))) r (now (contents .exit)) (now (bodies .exit)) ⌝ }
-{
-    let m = many_in(lens, layout, n, t, b);
-    let inside = put_count(contents, at, n, m);
-    let e = look_in(layout, n.second);
-    if e.kind < 3 {
-        let word = inside.word;
-        let place = inside.byte;
-        let byte = copy_into(bodies, place, b);
-        return Place { word, byte };
-    }
-    let first = n.at + 1;
-    unfold_fields(contents, bodies, inside, lens, layout, t, first, 0, m, b)
-}
-
-// Stores the value forms of the n fields of type t that the words from a0 on name, step words apart, and returns where they end. A kind
-// below 3 is its body bytes alone, another below 6 has no lower types: only a type that has some is unfolded as an item.
+// Stores the value forms of the n fields of type t that the words from a0 on name, step words apart, and returns where they end. A field of
+// fixed size is its own bytes. Of variable size only a type that has lower types is unfolded as an item.
 fn unfold_fields(
     contents: &mut [u32],
     bodies: &mut [u8],
@@ -235,6 +285,15 @@ fn unfold_fields(
     let mut p = 0;
     while left > 0 {
         let f = word_in(layout, a);
+        let k = lens[f] as usize;
+        if k > 0 {
+            let to = p + k;
+            at = put_bytes(bodies, at, &b[p..to]);
+            p = to;
+            a += step;
+            left -= 1;
+            continue;
+        }
         let w = locate(lens, layout, t, a, step, left, f, b, p);
         let from = w.from;
         let to = w.to;
@@ -242,13 +301,6 @@ fn unfold_fields(
         a += step;
         left -= 1;
         let n = look_in(layout, f);
-        if n.kind < 3 {
-            let word = at.word;
-            let place = at.byte;
-            let byte = copy_into(bodies, place, &b[from..to]);
-            at = Place { word, byte };
-            continue;
-        }
         at = if n.kind < 6 {
             unfold_leaf(contents, bodies, at, n, f, &b[from..to])
         } else {

@@ -1,5 +1,5 @@
 -- Items and fields call each other; the type number falls. The loop over the fields keeps `Storing`. Assumes nothing.
-use mathlib.Core.Path.{_≡_, refl, sym, ap, _∙_}
+use mathlib.Core.Path.{refl, sym, _∙_}
 use native.Mathlib.Omega.{arith}
 use borrow.Author.Needs.{needs}
 use Prim.Native.Nat.{_+_, _*_}
@@ -7,10 +7,9 @@ use mathlib.Core.List.{[]}
 use lib.ListN.{length-take, length-drop}
 use Rattle.standard.proofs.Store.{stored-then, stored-none, room-then}
 use Rattle.message.proofs.Rows.{Lies, span-lies, row-there, row-legal, row-below, row-under, under-below}
-use Rattle.message.proofs.Bodies.{node-ok, container-row, body-below}
-use Rattle.message.proofs.Entries.{Storing, storing-accepted, storing-room, storing-next, storing-end, stored-length, room-long, list-container, list-leaf, container-accepted, union-bare, union-body, union-never, body-accepted}
+use Rattle.message.proofs.Bodies.{node-ok, body-below}
+use Rattle.message.proofs.Entries.{Storing, storing-accepted, storing-room, storing-next, storing-end, stored-length, room-long, union-bare, union-body, union-never, body-accepted}
 use Rattle.message.proofs.Entries.{leaf-stored, accepted-start}
-use Rattle.message.proofs.Manys.{several, many-held, many-ranges, many-row}
 use Prim.Native.Nat.{ℕ, _<_}
 use borrow.Fn.Kinds.{In}
 use borrow.Fn.PlainCycle.{Measures, is, falls, and}
@@ -20,11 +19,11 @@ use Rattle.message.proofs.listing.+list_fields+list_item.Lts-list_field
 use Rattle.message.proofs.listing.list_item.Reads as list-item
 use Rattle.message.proofs.listing.list_item.Kinds as list-item-kinds
 use Rattle.message.proofs.listing.+list_fields+list_item.Lts-list_item as list-item-lts
-use Rattle.message.proofs.words.look_in.Reads as look-in-reads
 use Rattle.message.proofs.fields.locate.Reads as locate-reads
 use Rattle.message.proofs.items.select.Reads as select-reads
-use Rattle.message.proofs.elements.many_in.Reads as many-in-reads
 use Rattle.message.proofs.listing.put_entry.Reads as put-entry-reads
+use Rattle.message.proofs.parts.series_in.Reads as series-in-reads
+use Rattle.message.proofs.words.look_in.Reads as look-in-reads
 use Rattle.message.proofs.words.word_in.Reads as word-in-reads
 use Rattle.message.proofs.listing.+list_fields+list_item.{statement}
 use Rattle.message.proofs.listing.+list_fields+list_item.Tie.{close}
@@ -58,35 +57,11 @@ list-fields-μ-loop out₀ at0 lens layout t a0 step n b start at₀ a₀ left�
 
 -- what `list_fields` calls, at the measure t
 abbrev list-fields-calls : ℕ → list-fields-lts.Claims
-list-fields-calls t = (
-  word-in-reads.Asked,
-  word-in-reads.Learnt,
-  locate-reads.Asked,
-  locate-reads.Learnt,
-  look-in-reads.Asked,
-  look-in-reads.Learnt,
-  put-entry-reads.Asked,
-  put-entry-reads.Learnt,
-  list-item-below t,
-  list-item.Post,
-)
+list-fields-calls t = (word-in-reads.Asked, word-in-reads.Learnt, locate-reads.Asked, locate-reads.Learnt, look-in-reads.Asked, look-in-reads.Learnt, put-entry-reads.Asked, put-entry-reads.Learnt, list-item-below t, list-item.Post)
 
 -- what `list_item` calls, at the measure t
 abbrev list-item-calls : ℕ → list-item-lts.Claims
-list-item-calls t = (
-  put-entry-reads.Asked,
-  put-entry-reads.Learnt,
-  look-in-reads.Asked,
-  look-in-reads.Learnt,
-  list-fields-below t,
-  list-fields.Post,
-  select-reads.Asked,
-  select-reads.Learnt,
-  list-item-below t,
-  list-item.Post,
-  many-in-reads.Asked,
-  many-in-reads.Learnt,
-)
+list-item-calls t = (put-entry-reads.Asked, put-entry-reads.Learnt, look-in-reads.Asked, look-in-reads.Learnt, select-reads.Asked, select-reads.Learnt, list-item-below t, list-item.Post, series-in-reads.Asked, series-in-reads.Learnt, list-fields-below t, list-fields.Post)
 
 -- where the field lies that was located
 list-fields-lies : (t : ℕ) (c : list-fields-lts.After-locate (list-fields-calls t) (list-fields-at t) list-fields.Post list-fields-Inv-loop list-fields-μ-loop) →
@@ -276,34 +251,21 @@ list-item-add-next t c =
     omega (arith, room-long _ _ _ _ _ (c7 .pre .1 .3))
 
 list-item-look-in-requires : (t : ℕ) → list-item-lts.Need-look-in-requires (list-item-calls t) (list-item-at t) list-item.Post
-list-item-look-in-requires t c κs = c .before .before .before .before .before .before .before .pre .1 .0 .legal
+list-item-look-in-requires t c κs =
+    let c7 = c .before .before .before .before .before .before .before in
+    c7 .pre .1 .0 .legal
 
-list-item-add-first : (t : ℕ) → list-item-lts.Need-add-first (list-item-calls t) (list-item-at t) list-item.Post
-list-item-add-first t c =
-    let c9 = c .before .before .before .before .before .before .before .before .before in
-    omega (arith, node-ok _ _ _ _ (c .before .look-in .ensures) (c9 .pre .1 .0) .near)
-
-list-item-list-fields-requires : (t : ℕ) → list-item-lts.Need-list-fields-requires (list-item-calls t) (list-item-at t) list-item.Post
-list-item-list-fields-requires t c κs =
-    let c4 = c .before .before .before .before in
-    let c7 = c4 .before .before .before in
-    let c12 = c7 .before .before .before .before .before in
-    let k = container-accepted _ _ _ _ (c4 .look-in .ensures) (c12 .pre .1 .0) _ _ (c12 .pre .1 .2) (c .before .if1 .taken) in (
-      omega (arith, c12 .pre .0),
-      (
-        container-row _ _ _ _ (c4 .look-in .ensures) (c12 .pre .1 .0) (c .before .if1 .taken),
-        c12 .pre .1 .1,
-        k .0,
-        k .1,
-        room-then _ _ _ _ _ _ _ (c12 .pre .1 .3) (list-container _ _ _ (c4 .look-in .ensures) _ _ (c .before .if1 .taken)) (c7 .put-entry .ensures),
-      ),
-    )
+list-item-add-select : (t : ℕ) → list-item-lts.Need-add-select (list-item-calls t) (list-item-at t) list-item.Post
+list-item-add-select t c =
+    let c3 = c .before .before .before in
+    let c11 = c3 .before .before .before .before .before .before .before .before in
+    omega (arith, node-ok _ _ _ _ (c3 .look-in .ensures) (c11 .pre .1 .0) .near)
 
 list-item-select-requires : (t : ℕ) → list-item-lts.Need-select-requires (list-item-calls t) (list-item-at t) list-item.Post
 list-item-select-requires t c κs =
-    let c5 = c .before .before .before .before .before in
-    let c13 = c5 .before .before .before .before .before .before .before .before in
-    omega (arith, node-ok _ _ _ _ (c5 .look-in .ensures) (c13 .pre .1 .0) .near)
+    let c3 = c .before .before .before in
+    let c11 = c3 .before .before .before .before .before .before .before .before in
+    omega (arith, node-ok _ _ _ _ (c3 .look-in .ensures) (c11 .pre .1 .0) .near)
 
 list-item-enum-told : (t : ℕ) → list-item-lts.Need-enum-told (list-item-calls t) (list-item-at t) list-item.Post
 list-item-enum-told t c = search needs
@@ -313,33 +275,34 @@ list-item-enum-known-c t c = search needs
 
 list-item-add-inside : (t : ℕ) → list-item-lts.Need-add-inside (list-item-calls t) (list-item-at t) list-item.Post
 list-item-add-inside t c =
-    let c3 = c .before .before .before in
-    let c4 = c3 .before in
-    let c9 = c4 .before .before .before .before .before in
-    let c17 = c9 .before .before .before .before .before .before .before .before in
+    let c1 = c .before in
+    let c3 = c1 .before .before in
+    let c5 = c3 .before .before in
+    let c7 = c5 .before .before in
+    let c15 = c7 .before .before .before .before .before .before .before .before in
     omega (
       arith,
-      body-below _ _ _ _ (c9 .look-in .ensures) (c17 .pre .1 .0) (c4 .if2 .taken) _ _ (sym (c .before .c .given .1) ∙ c3 .select .ensures),
-      c17 .pre .1 .1,
+      body-below _ _ _ _ (c7 .look-in .ensures) (c15 .pre .1 .0) (c5 .if1 .taken) _ _ (sym (c1 .c .given .1) ∙ c3 .select .ensures),
+      c15 .pre .1 .1,
     )
 
 list-item-sub-list-item : (t : ℕ) → list-item-lts.Need-sub-list-item (list-item-calls t) (list-item-at t) list-item.Post
 list-item-sub-list-item t c =
     let c2 = c .before .before in
     let c4 = c2 .before .before in
-    let c5 = c4 .before in
-    let c10 = c5 .before .before .before .before .before in
-    let c18 = c10 .before .before .before .before .before .before .before .before in
-    omega (arith, body-below _ _ _ _ (c10 .look-in .ensures) (c18 .pre .1 .0) (c5 .if2 .taken) _ _ (sym (c2 .c .given .1) ∙ c4 .select .ensures))
+    let c6 = c4 .before .before in
+    let c8 = c6 .before .before in
+    let c16 = c8 .before .before .before .before .before .before .before .before in
+    omega (arith, body-below _ _ _ _ (c8 .look-in .ensures) (c16 .pre .1 .0) (c6 .if1 .taken) _ _ (sym (c2 .c .given .1) ∙ c4 .select .ensures))
 
 list-item-part-list-item-start : (t : ℕ) → list-item-lts.Need-part-list-item-start (list-item-calls t) (list-item-at t) list-item.Post
 list-item-part-list-item-start t c =
     let c2 = c .before .before in
     let c4 = c2 .before .before in
-    let c5 = c4 .before in
-    let c10 = c5 .before .before .before .before .before in
-    let c18 = c10 .before .before .before .before .before .before .before .before in
-    omega (arith, body-below _ _ _ _ (c10 .look-in .ensures) (c18 .pre .1 .0) (c5 .if2 .taken) _ _ (sym (c2 .c .given .1) ∙ c4 .select .ensures))
+    let c6 = c4 .before .before in
+    let c8 = c6 .before .before in
+    let c16 = c8 .before .before .before .before .before .before .before .before in
+    omega (arith, body-below _ _ _ _ (c8 .look-in .ensures) (c16 .pre .1 .0) (c6 .if1 .taken) _ _ (sym (c2 .c .given .1) ∙ c4 .select .ensures))
 
 list-item-part-list-item-end : (t : ℕ) → list-item-lts.Need-part-list-item-end (list-item-calls t) (list-item-at t) list-item.Post
 list-item-part-list-item-end t c = omega arith
@@ -348,159 +311,102 @@ list-item-list-item-requires : (t : ℕ) → list-item-lts.Need-list-item-requir
 list-item-list-item-requires t c κs =
     let c3 = c .before .before .before in
     let c5 = c3 .before .before in
-    let c6 = c5 .before in
-    let c11 = c6 .before .before .before .before .before in
-    let c14 = c11 .before .before .before in
-    let c19 = c14 .before .before .before .before .before in
-    let z = body-below _ _ _ _ (c11 .look-in .ensures) (c19 .pre .1 .0) (c6 .if2 .taken) _ _ (sym (c3 .c .given .1) ∙ c5 .select .ensures) in (
-      omega (arith, c19 .pre .0, z),
+    let c7 = c5 .before .before in
+    let c9 = c7 .before .before in
+    let c12 = c9 .before .before .before in
+    let c17 = c12 .before .before .before .before .before in
+    let z = body-below _ _ _ _ (c9 .look-in .ensures) (c17 .pre .1 .0) (c7 .if1 .taken) _ _ (sym (c3 .c .given .1) ∙ c5 .select .ensures) in (
+      omega (arith, c17 .pre .0, z),
       (
-        under-below _ _ _ _ (omega (arith, z)) (c19 .pre .1 .0),
-        simp (length-take, length-drop) (omega (
-          arith,
-          c19 .pre
-              .1 .1,
-          z,
-        )),
-        body-accepted _ _ _ _ (c11 .look-in .ensures) (c19 .pre .1 .0) _ _ (c19 .pre .1 .2) (c6 .if2 .taken) _ (sym (c3 .c .given .1) ∙ c5
-            .select .ensures),
-        room-then _ _ _ _ _ _ _ (c19 .pre .1 .3) (union-body _ _ _ _ (c11 .look-in .ensures) (c19 .pre .1 .0) _ _ (c19 .pre .1 .2) (c6
-            .if2 .taken) _ (sym (c3 .c .given .1) ∙ c5 .select .ensures)) (c14 .put-entry .ensures),
+        under-below _ _ _ _ (omega (arith, z)) (c17 .pre .1 .0),
+        simp (length-take, length-drop) (omega (arith, c17 .pre .1 .1, z)),
+        body-accepted _ _ _ _ (c9 .look-in .ensures) (c17 .pre .1 .0) _ _ (c17 .pre .1 .2) (c7 .if1 .taken) _ (sym (c3 .c .given .1) ∙ c5 .select .ensures),
+        room-then _ _ _ _ _ _ _ (c17 .pre .1 .3) (union-body _ _ _ _ (c9 .look-in .ensures) (c17 .pre .1 .0) _ _ (c17 .pre .1 .2) (c7 .if1 .taken) _
+            (sym (c3 .c .given .1) ∙ c5 .select .ensures)) (c12 .put-entry .ensures),
       ),
     )
 
 list-item-enum-told-2 : (t : ℕ) → list-item-lts.Need-enum-told-2 (list-item-calls t) (list-item-at t) list-item.Post
 list-item-enum-told-2 t c = search needs
 
-list-item-many-in-requires : (t : ℕ) → list-item-lts.Need-many-in-requires (list-item-calls t) (list-item-at t) list-item.Post
-list-item-many-in-requires t c κs =
+list-item-series-in-requires : (t : ℕ) → list-item-lts.Need-series-in-requires (list-item-calls t) (list-item-at t) list-item.Post
+list-item-series-in-requires t c κs =
     let c2 = c .before .before in
-    let c4 = c2 .before .before in
-    let c7 = c4 .before .before .before in
-    let c15 = c7 .before .before .before .before .before .before .before .before in
-    (c15 .pre .1 .0, c7 .look-in .ensures, several _ (c .if3 .left) (c4 .if1 .left) (c2 .if2 .left), accepted-start _ _ _ 0 (c15 .pre .1 .2))
+    let c10 = c2 .before .before .before .before .before .before .before .before in
+    (c10 .pre .1 .0, omega (arith, c10 .pre .1 .1), c2 .look-in .ensures, c .if1 .left, accepted-start _ _ _ 0 (c10 .pre .1 .2))
 
-list-item-add-list-fields : (t : ℕ) → list-item-lts.Need-add-list-fields (list-item-calls t) (list-item-at t) list-item.Post
-list-item-add-list-fields t c =
-    let c10 = c .before .before .before .before .before .before .before .before .before .before in
-    let c18 = c10 .before .before .before .before .before .before .before .before in
-    omega (arith, node-ok _ _ _ _ (c10 .look-in .ensures) (c18 .pre .1 .0) .near)
-
-list-item-list-fields-requires-2 : (t : ℕ) → list-item-lts.Need-list-fields-requires-2 (list-item-calls t) (list-item-at t) list-item.Post
-list-item-list-fields-requires-2 t c κs =
-    let c2 = c .before .before in
-    let c3 = c2 .before in
-    let c5 = c3 .before .before in
-    let c7 = c5 .before .before in
-    let c10 = c7 .before .before .before in
-    let c13 = c10 .before .before .before in
-    let c18 = c13 .before .before .before .before .before in
-    let k = several _ (c3 .if3 .left) (c7 .if1 .left) (c5 .if2 .left) in
-    let held = many-held _ _ _ _ (c10 .look-in .ensures) (c18 .pre .1 .0) k _ _ (c18 .pre .1 .2) in (
-      omega (arith, c18 .pre .0),
+list-item-list-fields-requires : (t : ℕ) → list-item-lts.Need-list-fields-requires (list-item-calls t) (list-item-at t) list-item.Post
+list-item-list-fields-requires t c κs =
+    let c1 = c .before in
+    let c7 = c1 .before .before .before .before .before .before in
+    let c12 = c7 .before .before .before .before .before in (
+      omega (arith, c12 .pre .0),
       (
-        rw (c2 .many-in .ensures)
-            (many-row _ _ _ _ (c10 .look-in .ensures) (c18 .pre .1 .0) k _ _ (c18 .pre .1 .2) (omega (arith, c18 .pre .1 .1))),
-        c18 .pre .1 .1,
-        rw (c2 .many-in .ensures)
-            (many-ranges _ _ _ _ (c10 .look-in .ensures) (c18 .pre .1 .0) k _ _ (c18 .pre .1 .2)),
-        rw (c2 .many-in .ensures) (held .accepted),
-        rw (c2 .many-in .ensures) (room-then _ _ _ _ _ _ _ (c18 .pre .1 .3) (held .listed) (c13 .put-entry .ensures)),
+        c1 .series-in .ensures .row,
+        c12 .pre .1 .1,
+        c1 .series-in .ensures .ranges,
+        c1 .series-in .ensures .accepted _,
+        room-then _ _ _ _ _ _ _ (c12 .pre .1 .3) (c1 .series-in .ensures .listed _) (c7 .put-entry .ensures),
       ),
     )
 
 list-item-same-length : (t : ℕ) → list-item-lts.Need-same-length (list-item-calls t) (list-item-at t) list-item.Post
 list-item-same-length t c =
-    let c2 = c .before .before in
-    let c10 = c2 .before .before .before .before .before .before .before .before in
-    stored-length _ _ _ _ _ (c2 .list-fields .ensures) ∙ stored-length _ _ _ _ _ (c10 .put-entry .ensures)
+    let c9 = c .before .before .before .before .before .before .before .before .before in
+    stored-length _ _ _ _ _ (c9 .put-entry .ensures)
 
 list-item-returns : (t : ℕ) → list-item-lts.Need-returns (list-item-calls t) (list-item-at t) list-item.Post
 list-item-returns t c =
     let c2 = c .before .before in
     let c4 = c2 .before .before in
-    let c7 = c4 .before .before .before in
-    let c10 = c7 .before .before .before in
-    stored-then _ _ _ _ _ _ _ _ _ (c10 .put-entry .ensures) (c2 .list-fields .ensures) (list-container _ _ _ (c7 .look-in .ensures) _ _ (c4 .if1
-    .taken))
+    let c6 = c4 .before .before in
+    let c9 = c6 .before .before .before in
+    let c14 = c9 .before .before .before .before .before in
+    rw (union-bare _ _ _ _ (c6 .look-in .ensures) (c14 .pre .1 .0) _ _ (c14 .pre .1 .2) (c4 .if1 .taken) (sym (c .enum-told .given .1) ∙ c2 .select .ensures)) (c9 .put-entry .ensures)
 
 list-item-same-length-2 : (t : ℕ) → list-item-lts.Need-same-length-2 (list-item-calls t) (list-item-at t) list-item.Post
 list-item-same-length-2 t c =
-    let c11 = c .before .before .before .before .before .before .before .before .before .before .before in
-    stored-length _ _ _ _ _ (c11 .put-entry .ensures)
+    let c2 = c .before .before in
+    let c15 = c2 .before .before .before .before .before .before .before .before .before .before .before .before .before in
+    stored-length _ _ _ _ _ (c2 .list-item .ensures) ∙ stored-length _ _ _ _ _ (c15 .put-entry .ensures)
 
 list-item-returns-2 : (t : ℕ) → list-item-lts.Need-returns-2 (list-item-calls t) (list-item-at t) list-item.Post
 list-item-returns-2 t c =
     let c2 = c .before .before in
-    let c3 = c2 .before in
-    let c8 = c3 .before .before .before .before .before in
-    let c11 = c8 .before .before .before in
-    let c16 = c11 .before .before .before .before .before in
-    rw (union-bare _ _ _ _ (c8 .look-in .ensures) (c16 .pre .1 .0) _ _ (c16 .pre .1 .2) (c3 .if2 .taken) (sym (c .enum-told .given .1) ∙ c2 .select
-    .ensures)) (c11 .put-entry .ensures)
+    let c6 = c2 .before .before .before .before in
+    let c8 = c6 .before .before in
+    let c10 = c8 .before .before in
+    let c12 = c10 .before .before in
+    let c15 = c12 .before .before .before in
+    let c20 = c15 .before .before .before .before .before in
+    stored-then _ _ _ _ _ _ _ _ _ (c15 .put-entry .ensures) (c2 .list-item .ensures) (union-body _ _ _ _ (c12 .look-in .ensures) (c20 .pre .1 .0) _ _
+    (c20 .pre .1 .2) (c10 .if1 .taken) _ (sym (c6 .c .given .1) ∙ c8 .select .ensures))
 
 list-item-same-length-3 : (t : ℕ) → list-item-lts.Need-same-length-3 (list-item-calls t) (list-item-at t) list-item.Post
 list-item-same-length-3 t c =
-    let c2 = c .before .before in
-    let c17 = c2 .before .before .before .before .before .before .before .before .before .before .before .before .before .before .before in
-    stored-length _ _ _ _ _ (c2 .list-item .ensures) ∙ stored-length _ _ _ _ _ (c17 .put-entry .ensures)
+    let c9 = c .before .before .before .before .before .before .before .before .before in
+    stored-length _ _ _ _ _ (c9 .put-entry .ensures)
 
 list-item-returns-3 : (t : ℕ) → list-item-lts.Need-returns-3 (list-item-calls t) (list-item-at t) list-item.Post
 list-item-returns-3 t c =
     let c2 = c .before .before in
-    let c6 = c2 .before .before .before .before in
-    let c8 = c6 .before .before in
-    let c9 = c8 .before in
-    let c14 = c9 .before .before .before .before .before in
-    let c17 = c14 .before .before .before in
-    let c22 = c17 .before .before .before .before .before in
-    stored-then _ _ _ _ _ _ _ _ _ (c17 .put-entry .ensures) (c2 .list-item .ensures) (union-body _ _ _ _ (c14 .look-in .ensures) (c22 .pre .1 .0) _ _
-    (c22 .pre .1 .2) (c9 .if2 .taken) _ (sym (c6 .c .given .1) ∙ c8 .select .ensures))
+    let c4 = c2 .before .before in
+    let c6 = c4 .before .before in
+    let c14 = c6 .before .before .before .before .before .before .before .before in
+    union-never _ _ _ _ (c6 .look-in .ensures) (c14 .pre .1 .0) _ _ (c14 .pre .1 .2) (c4 .if1 .taken) _ (sym (c .enum-told2 .given .1) ∙ c2 .select .ensures)
 
 list-item-same-length-4 : (t : ℕ) → list-item-lts.Need-same-length-4 (list-item-calls t) (list-item-at t) list-item.Post
 list-item-same-length-4 t c =
-    let c11 = c .before .before .before .before .before .before .before .before .before .before .before in
-    stored-length _ _ _ _ _ (c11 .put-entry .ensures)
+    let c2 = c .before .before in
+    let c10 = c2 .before .before .before .before .before .before .before .before in
+    stored-length _ _ _ _ _ (c2 .list-fields .ensures) ∙ stored-length _ _ _ _ _ (c10 .put-entry .ensures)
 
 list-item-returns-4 : (t : ℕ) → list-item-lts.Need-returns-4 (list-item-calls t) (list-item-at t) list-item.Post
 list-item-returns-4 t c =
     let c2 = c .before .before in
-    let c3 = c2 .before in
-    let c8 = c3 .before .before .before .before .before in
-    let c16 = c8 .before .before .before .before .before .before .before .before in
-    union-never _ _ _ _ (c8 .look-in .ensures) (c16 .pre .1 .0) _ _ (c16 .pre .1 .2) (c3 .if2 .taken) _ (sym (c .enum-told2 .given .1) ∙ c2 .select
-    .ensures)
-
-list-item-same-length-5 : (t : ℕ) → list-item-lts.Need-same-length-5 (list-item-calls t) (list-item-at t) list-item.Post
-list-item-same-length-5 t c =
-    let c10 = c .before .before .before .before .before .before .before .before .before .before in
-    stored-length _ _ _ _ _ (c10 .put-entry .ensures)
-
-list-item-returns-5 : (t : ℕ) → list-item-lts.Need-returns-5 (list-item-calls t) (list-item-at t) list-item.Post
-list-item-returns-5 t c =
-    let c7 = c .before .before .before .before .before .before .before in
-    let c10 = c7 .before .before .before in
-    rw (list-leaf _ _ _ (c7 .look-in .ensures) _ _ (c .if3 .taken)) (c10 .put-entry .ensures)
-
-list-item-same-length-6 : (t : ℕ) → list-item-lts.Need-same-length-6 (list-item-calls t) (list-item-at t) list-item.Post
-list-item-same-length-6 t c =
-    let c2 = c .before .before in
-    let c16 = c2 .before .before .before .before .before .before .before .before .before .before .before .before .before .before in
-    stored-length _ _ _ _ _ (c2 .list-fields2 .ensures) ∙ stored-length _ _ _ _ _ (c16 .put-entry .ensures)
-
-list-item-returns-6 : (t : ℕ) → list-item-lts.Need-returns-6 (list-item-calls t) (list-item-at t) list-item.Post
-list-item-returns-6 t c =
-    let c2 = c .before .before in
-    let c5 = c2 .before .before .before in
-    let c6 = c5 .before in
-    let c8 = c6 .before .before in
-    let c10 = c8 .before .before in
-    let c13 = c10 .before .before .before in
-    let c16 = c13 .before .before .before in
-    let c21 = c16 .before .before .before .before .before in
-    let k = several _ (c6 .if3 .left) (c10 .if1 .left) (c8 .if2 .left) in
-    let held = many-held _ _ _ _ (c13 .look-in .ensures) (c21 .pre .1 .0) k _ _ (c21 .pre .1 .2) in
-    stored-then _ _ _ _ _ _ _ _ _ (c16 .put-entry .ensures) (c2 .list-fields2 .ensures) (rw (c5 .many-in .ensures) (held .listed))
+    let c4 = c2 .before .before in
+    let c10 = c4 .before .before .before .before .before .before in
+    stored-then _ _ _ _ _ _ _ _ _ (c10 .put-entry .ensures) (c2 .list-fields .ensures) (c4 .series-in .ensures .listed _)
 
 pub +list-fields+list-item-spec : {M : Type 1} → statement M
 +list-fields+list-item-spec = close μ-list-fields μ-list-item (λ t. list-fields-lts.spec (list-fields-calls t)
@@ -536,8 +442,7 @@ pub +list-fields+list-item-spec : {M : Type 1} → statement M
     (list-item-put-entry-requires t)
     (list-item-add-next t)
     (list-item-look-in-requires t)
-    (list-item-add-first t)
-    (list-item-list-fields-requires t)
+    (list-item-add-select t)
     (list-item-select-requires t)
     (list-item-enum-told t)
     (list-item-enum-known-c t)
@@ -547,9 +452,8 @@ pub +list-fields+list-item-spec : {M : Type 1} → statement M
     (list-item-part-list-item-end t)
     (list-item-list-item-requires t)
     (list-item-enum-told-2 t)
-    (list-item-many-in-requires t)
-    (list-item-add-list-fields t)
-    (list-item-list-fields-requires-2 t)
+    (list-item-series-in-requires t)
+    (list-item-list-fields-requires t)
     (list-item-same-length t)
     (list-item-returns t)
     (list-item-same-length-2 t)
@@ -558,7 +462,3 @@ pub +list-fields+list-item-spec : {M : Type 1} → statement M
     (list-item-returns-3 t)
     (list-item-same-length-4 t)
     (list-item-returns-4 t)
-    (list-item-same-length-5 t)
-    (list-item-returns-5 t)
-    (list-item-same-length-6 t)
-    (list-item-returns-6 t)

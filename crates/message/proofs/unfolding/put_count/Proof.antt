@@ -1,14 +1,14 @@
--- One word for a list, none for a vector. Assumes nothing.
+-- One word for a list, else none. Assumes nothing.
 use mathlib.Core.Path.{refl}
 use native.Mathlib.Omega.{arith}
-use borrow.Author.Needs.{needs}
 use borrow.Author.Tests.{eq-eqb, ne-eqb}
 use Rattle.standard.proofs.Store.{stored-none}
+use borrow.Author.Needs.{needs}
 use Rattle.message.proofs.unfolding.put_count.Statement.{statement}
 use Rattle.message.proofs.unfolding.put_count.Tie as tie
 
 returns : tie.Need-returns
-returns c = (stored-none _ _ _ (rw (eq-eqb _ _ (c .if1 .taken))), refl)
+returns c = (stored-none _ _ _ (rw (ne-eqb _ _ (c .if1 .taken))), refl)
 
 cast-contents : tie.Need-cast-contents
 cast-contents c = search needs
@@ -18,7 +18,8 @@ mul-contents c = search needs
 
 slice-write-contents : tie.Need-slice-write-contents
 slice-write-contents c =
-    let r = rw (ne-eqb _ _ (c .if1 .left)) at (c .before .before .pre .0) in
+    let c2 = c .before .before in
+    let r = rw (eq-eqb _ _ (c .if1 .left)) at (c2 .pre .0) in
     omega (arith, r .room)
 
 add-word : tie.Need-add-word
@@ -28,7 +29,7 @@ same-length : tie.Need-same-length
 same-length c = search needs
 
 returns-2 : tie.Need-returns-2
-returns-2 c = rw (ne-eqb _ _ (c .if1 .left)) (search needs)
+returns-2 c = rw (eq-eqb _ _ (c .if1 .left)) (search needs)
 
 pub put-count-spec : {M : Type 1} → statement M
 put-count-spec =

@@ -1,17 +1,17 @@
--- By the kind. Assumes nothing.
+-- Free bytes, or else bits. Assumes nothing.
 use mathlib.Core.Path.{sym, _∙_}
 use native.Mathlib.Omega.{arith}
-use borrow.Author.Needs.{needs}
 use Rattle.standard.proofs.Bytes.{bytes-known}
-use Rattle.message.proofs.UnfoldLeaves.{stored-length, marked-at, free-rooms, free-filled, plain-room, plain-filled, bits-rooms, bits-filled, bits-never}
+use Rattle.message.proofs.UnfoldLeaves.{stored-length, marked-at, variable-bits, free-rooms, free-filled, bits-rooms, bits-filled, bits-never}
+use borrow.Author.Needs.{needs}
 use Rattle.message.proofs.unfolding.unfold_leaf.Statement.{statement}
 use Rattle.message.proofs.unfolding.unfold_leaf.Tie as tie
 
 unfold-free-requires : tie.Need-unfold-free-requires
 unfold-free-requires c κs =
     let c2 = c .before .before in
-    let c6 = c2 .before .before .before .before in
-    (c6 .pre .1, free-rooms _ _ _ _ _ _ (c2 .if1 .taken) (c6 .pre .3))
+    let c7 = c2 .before .before .before .before .before in
+    (c7 .pre .2, free-rooms _ _ _ _ _ _ (c2 .if1 .taken) (c7 .pre .4))
 
 same-length : tie.Need-same-length
 same-length c =
@@ -29,24 +29,6 @@ returns c =
     let c7 = c4 .before .before .before in
     free-filled _ _ _ _ _ _ (c7 .if1 .taken) _ _ _ (c4 .unfold-free .ensures)
 
-copy-into-requires : tie.Need-copy-into-requires
-copy-into-requires c κs =
-    let c2 = c .before .before in
-    let c6 = c2 .before .before .before .before in
-    plain-room _ _ _ _ _ _ (c2 .if1 .left) (c .before .if2 .taken) (c6 .pre .3)
-
-same-length-3 : tie.Need-same-length-3
-same-length-3 c =
-    let c2 = c .before .before in
-    stored-length _ _ _ _ _ (c2 .copy-into .ensures)
-
-returns-2 : tie.Need-returns-2
-returns-2 c =
-    let c2 = c .before .before in
-    let c4 = c2 .before .before in
-    let c5 = c4 .before in
-    plain-filled _ _ _ _ _ _ (c5 .if1 .left) (c4 .if2 .taken) _ _ (c2 .copy-into .ensures)
-
 bitlist-body-requires : tie.Need-bitlist-body-requires
 bitlist-body-requires c κs = search needs
 
@@ -62,35 +44,36 @@ unfold-bits-requires c κs =
     let c11 = c8 .before .before .before in
     let q = marked-at (c11 .args .b .now) (c11 .args .n .second) _ (bytes-known _ (λ i. c8 .shared-slice-known .given i .fits))
     (sym (sym (c3 .bits .given .1) ∙ c5 .bitlist-body .ensures)) in
-    (omega (arith, q .1, c11 .pre .0), q .0, bits-rooms _ _ _ _ _ _ (c6 .if2 .left) _ (sym (c3 .bits .given .1) ∙ c5 .bitlist-body .ensures) (c11 .pre .3))
+    (omega (arith, q .1, c11 .pre .1), q .0, bits-rooms _ _ _ _ _ _ (variable-bits _ _ (c11 .pre .0) (c6 .if1 .left)) _ (sym (c3 .bits .given .1) ∙ c5 .bitlist-body .ensures) (c11 .pre .4))
 
 enum-told : tie.Need-enum-told
 enum-told c = search needs
 
-same-length-4 : tie.Need-same-length-4
-same-length-4 c =
+same-length-3 : tie.Need-same-length-3
+same-length-3 c =
     let c4 = c .before .before .before .before in
     stored-length _ _ _ _ _ (c4 .unfold-bits .ensures .words)
 
-same-length-5 : tie.Need-same-length-5
-same-length-5 c =
+same-length-4 : tie.Need-same-length-4
+same-length-4 c =
     let c4 = c .before .before .before .before in
     stored-length _ _ _ _ _ (c4 .unfold-bits .ensures .bytes)
 
-returns-3 : tie.Need-returns-3
-returns-3 c =
+returns-2 : tie.Need-returns-2
+returns-2 c =
     let c4 = c .before .before .before .before in
     let c8 = c4 .before .before .before .before in
     let c10 = c8 .before .before in
     let c11 = c10 .before in
-    bits-filled _ _ _ _ _ _ (c11 .if2 .left) _ (sym (c8 .bits .given .1) ∙ c10 .bitlist-body .ensures) _ _ _ (c4 .unfold-bits .ensures)
+    let c16 = c11 .before .before .before .before .before in
+    bits-filled _ _ _ _ _ _ (variable-bits _ _ (c16 .pre .0) (c11 .if1 .left)) _ (sym (c8 .bits .given .1) ∙ c10 .bitlist-body .ensures) _ _ _ (c4 .unfold-bits .ensures)
 
-returns-4 : tie.Need-returns-4
-returns-4 c =
+returns-3 : tie.Need-returns-3
+returns-3 c =
     let c2 = c .before .before in
     let c3 = c2 .before in
     let c8 = c3 .before .before .before .before .before in
-    bits-never _ _ _ (c3 .if2 .left) _ (sym (c .enum-told .given .1) ∙ c2 .bitlist-body .ensures) (c8 .pre .2)
+    bits-never _ _ _ (variable-bits _ _ (c8 .pre .0) (c3 .if1 .left)) _ (sym (c .enum-told .given .1) ∙ c2 .bitlist-body .ensures) (c8 .pre .3)
 
 pub unfold-leaf-spec : {M : Type 1} → statement M
 unfold-leaf-spec =
@@ -100,14 +83,11 @@ unfold-leaf-spec =
     same-length
     same-length-2
     returns
-    copy-into-requires
-    same-length-3
-    returns-2
     bitlist-body-requires
     enum-known-bits
     unfold-bits-requires
     enum-told
+    same-length-3
     same-length-4
-    same-length-5
-    returns-3
-    returns-4)
+    returns-2
+    returns-3)
