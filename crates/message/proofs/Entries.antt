@@ -1,8 +1,8 @@
 -- The listing, stored item by item: what is stored and what is left make the whole. Assumes nothing.
 use mathlib.Core.Path.{_≡_, refl, sym, ap, _∙_}
-use mathlib.Core.List.{List, [], _∷_, _++_, append-nil, append-assoc}
+use mathlib.Core.List.{List, [], _++_, append-nil, append-assoc}
 use mathlib.Core.Bool.{Bool, true, false}
-use Prim.Native.Nat.{ℕ, zero, suc, _+_, _-_, _*_, _/_, _≤_, _<_, _^_}
+use Prim.Native.Nat.{ℕ, zero, suc, _+_, _-_, _/_, _≤_, _<_, _^_}
 use native.Mathlib.Omega.{arith}
 use borrow.Author.Tests.{eqb-true, eqb-false, eq-eqb, ne-eqb, ltb-false}
 use lib.ListN.{length, getD, take, drop, length-append, length-drop}
@@ -10,21 +10,21 @@ use lib.Seq.{sets, length-sets, take-all}
 use lib.Dec.{eqb, ltb}
 use Rattle.standard.specs.Choice.{pick}
 use Rattle.standard.specs.Bytes.{le, wordAt, Stored, Room}
-use Rattle.standard.specs.Types.{Ty, Tys, Opts, number, boolean, fixedBytes, freeBytes, bitVector, bitList, container, union, list, vector, bare, body, head}
+use Rattle.standard.specs.Types.{Ty, Opts, number, boolean, fixedBytes, freeBytes, bitVector, bitList, container, union, list, vector, bare, body, head}
 use Rattle.standard.specs.Parts.{spanOf, part, InRange}
 use Rattle.standard.specs.declared.Span.{Span}
 use Rattle.standard.specs.declared.Told.{Told}
 use Rattle.standard.specs.declared.Refusal.{Refusal}
 use Rattle.standard.specs.declared.Refusal.the-variants.{TooLarge}
 use Rattle.standard.proofs.Bytes.{length-le}
-use Rattle.standard.proofs.Store.{sets-append, stored-then, room-first, room-then}
+use Rattle.standard.proofs.Store.{stored-then, room-first, room-then}
 use Rattle.decode.specs.Builder.{layOut}
 use Rattle.decode.proofs.Register.{layout-ranges}
 use Rattle.layout.specs.Tree.{nodeOf, leafOf, options, trees, treeOf}
 use Rattle.layout.specs.declared.Node.{Node}
 use Rattle.layout.specs.declared.Checked.the-variants.{Upto}
 use Rattle.layout.proofs.Facts.{trees-get, as-union, as-leaf}
-use Rattle.message.specs.Read.{one, andThen, built, readItem, readFields}
+use Rattle.message.specs.Read.{one, andThen, readItem, readFields}
 use Rattle.message.specs.Check.{messageType, underTable}
 use Rattle.message.specs.Listing.{entry, listItem, listFields, listOption}
 use Rattle.message.specs.Steps.{Under, Row, rowOf, headsOf, choose, IsAccepted}
@@ -36,7 +36,7 @@ use Rattle.message.proofs.Answers.{right-accepted, then-both, built-bot
 use Rattle.message.proofs.Theorem.{read-start}
 use Rattle.message.proofs.Records.{length-entry, listed-length}
 use Rattle.message.proofs.Rows.{row-none, row-first, row-next, container-tree, span-ok}
-use Rattle.message.proofs.Bodies.{fields-read, container-row, container-read, bare-says, body-says, body-below, body-read, wrong-read}
+use Rattle.message.proofs.Bodies.{fields-read, container-read, bare-says, body-says, body-below, body-read, wrong-read}
 
 -- Acceptance does not depend on where the item starts.
 pub accepted-start : (x : Ty) (b : List ℕ) (s u : ℕ) → IsAccepted (readItem x b s) → IsAccepted (readItem x b u)
@@ -78,7 +78,7 @@ pub record Storing (lens l : List ℕ) (t a₀ step n : ℕ) (b : List ℕ) (s :
   pub stored : Stored o₀ at₀ done at o
   pub whole : listFields (rowOf l t a₀ step n) b 0 s ≡ done ++ listFields (rowOf l t a step left) b p s
 
-module _ (lens l : List ℕ) (t a₀ step n : ℕ) (b : List ℕ) (s : ℕ) (o₀ : List ℕ) (at₀ : ℕ) (o : List ℕ) (at a left p f : ℕ)
+module _ {lens l : List ℕ} {t a₀ step n : ℕ} {b : List ℕ} {s : ℕ} {o₀ : List ℕ} {at₀ : ℕ} {o : List ℕ} {at a left p f : ℕ}
     (g : Storing lens l t a₀ step n b s o₀ at₀ o at a left p) (z : 0 < left) (e : f ≡ wordAt l a) (w : Span)
     (q : w ≡ spanOf (head (treeOf l f)) (headsOf l t (a + step) step (left - 1)) b p) where
   storing-both : IsAccepted (readItem (treeOf l f) (part b w) (s + w .from)) × IsAccepted (readFields (rowOf l t (a + step) step (left - 1)) b (w .next) s)
@@ -105,10 +105,10 @@ module _ (lens l : List ℕ) (t a₀ step n : ℕ) (b : List ℕ) (s : ℕ) (o�
         whole = g .whole ∙ rw (i, ← append-assoc);
       }
 
-pub storing-end : (lens l : List ℕ) (t a₀ step n : ℕ) (b : List ℕ) (s : ℕ) (o₀ : List ℕ) (at₀ : ℕ) (o : List ℕ) (at a left p : ℕ) →
+pub storing-end : {lens l : List ℕ} {t a₀ step n : ℕ} {b : List ℕ} {s : ℕ} {o₀ : List ℕ} {at₀ : ℕ} {o : List ℕ} {at a left p : ℕ} →
     Storing lens l t a₀ step n b s o₀ at₀ o at a left p → left ≤ 0 → Stored o₀ at₀ (listFields (rowOf l t a₀ step n) b 0 s) at o
 unfolding listItem
-storing-end lens l t a₀ step n b s o₀ at₀ o at a left p g h =
+storing-end {l = l} {t = t} {a₀ = a₀} {step = step} {n = n} {b = b} {s = s} {a = a} {left = left} g h =
     let e : listFields (rowOf l t a₀ step n) b 0 s ≡ g .done = g .whole ∙ rw (row-none l t a step left h, append-nil) in
     rw e (g .stored)
 

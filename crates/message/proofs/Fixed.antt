@@ -5,7 +5,7 @@
 use mathlib.Core.Path.{_≡_, refl, sym, ap, _∙_}
 use mathlib.Core.List.{List, []}
 use mathlib.Core.Bool.{Bool, true, false}
-use Prim.Native.Nat.{ℕ, zero, suc, _+_, _-_, _*_, _≤_, _<_}
+use Prim.Native.Nat.{ℕ, zero, suc, _+_, _-_, _*_}
 use native.Mathlib.Omega.{arith}
 use borrow.Author.Tests.{eqb-true}
 use lib.ListN.{length, take, drop, length-take, length-drop, take-append-drop, drop-of-length-le}
@@ -26,7 +26,7 @@ use Rattle.message.specs.Read.{ofVector, vectorTold, readItem}
 use Rattle.message.specs.Unfold.{eachFrom, unfoldWords, wordsFields, unfoldBytes, bytesFields, Accepts}
 use Rattle.message.specs.Steps.{IsAccepted}
 use Rattle.message.specs.declared.Answer.{Answer}
-use Rattle.message.specs.declared.Answer.the-variants.{Accepted, Refused}
+use Rattle.message.specs.declared.Answer.the-variants.{Refused}
 use Rattle.message.proofs.Answers.{built-both}
 use Rattle.message.proofs.Bounds.{vector-length}
 use Rattle.message.proofs.Copies.{words-copies, bytes-copies, laid-out, laid-fixed, vector-laid}
@@ -94,7 +94,9 @@ mutual
   all-forms (field t ts) = ((λ b e. fixed-form t b e), all-forms ts)
 
 -- Elements of w bytes that fill b
-pub fixed-each : (e : Ty) (w n : ℕ) (b : List ℕ) → head e ≡ Fixed w → n * w ≡ length b → (wordsFields (copies e n) b 0 ≡ []) × (bytesFields (copies e n) b 0 ≡ b)
+pub fixed-each :
+    (e : Ty) (w n : ℕ) (b : List ℕ) → head e ≡ Fixed w → n * w ≡ length b
+    → (wordsFields (copies e n) b 0 ≡ []) × (bytesFields (copies e n) b 0 ≡ b)
 unfolding FixedForm
 fixed-each e w n b q h = copies-form e (λ x i. fixed-form e x i) w n b q h
 

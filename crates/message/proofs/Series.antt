@@ -1,6 +1,6 @@
 -- The fields or elements of an accepted item: of a leaf none, of a container its fields, of a list or vector its elements. Assumes nothing.
-use mathlib.Core.Path.{_≡_, refl, sym, ap, _∙_}
-use mathlib.Core.List.{List, [], _∷_, _++_, append-nil}
+use mathlib.Core.Path.{_≡_, refl, sym, _∙_}
+use mathlib.Core.List.{List, [], _++_, append-nil}
 use mathlib.Core.Bool.{Bool, true, false}
 use Prim.Native.Nat.{ℕ, _+_, _≤_, _<_, _^_}
 use native.Mathlib.Omega.{arith}
@@ -14,10 +14,10 @@ use Rattle.standard.specs.Parts.{InRange}
 use Rattle.standard.specs.declared.Head.the-variants.{Fixed}
 use Rattle.layout.specs.Tree.{nodeOf, treeOf}
 use Rattle.layout.specs.declared.Node.{Node}
-use Rattle.message.specs.Read.{elements, manyOf, readItem, readFields}
-use Rattle.message.specs.Listing.{listItem, listFields}
+use Rattle.message.specs.Read.{elements, manyOf, readItem}
+use Rattle.message.specs.Listing.{listItem}
 use Rattle.message.specs.Unfold.{unfoldWords, wordsFields, unfoldBytes, bytesFields}
-use Rattle.message.specs.Steps.{Under, Row, Named, rowOf, headsOf, manyIn, IsAccepted}
+use Rattle.message.specs.Steps.{Under, Named, rowOf, manyIn, IsAccepted}
 use Rattle.message.specs.Series.{MadeOf, countWord}
 use Rattle.message.specs.declared.parts.Series.{Series}
 use Rattle.message.proofs.Rows.{under-below, container-tree}

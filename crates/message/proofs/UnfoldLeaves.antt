@@ -2,12 +2,10 @@
 use mathlib.Core.Path.{_≡_, refl, sym, ap, _∙_}
 use mathlib.Core.List.{List, [], _∷_, _++_}
 use Prim.Native.Nat.{ℕ, zero, suc, _+_, _-_, _*_, _/_, _%_, _≤_, _<_, _^_, max}
-use native.Mathlib.Nat.{add-zero}
-use native.Mathlib.Numerals.{add-one}
 use native.Mathlib.Omega.{arith}
 use borrow.Author.Tests.{ne-eqb}
 use lib.ListN.{length, getD, take, drop, set, length-append, length-take, take-append-drop}
-use lib.Seq.{length-sets, take-suc, take-all, drop-cons, drop-length}
+use lib.Seq.{length-sets, drop-cons, drop-length}
 use lib.Pow.{pow-add}
 use lib.Pow as Pow
 use Rattle.standard.specs.Bytes.{Bytes, le, num, Stored, Room}
@@ -16,7 +14,7 @@ use Rattle.standard.specs.declared.Head.the-variants.{Fixed, Variable}
 use Rattle.standard.specs.declared.Refusal.{Refusal}
 use Rattle.standard.proofs.Bytes.{bytes-take, bytes-append, le-num}
 use Rattle.standard.proofs.Bits.{bitsOf, packs-le, length-packs, length-bitsOf, bitNum-low, bitNum-bound, length-marked, num-marked, num-append, pow-bytes}
-use Rattle.standard.proofs.Store.{stored-then, stored-none}
+use Rattle.standard.proofs.Store.{stored-none}
 use Rattle.bitfield.specs.Body.{bitListBody}
 use Rattle.bitfield.specs.declared.BodyBits.{BodyBits}
 use Rattle.bitfield.proofs.Bodies.{cut-below, below-cut}

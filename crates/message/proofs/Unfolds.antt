@@ -87,7 +87,7 @@ module _ (lens l : List ℕ) (t a step left f : ℕ) (b : List ℕ) (q : ℕ) (g
   fields-bytes = rw (row-first l t a step left (g .named) z, i, e)
 
 -- The loop of `unfold_fields`.
-module _ (lens l : List ℕ) (t step : ℕ) (b x y o₀ p₀ : List ℕ) (at₀ : Place) (o p : List ℕ) (at : Place) (a left q : ℕ)
+module _ {lens l : List ℕ} {t step : ℕ} {b x y o₀ p₀ : List ℕ} {at₀ : Place} {o p : List ℕ} {at : Place} {a left q : ℕ}
     (g : Filling lens l t step b x y o₀ p₀ at₀ o p at a left q) where
   module _ (f : ℕ) (z : 0 < left) (e : f ≡ wordAt l a) where
     module _ (w : Span) (i : w ≡ spanOf (head (treeOf l f)) (headsOf l t (a + step) step (left - 1)) b q) where
@@ -256,7 +256,7 @@ fixed-list i k c e h =
     (eqb-true _ _ (q .0), ltb-true _ _ (q .1))
 
 -- An item that is made of fields or elements: a list's count, then theirs.
-module _ (lens l : List ℕ) (t : ℕ) (n : Node) (b : List ℕ) (r : Series) (g : MadeOf lens l t n b r) (k : 6 ≤ n .kind) (o p : List ℕ) (at : Place)
+module _ {lens l : List ℕ} {t : ℕ} {n : Node} {b : List ℕ} {r : Series} (g : MadeOf lens l t n b r) (k : 6 ≤ n .kind) {o p : List ℕ} {at : Place}
     (h : Rooms o p at (unfoldWords (treeOf l t) b) (unfoldBytes (treeOf l t) b)) where
   pub count-room : Room o (at .word) (countWord n (r .many))
   count-room = room-first o (at .word) _ (countWord n (r .many)) _ (h .words) (g .words k)

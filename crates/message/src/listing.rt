@@ -6,7 +6,6 @@ use crate::parts::series_in;
 use crate::words::look_in;
 use crate::words::word_in;
 use standard::words::put_four;
-ghost use mathlib.Core.Path.{_≡_};
 ghost use Prim.Native.Nat.{_+_, _≤_, _<_, _^_};
 ghost use lib.ListN.{length};
 ghost use Rattle.standard.specs.Bytes.{Stored, Room};

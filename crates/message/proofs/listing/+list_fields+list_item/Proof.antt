@@ -57,14 +57,39 @@ list-fields-μ-loop out₀ at0 lens layout t a0 step n b start at₀ a₀ left�
 
 -- what `list_fields` calls, at the measure t
 abbrev list-fields-calls : ℕ → list-fields-lts.Claims
-list-fields-calls t = (word-in-reads.Asked, word-in-reads.Learnt, locate-reads.Asked, locate-reads.Learnt, look-in-reads.Asked, look-in-reads.Learnt, put-entry-reads.Asked, put-entry-reads.Learnt, list-item-below t, list-item.Post)
+list-fields-calls t = (
+  word-in-reads.Asked,
+  word-in-reads.Learnt,
+  locate-reads.Asked,
+  locate-reads.Learnt,
+  look-in-reads.Asked,
+  look-in-reads.Learnt,
+  put-entry-reads.Asked,
+  put-entry-reads.Learnt,
+  list-item-below t,
+  list-item.Post,
+)
 
 -- what `list_item` calls, at the measure t
 abbrev list-item-calls : ℕ → list-item-lts.Claims
-list-item-calls t = (put-entry-reads.Asked, put-entry-reads.Learnt, look-in-reads.Asked, look-in-reads.Learnt, select-reads.Asked, select-reads.Learnt, list-item-below t, list-item.Post, series-in-reads.Asked, series-in-reads.Learnt, list-fields-below t, list-fields.Post)
+list-item-calls t = (
+  put-entry-reads.Asked,
+  put-entry-reads.Learnt,
+  look-in-reads.Asked,
+  look-in-reads.Learnt,
+  select-reads.Asked,
+  select-reads.Learnt,
+  list-item-below t,
+  list-item.Post,
+  series-in-reads.Asked,
+  series-in-reads.Learnt,
+  list-fields-below t,
+  list-fields.Post,
+)
 
 -- where the field lies that was located
-list-fields-lies : (t : ℕ) (c : list-fields-lts.After-locate (list-fields-calls t) (list-fields-at t) list-fields.Post list-fields-Inv-loop list-fields-μ-loop) →
+list-fields-lies : (t : ℕ)
+    (c : list-fields-lts.After-locate (list-fields-calls t) (list-fields-at t) list-fields.Post list-fields-Inv-loop list-fields-μ-loop) →
     Lies (c .before .before .before .before .before .before .before .args .b .now) (c .locate .result)
 list-fields-lies t c =
     let c1 = c .before in
@@ -147,8 +172,10 @@ list-fields-put-entry-requires t c κs =
     let c6 = c5 .before in
     let c7 = c6 .before in
     let c8 = c7 .before in
-    let c12 = c8 .before .before .before .before in
-    (room-long _ _ _ _ _ (storing-room _ _ _ _ _ _ _ _ _ _ _ _ _ _ _ _ (c8 .loop .inv) (c7 .loop-test .taken) (c6 .word-in .ensures .0) _ (c5 .locate .ensures)), omega (arith, list-fields-lies t c5, c12 .pre .1 .1))
+    let c12 = c8 .before .before .before .before in (
+      room-long _ _ _ _ _ (storing-room (c8 .loop .inv) (c7 .loop-test .taken) (c6 .word-in .ensures .0) _ (c5 .locate .ensures)),
+      omega (arith, list-fields-lies t c5, c12 .pre .1 .1),
+    )
 
 list-fields-add-at : (t : ℕ) → list-fields-lts.Need-add-at (list-fields-calls t) (list-fields-at t) list-fields.Post list-fields-Inv-loop list-fields-μ-loop
 list-fields-add-at t c =
@@ -157,7 +184,7 @@ list-fields-add-at t c =
     let c10 = c9 .before in
     let c11 = c10 .before in
     let c15 = c11 .before .before .before .before in
-    let room = room-long _ _ _ _ _ (storing-room _ _ _ _ _ _ _ _ _ _ _ _ _ _ _ _ (c11 .loop .inv) (c10 .loop-test .taken) (c9 .word-in .ensures .0) _ (c8 .locate .ensures)) in
+    let room = room-long _ _ _ _ _ (storing-room (c11 .loop .inv) (c10 .loop-test .taken) (c9 .word-in .ensures .0) _ (c8 .locate .ensures)) in
     omega (arith, room, stored-length _ _ _ _ _ (c11 .loop .inv .stored), c15 .good)
 
 list-fields-loop-less : (t : ℕ) → list-fields-lts.Need-loop-less (list-fields-calls t) (list-fields-at t) list-fields.Post
@@ -174,7 +201,7 @@ list-fields-loop-again t c =
     let c9 = c8 .before in
     let c10 = c9 .before in
     let c11 = c10 .before in
-    storing-next _ _ _ _ _ _ _ _ _ _ _ _ _ _ _ _ (c11 .loop .inv) (c10 .loop-test .taken) (c9 .word-in .ensures .0) _ (c8 .locate .ensures) _ _
+    storing-next (c11 .loop .inv) (c10 .loop-test .taken) (c9 .word-in .ensures .0) _ (c8 .locate .ensures) _ _
     (leaf-stored _ _ _ (c7 .look-in .ensures) (c5 .if1 .taken) _ _ _ _ _ _ (c2 .put-entry .ensures))
 
 list-fields-sub-list-item : (t : ℕ) → list-fields-lts.Need-sub-list-item (list-fields-calls t) (list-fields-at t) list-fields.Post
@@ -209,8 +236,8 @@ list-fields-list-item-requires t c κs =
       (
         under,
         omega (arith, list-fields-lies t c5, c12 .pre .1 .1),
-        storing-accepted _ _ _ _ _ _ _ _ _ _ _ _ _ _ _ _ (c8 .loop .inv) (c7 .loop-test .taken) (c6 .word-in .ensures .0) _ (c5 .locate .ensures),
-        storing-room _ _ _ _ _ _ _ _ _ _ _ _ _ _ _ _ (c8 .loop .inv) (c7 .loop-test .taken) (c6 .word-in .ensures .0) _ (c5 .locate .ensures),
+        storing-accepted (c8 .loop .inv) (c7 .loop-test .taken) (c6 .word-in .ensures .0) _ (c5 .locate .ensures),
+        storing-room (c8 .loop .inv) (c7 .loop-test .taken) (c6 .word-in .ensures .0) _ (c5 .locate .ensures),
       ),
     )
 
@@ -226,7 +253,7 @@ list-fields-loop-again-2 t c =
     let c9 = c8 .before in
     let c10 = c9 .before in
     let c11 = c10 .before in
-    storing-next _ _ _ _ _ _ _ _ _ _ _ _ _ _ _ _ (c11 .loop .inv) (c10 .loop-test .taken) (c9 .word-in .ensures .0) _ (c8 .locate .ensures) _ _
+    storing-next (c11 .loop .inv) (c10 .loop-test .taken) (c9 .word-in .ensures .0) _ (c8 .locate .ensures) _ _
     (c2 .list-item .ensures)
 
 list-fields-same-length : (t : ℕ) → list-fields-lts.Need-same-length (list-fields-calls t) (list-fields-at t) list-fields.Post
@@ -238,7 +265,7 @@ list-fields-same-length t c =
 list-fields-returns : (t : ℕ) → list-fields-lts.Need-returns (list-fields-calls t) (list-fields-at t) list-fields.Post list-fields-Inv-loop list-fields-μ-loop
 list-fields-returns t c =
     let c1 = c .before in
-    storing-end _ _ _ _ _ _ _ _ _ _ _ _ _ _ _ (c1 .loop .inv) (c .loop-test .left)
+    storing-end (c1 .loop .inv) (c .loop-test .left)
 
 list-item-put-entry-requires : (t : ℕ) → list-item-lts.Need-put-entry-requires (list-item-calls t) (list-item-at t) list-item.Post
 list-item-put-entry-requires t c κs =
@@ -362,7 +389,8 @@ list-item-returns t c =
     let c6 = c4 .before .before in
     let c9 = c6 .before .before .before in
     let c14 = c9 .before .before .before .before .before in
-    rw (union-bare _ _ _ _ (c6 .look-in .ensures) (c14 .pre .1 .0) _ _ (c14 .pre .1 .2) (c4 .if1 .taken) (sym (c .enum-told .given .1) ∙ c2 .select .ensures)) (c9 .put-entry .ensures)
+    rw (union-bare _ _ _ _ (c6 .look-in .ensures) (c14 .pre .1 .0) _ _ (c14 .pre .1 .2) (c4 .if1 .taken)
+    (sym (c .enum-told .given .1) ∙ c2 .select .ensures)) (c9 .put-entry .ensures)
 
 list-item-same-length-2 : (t : ℕ) → list-item-lts.Need-same-length-2 (list-item-calls t) (list-item-at t) list-item.Post
 list-item-same-length-2 t c =

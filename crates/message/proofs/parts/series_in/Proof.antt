@@ -44,7 +44,8 @@ returns-3 c =
     let c2 = c1 .before in
     let c4 = c2 .before .before in
     let c8 = c4 .before .before .before .before in
-    elements-made _ _ _ _ (c8 .pre .2) (c8 .pre .0) _ (c8 .pre .4) (several _ (c4 .if1 .left) (c2 .if2 .left) (c8 .pre .3)) _ (c1 .many-in .ensures) (c8 .pre .1)
+    let k = several _ (c4 .if1 .left) (c2 .if2 .left) (c8 .pre .3) in
+    elements-made _ _ _ _ (c8 .pre .2) (c8 .pre .0) _ (c8 .pre .4) k _ (c1 .many-in .ensures) (c8 .pre .1)
 
 pub series-in-spec : {M : Type 1} → statement M
 series-in-spec =

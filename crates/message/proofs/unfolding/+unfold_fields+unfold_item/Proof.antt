@@ -69,11 +69,37 @@ unfold-fields-μ-loop contents₀ bodies₀ lens layout t a0 step n b at₀ a₀
 
 -- what `unfold_fields` calls, at the measure t
 abbrev unfold-fields-calls : ℕ → unfold-fields-lts.Claims
-unfold-fields-calls t = (word-in-reads.Asked, word-in-reads.Learnt, put-bytes-reads.Asked, put-bytes-reads.Learnt, locate-reads.Asked, locate-reads.Learnt, look-in-reads.Asked, look-in-reads.Learnt, unfold-leaf-reads.Asked, unfold-leaf-reads.Learnt, unfold-item-below t, unfold-item.Post)
+unfold-fields-calls t = (
+  word-in-reads.Asked,
+  word-in-reads.Learnt,
+  put-bytes-reads.Asked,
+  put-bytes-reads.Learnt,
+  locate-reads.Asked,
+  locate-reads.Learnt,
+  look-in-reads.Asked,
+  look-in-reads.Learnt,
+  unfold-leaf-reads.Asked,
+  unfold-leaf-reads.Learnt,
+  unfold-item-below t,
+  unfold-item.Post,
+)
 
 -- what `unfold_item` calls, at the measure t
 abbrev unfold-item-calls : ℕ → unfold-item-lts.Claims
-unfold-item-calls t = (look-in-reads.Asked, look-in-reads.Learnt, select-reads.Asked, select-reads.Learnt, put-selector-reads.Asked, put-selector-reads.Learnt, unfold-item-below t, unfold-item.Post, begin-reads.Asked, begin-reads.Learnt, unfold-fields-below t, unfold-fields.Post)
+unfold-item-calls t = (
+  look-in-reads.Asked,
+  look-in-reads.Learnt,
+  select-reads.Asked,
+  select-reads.Learnt,
+  put-selector-reads.Asked,
+  put-selector-reads.Learnt,
+  unfold-item-below t,
+  unfold-item.Post,
+  begin-reads.Asked,
+  begin-reads.Learnt,
+  unfold-fields-below t,
+  unfold-fields.Post,
+)
 
 -- where the field lies that was located
 unfold-fields-lies : (t : ℕ)
@@ -85,7 +111,8 @@ unfold-fields-lies t c =
     let c5 = c4 .before in
     span-lies _ _ _ _ _ _ _ _ _ (c5 .loop .inv .row) (c4 .loop-test .taken) (c3 .word-in .ensures .0) (c5 .loop .inv .ranges) _ (c .locate .ensures)
 
-unfold-fields-loop-holds : (t : ℕ) → unfold-fields-lts.Need-loop-holds (unfold-fields-calls t) (unfold-fields-at t) unfold-fields.Post unfold-fields-Inv-loop unfold-fields-μ-loop
+unfold-fields-loop-holds : (t : ℕ) → unfold-fields-lts.Need-loop-holds (unfold-fields-calls t) (unfold-fields-at t) unfold-fields.Post
+    unfold-fields-Inv-loop unfold-fields-μ-loop
 unfold-fields-loop-holds t c =
     let c4 = c .before .before .before .before in
     record {
@@ -100,118 +127,140 @@ unfold-fields-loop-holds t c =
       all-bytes = refl;
     }
 
-unfold-fields-word-in-requires : (t : ℕ) → unfold-fields-lts.Need-word-in-requires (unfold-fields-calls t) (unfold-fields-at t) unfold-fields.Post unfold-fields-Inv-loop unfold-fields-μ-loop
+unfold-fields-word-in-requires : (t : ℕ) → unfold-fields-lts.Need-word-in-requires (unfold-fields-calls t) (unfold-fields-at t) unfold-fields.Post
+    unfold-fields-Inv-loop unfold-fields-μ-loop
 unfold-fields-word-in-requires t c κs =
     let c1 = c .before in
     row-there _ _ _ _ _ _ (c1 .loop .inv .row) (c .loop-test .taken)
 
-unfold-fields-mul-k : (t : ℕ) → unfold-fields-lts.Need-mul-k (unfold-fields-calls t) (unfold-fields-at t) unfold-fields.Post unfold-fields-Inv-loop unfold-fields-μ-loop
+unfold-fields-mul-k : (t : ℕ) → unfold-fields-lts.Need-mul-k (unfold-fields-calls t) (unfold-fields-at t) unfold-fields.Post
+    unfold-fields-Inv-loop unfold-fields-μ-loop
 unfold-fields-mul-k t c =
     let c1 = c .before in
     let c2 = c1 .before in
     omega (arith, row-few _ _ _ _ _ _ _ (c2 .loop .inv .row) (c1 .loop-test .taken) (c .word-in .ensures .0))
 
-unfold-fields-element-copy-out-k : (t : ℕ) → unfold-fields-lts.Need-element-copy-out-k (unfold-fields-calls t) (unfold-fields-at t) unfold-fields.Post unfold-fields-Inv-loop unfold-fields-μ-loop
+unfold-fields-element-copy-out-k : (t : ℕ) → unfold-fields-lts.Need-element-copy-out-k (unfold-fields-calls t) (unfold-fields-at t) unfold-fields.Post
+    unfold-fields-Inv-loop unfold-fields-μ-loop
 unfold-fields-element-copy-out-k t c =
     let c1 = c .before in
     let c2 = c1 .before in
     omega (arith, row-few _ _ _ _ _ _ _ (c2 .loop .inv .row) (c1 .loop-test .taken) (c .word-in .ensures .0))
 
-unfold-fields-cast-k : (t : ℕ) → unfold-fields-lts.Need-cast-k (unfold-fields-calls t) (unfold-fields-at t) unfold-fields.Post unfold-fields-Inv-loop unfold-fields-μ-loop
+unfold-fields-cast-k : (t : ℕ) → unfold-fields-lts.Need-cast-k (unfold-fields-calls t) (unfold-fields-at t) unfold-fields.Post
+    unfold-fields-Inv-loop unfold-fields-μ-loop
 unfold-fields-cast-k t c =
     let c1 = c .before in
     let c2 = c1 .before in
     let c3 = c2 .before in
     omega (arith, row-small _ _ _ _ _ _ _ (c3 .loop .inv .row) (c2 .loop-test .taken) (c1 .word-in .ensures .0))
 
-unfold-fields-add-to : (t : ℕ) → unfold-fields-lts.Need-add-to (unfold-fields-calls t) (unfold-fields-at t) unfold-fields.Post unfold-fields-Inv-loop unfold-fields-μ-loop
+unfold-fields-add-to : (t : ℕ) → unfold-fields-lts.Need-add-to (unfold-fields-calls t) (unfold-fields-at t) unfold-fields.Post
+    unfold-fields-Inv-loop unfold-fields-μ-loop
 unfold-fields-add-to t c =
     let c2 = c .before .before in
     let c3 = c2 .before in
     let c4 = c3 .before in
     let c9 = c4 .before .before .before .before .before in
-    omega (arith, own-fits _ _ _ _ _ _ _ _ _ _ _ _ _ _ _ _ (c4 .loop .inv) _ (c3 .loop-test .taken) (c2 .word-in .ensures .0) _ refl (c .if1 .taken), c9 .pre .1 .1)
+    omega (arith, own-fits (c4 .loop .inv) _ (c3 .loop-test .taken) (c2 .word-in .ensures .0) _ refl (c .if1 .taken), c9 .pre .1 .1)
 
-unfold-fields-sub-put-bytes : (t : ℕ) → unfold-fields-lts.Need-sub-put-bytes (unfold-fields-calls t) (unfold-fields-at t) unfold-fields.Post unfold-fields-Inv-loop unfold-fields-μ-loop
+unfold-fields-sub-put-bytes : (t : ℕ) → unfold-fields-lts.Need-sub-put-bytes (unfold-fields-calls t) (unfold-fields-at t) unfold-fields.Post
+    unfold-fields-Inv-loop unfold-fields-μ-loop
 unfold-fields-sub-put-bytes t c = omega arith
 
-unfold-fields-part-put-bytes-start : (t : ℕ) → unfold-fields-lts.Need-part-put-bytes-start (unfold-fields-calls t) (unfold-fields-at t) unfold-fields.Post unfold-fields-Inv-loop unfold-fields-μ-loop
+unfold-fields-part-put-bytes-start : (t : ℕ) → unfold-fields-lts.Need-part-put-bytes-start (unfold-fields-calls t) (unfold-fields-at t) unfold-fields.Post
+    unfold-fields-Inv-loop unfold-fields-μ-loop
 unfold-fields-part-put-bytes-start t c = omega arith
 
-unfold-fields-part-put-bytes-end : (t : ℕ) → unfold-fields-lts.Need-part-put-bytes-end (unfold-fields-calls t) (unfold-fields-at t) unfold-fields.Post unfold-fields-Inv-loop unfold-fields-μ-loop
+unfold-fields-part-put-bytes-end : (t : ℕ) → unfold-fields-lts.Need-part-put-bytes-end (unfold-fields-calls t) (unfold-fields-at t) unfold-fields.Post
+    unfold-fields-Inv-loop unfold-fields-μ-loop
 unfold-fields-part-put-bytes-end t c =
     let c1 = c .before in
     let c3 = c1 .before .before in
     let c4 = c3 .before in
     let c5 = c4 .before in
-    own-fits _ _ _ _ _ _ _ _ _ _ _ _ _ _ _ _ (c5 .loop .inv) _ (c4 .loop-test .taken) (c3 .word-in .ensures .0) _ refl (c1 .if1 .taken)
+    own-fits (c5 .loop .inv) _ (c4 .loop-test .taken) (c3 .word-in .ensures .0) _ refl (c1 .if1 .taken)
 
-unfold-fields-put-bytes-requires : (t : ℕ) → unfold-fields-lts.Need-put-bytes-requires (unfold-fields-calls t) (unfold-fields-at t) unfold-fields.Post unfold-fields-Inv-loop unfold-fields-μ-loop
+unfold-fields-put-bytes-requires : (t : ℕ) → unfold-fields-lts.Need-put-bytes-requires (unfold-fields-calls t) (unfold-fields-at t) unfold-fields.Post
+    unfold-fields-Inv-loop unfold-fields-μ-loop
 unfold-fields-put-bytes-requires t c κs =
     let c2 = c .before .before in
     let c4 = c2 .before .before in
     let c5 = c4 .before in
     let c6 = c5 .before in
-    own-room _ _ _ _ _ _ _ _ _ _ _ _ _ _ _ _ (c6 .loop .inv) _ (c5 .loop-test .taken) (c4 .word-in .ensures .0) _ refl (c2 .if1 .taken)
+    own-room (c6 .loop .inv) _ (c5 .loop-test .taken) (c4 .word-in .ensures .0) _ refl (c2 .if1 .taken)
 
-unfold-fields-add-a : (t : ℕ) → unfold-fields-lts.Need-add-a (unfold-fields-calls t) (unfold-fields-at t) unfold-fields.Post unfold-fields-Inv-loop unfold-fields-μ-loop
+unfold-fields-add-a : (t : ℕ) → unfold-fields-lts.Need-add-a (unfold-fields-calls t) (unfold-fields-at t) unfold-fields.Post
+    unfold-fields-Inv-loop unfold-fields-μ-loop
 unfold-fields-add-a t c =
     let c9 = c .before .before .before .before .before .before .before .before .before in
     omega (arith, c9 .loop .inv .row .near, c9 .loop .inv .row .steps)
 
-unfold-fields-sub-left : (t : ℕ) → unfold-fields-lts.Need-sub-left (unfold-fields-calls t) (unfold-fields-at t) unfold-fields.Post unfold-fields-Inv-loop unfold-fields-μ-loop
+unfold-fields-sub-left : (t : ℕ) → unfold-fields-lts.Need-sub-left (unfold-fields-calls t) (unfold-fields-at t) unfold-fields.Post
+    unfold-fields-Inv-loop unfold-fields-μ-loop
 unfold-fields-sub-left t c = omega arith
 
-unfold-fields-loop-less : (t : ℕ) → unfold-fields-lts.Need-loop-less (unfold-fields-calls t) (unfold-fields-at t) unfold-fields.Post unfold-fields-Inv-loop unfold-fields-μ-loop
+unfold-fields-loop-less : (t : ℕ) → unfold-fields-lts.Need-loop-less (unfold-fields-calls t) (unfold-fields-at t) unfold-fields.Post
+    unfold-fields-Inv-loop unfold-fields-μ-loop
 unfold-fields-loop-less t c = omega arith
 
-unfold-fields-loop-again : (t : ℕ) → unfold-fields-lts.Need-loop-again (unfold-fields-calls t) (unfold-fields-at t) unfold-fields.Post unfold-fields-Inv-loop unfold-fields-μ-loop
+unfold-fields-loop-again : (t : ℕ) → unfold-fields-lts.Need-loop-again (unfold-fields-calls t) (unfold-fields-at t) unfold-fields.Post
+    unfold-fields-Inv-loop unfold-fields-μ-loop
 unfold-fields-loop-again t c =
     let c2 = c .before .before in
     let c5 = c2 .before .before .before in
     let c7 = c5 .before .before in
     let c8 = c7 .before in
     let c9 = c8 .before in
-    own-next _ _ _ _ _ _ _ _ _ _ _ _ _ _ _ _ (c9 .loop .inv) _ (c8 .loop-test .taken) (c7 .word-in .ensures .0) _ refl (c5 .if1 .taken) _ _ (c2 .put-bytes .ensures .0) (c2 .put-bytes .ensures .1)
+    own-next (c9 .loop .inv) _ (c8 .loop-test .taken) (c7 .word-in .ensures .0) _ refl (c5 .if1 .taken) _ _
+    (c2 .put-bytes .ensures .0) (c2 .put-bytes .ensures .1)
 
-unfold-fields-locate-requires : (t : ℕ) → unfold-fields-lts.Need-locate-requires (unfold-fields-calls t) (unfold-fields-at t) unfold-fields.Post unfold-fields-Inv-loop unfold-fields-μ-loop
+unfold-fields-locate-requires : (t : ℕ) → unfold-fields-lts.Need-locate-requires (unfold-fields-calls t) (unfold-fields-at t) unfold-fields.Post
+    unfold-fields-Inv-loop unfold-fields-μ-loop
 unfold-fields-locate-requires t c κs =
     let c2 = c .before .before in
     let c3 = c2 .before in
     let c4 = c3 .before in
     (c4 .loop .inv .row, c3 .loop-test .taken, c2 .word-in .ensures .0, c4 .loop .inv .ranges)
 
-unfold-fields-add-a-2 : (t : ℕ) → unfold-fields-lts.Need-add-a-2 (unfold-fields-calls t) (unfold-fields-at t) unfold-fields.Post unfold-fields-Inv-loop unfold-fields-μ-loop
+unfold-fields-add-a-2 : (t : ℕ) → unfold-fields-lts.Need-add-a-2 (unfold-fields-calls t) (unfold-fields-at t) unfold-fields.Post
+    unfold-fields-Inv-loop unfold-fields-μ-loop
 unfold-fields-add-a-2 t c =
     let c5 = c .before .before .before .before .before in
     omega (arith, c5 .loop .inv .row .near, c5 .loop .inv .row .steps)
 
-unfold-fields-sub-left-2 : (t : ℕ) → unfold-fields-lts.Need-sub-left-2 (unfold-fields-calls t) (unfold-fields-at t) unfold-fields.Post unfold-fields-Inv-loop unfold-fields-μ-loop
+unfold-fields-sub-left-2 : (t : ℕ) → unfold-fields-lts.Need-sub-left-2 (unfold-fields-calls t) (unfold-fields-at t) unfold-fields.Post
+    unfold-fields-Inv-loop unfold-fields-μ-loop
 unfold-fields-sub-left-2 t c = omega arith
 
-unfold-fields-look-in-requires : (t : ℕ) → unfold-fields-lts.Need-look-in-requires (unfold-fields-calls t) (unfold-fields-at t) unfold-fields.Post unfold-fields-Inv-loop unfold-fields-μ-loop
+unfold-fields-look-in-requires : (t : ℕ) → unfold-fields-lts.Need-look-in-requires (unfold-fields-calls t) (unfold-fields-at t) unfold-fields.Post
+    unfold-fields-Inv-loop unfold-fields-μ-loop
 unfold-fields-look-in-requires t c κs =
     let c3 = c .before .before .before in
     let c4 = c3 .before in
     let c5 = c4 .before in
     row-legal _ _ _ _ _ _ _ (c5 .loop .inv .row) (c4 .loop-test .taken) (c3 .word-in .ensures .0)
 
-unfold-fields-sub-unfold-leaf : (t : ℕ) → unfold-fields-lts.Need-sub-unfold-leaf (unfold-fields-calls t) (unfold-fields-at t) unfold-fields.Post unfold-fields-Inv-loop unfold-fields-μ-loop
+unfold-fields-sub-unfold-leaf : (t : ℕ) → unfold-fields-lts.Need-sub-unfold-leaf (unfold-fields-calls t) (unfold-fields-at t) unfold-fields.Post
+    unfold-fields-Inv-loop unfold-fields-μ-loop
 unfold-fields-sub-unfold-leaf t c =
     let c5 = c .before .before .before .before .before in
     unfold-fields-lies t c5 .0
 
-unfold-fields-part-unfold-leaf-start : (t : ℕ) → unfold-fields-lts.Need-part-unfold-leaf-start (unfold-fields-calls t) (unfold-fields-at t) unfold-fields.Post unfold-fields-Inv-loop unfold-fields-μ-loop
+unfold-fields-part-unfold-leaf-start : (t : ℕ) → unfold-fields-lts.Need-part-unfold-leaf-start (unfold-fields-calls t) (unfold-fields-at t) unfold-fields.Post
+    unfold-fields-Inv-loop unfold-fields-μ-loop
 unfold-fields-part-unfold-leaf-start t c =
     let c5 = c .before .before .before .before .before in
     unfold-fields-lies t c5 .0
 
-unfold-fields-part-unfold-leaf-end : (t : ℕ) → unfold-fields-lts.Need-part-unfold-leaf-end (unfold-fields-calls t) (unfold-fields-at t) unfold-fields.Post unfold-fields-Inv-loop unfold-fields-μ-loop
+unfold-fields-part-unfold-leaf-end : (t : ℕ) → unfold-fields-lts.Need-part-unfold-leaf-end (unfold-fields-calls t) (unfold-fields-at t) unfold-fields.Post
+    unfold-fields-Inv-loop unfold-fields-μ-loop
 unfold-fields-part-unfold-leaf-end t c =
     let c5 = c .before .before .before .before .before in
     unfold-fields-lies t c5 .1
 
-unfold-fields-unfold-leaf-requires : (t : ℕ) → unfold-fields-lts.Need-unfold-leaf-requires (unfold-fields-calls t) (unfold-fields-at t) unfold-fields.Post unfold-fields-Inv-loop unfold-fields-μ-loop
+unfold-fields-unfold-leaf-requires : (t : ℕ) → unfold-fields-lts.Need-unfold-leaf-requires (unfold-fields-calls t) (unfold-fields-at t) unfold-fields.Post
+    unfold-fields-Inv-loop unfold-fields-μ-loop
 unfold-fields-unfold-leaf-requires t c κs =
     let c3 = c .before .before .before in
     let c5 = c3 .before .before in
@@ -222,31 +271,35 @@ unfold-fields-unfold-leaf-requires t c κs =
     let c11 = c10 .before in
     let c16 = c11 .before .before .before .before .before in
     let under = row-under _ _ _ _ _ _ _ (c11 .loop .inv .row) (c10 .loop-test .taken) (c9 .word-in .ensures .0) in
-    let accepts = filling-accepts _ _ _ _ _ _ _ _ _ _ _ _ _ _ _ _ (c11 .loop .inv) _ (c10 .loop-test .taken) (c9 .word-in .ensures .0) _ (c6 .locate .ensures) in (
+    let accepts = filling-accepts (c11 .loop .inv) _ (c10 .loop-test .taken) (c9 .word-in .ensures .0) _ (c6 .locate .ensures) in (
       leaf-variable _ _ _ _ (c5 .look-in .ensures) under _ accepts (c3 .if2 .taken) (no-more _ (c7 .if1 .left)),
       node-ok _ _ _ _ (c5 .look-in .ensures) under .small,
       omega (arith, unfold-fields-lies t c6, c16 .pre .1 .1),
       leaf-accepts _ _ _ _ (c5 .look-in .ensures) under _ accepts (c3 .if2 .taken),
       leaf-rooms _ _ _ _ (c5 .look-in .ensures) under _ accepts (c3 .if2 .taken) _ _ _
-          (filling-rooms _ _ _ _ _ _ _ _ _ _ _ _ _ _ _ _ (c11 .loop .inv) _ (c10 .loop-test .taken) (c9 .word-in .ensures .0) _ (c6 .locate .ensures)),
+          (filling-rooms (c11 .loop .inv) _ (c10 .loop-test .taken) (c9 .word-in .ensures .0) _ (c6 .locate .ensures)),
     )
 
-unfold-fields-sub-unfold-item : (t : ℕ) → unfold-fields-lts.Need-sub-unfold-item (unfold-fields-calls t) (unfold-fields-at t) unfold-fields.Post unfold-fields-Inv-loop unfold-fields-μ-loop
+unfold-fields-sub-unfold-item : (t : ℕ) → unfold-fields-lts.Need-sub-unfold-item (unfold-fields-calls t) (unfold-fields-at t) unfold-fields.Post
+    unfold-fields-Inv-loop unfold-fields-μ-loop
 unfold-fields-sub-unfold-item t c =
     let c5 = c .before .before .before .before .before in
     unfold-fields-lies t c5 .0
 
-unfold-fields-part-unfold-item-start : (t : ℕ) → unfold-fields-lts.Need-part-unfold-item-start (unfold-fields-calls t) (unfold-fields-at t) unfold-fields.Post unfold-fields-Inv-loop unfold-fields-μ-loop
+unfold-fields-part-unfold-item-start : (t : ℕ) → unfold-fields-lts.Need-part-unfold-item-start (unfold-fields-calls t) (unfold-fields-at t) unfold-fields.Post
+    unfold-fields-Inv-loop unfold-fields-μ-loop
 unfold-fields-part-unfold-item-start t c =
     let c5 = c .before .before .before .before .before in
     unfold-fields-lies t c5 .0
 
-unfold-fields-part-unfold-item-end : (t : ℕ) → unfold-fields-lts.Need-part-unfold-item-end (unfold-fields-calls t) (unfold-fields-at t) unfold-fields.Post unfold-fields-Inv-loop unfold-fields-μ-loop
+unfold-fields-part-unfold-item-end : (t : ℕ) → unfold-fields-lts.Need-part-unfold-item-end (unfold-fields-calls t) (unfold-fields-at t) unfold-fields.Post
+    unfold-fields-Inv-loop unfold-fields-μ-loop
 unfold-fields-part-unfold-item-end t c =
     let c5 = c .before .before .before .before .before in
     unfold-fields-lies t c5 .1
 
-unfold-fields-unfold-item-requires : (t : ℕ) → unfold-fields-lts.Need-unfold-item-requires (unfold-fields-calls t) (unfold-fields-at t) unfold-fields.Post unfold-fields-Inv-loop unfold-fields-μ-loop
+unfold-fields-unfold-item-requires : (t : ℕ) → unfold-fields-lts.Need-unfold-item-requires (unfold-fields-calls t) (unfold-fields-at t) unfold-fields.Post
+    unfold-fields-Inv-loop unfold-fields-μ-loop
 unfold-fields-unfold-item-requires t c κs =
     let c6 = c .before .before .before .before .before .before in
     let c9 = c6 .before .before .before in
@@ -258,15 +311,17 @@ unfold-fields-unfold-item-requires t c κs =
       (
         row-under _ _ _ _ _ _ _ (c11 .loop .inv .row) (c10 .loop-test .taken) (c9 .word-in .ensures .0),
         omega (arith, unfold-fields-lies t c6, c16 .pre .1 .1),
-        filling-accepts _ _ _ _ _ _ _ _ _ _ _ _ _ _ _ _ (c11 .loop .inv) _ (c10 .loop-test .taken) (c9 .word-in .ensures .0) _ (c6 .locate .ensures),
-        filling-rooms _ _ _ _ _ _ _ _ _ _ _ _ _ _ _ _ (c11 .loop .inv) _ (c10 .loop-test .taken) (c9 .word-in .ensures .0) _ (c6 .locate .ensures),
+        filling-accepts (c11 .loop .inv) _ (c10 .loop-test .taken) (c9 .word-in .ensures .0) _ (c6 .locate .ensures),
+        filling-rooms (c11 .loop .inv) _ (c10 .loop-test .taken) (c9 .word-in .ensures .0) _ (c6 .locate .ensures),
       ),
     )
 
-unfold-fields-loop-less-2 : (t : ℕ) → unfold-fields-lts.Need-loop-less-2 (unfold-fields-calls t) (unfold-fields-at t) unfold-fields.Post unfold-fields-Inv-loop unfold-fields-μ-loop
+unfold-fields-loop-less-2 : (t : ℕ) → unfold-fields-lts.Need-loop-less-2 (unfold-fields-calls t) (unfold-fields-at t) unfold-fields.Post
+    unfold-fields-Inv-loop unfold-fields-μ-loop
 unfold-fields-loop-less-2 t c = omega arith
 
-unfold-fields-loop-again-2 : (t : ℕ) → unfold-fields-lts.Need-loop-again-2 (unfold-fields-calls t) (unfold-fields-at t) unfold-fields.Post unfold-fields-Inv-loop unfold-fields-μ-loop
+unfold-fields-loop-again-2 : (t : ℕ) → unfold-fields-lts.Need-loop-again-2 (unfold-fields-calls t) (unfold-fields-at t) unfold-fields.Post
+    unfold-fields-Inv-loop unfold-fields-μ-loop
 unfold-fields-loop-again-2 t c =
     let c4 = c .before .before .before .before in
     let c8 = c4 .before .before .before .before in
@@ -276,36 +331,41 @@ unfold-fields-loop-again-2 t c =
     let c15 = c14 .before in
     let c16 = c15 .before in
     let under = row-under _ _ _ _ _ _ _ (c16 .loop .inv .row) (c15 .loop-test .taken) (c14 .word-in .ensures .0) in
-    let accepts = filling-accepts _ _ _ _ _ _ _ _ _ _ _ _ _ _ _ _ (c16 .loop .inv) _ (c15 .loop-test .taken) (c14 .word-in .ensures .0) _ (c11 .locate .ensures) in
-    filling-next _ _ _ _ _ _ _ _ _ _ _ _ _ _ _ _ (c16 .loop .inv) _ (c15 .loop-test .taken) (c14 .word-in .ensures .0) _ (c11 .locate .ensures) _ _ _
+    let accepts = filling-accepts (c16 .loop .inv) _ (c15 .loop-test .taken) (c14 .word-in .ensures .0) _ (c11 .locate .ensures) in
+    filling-next (c16 .loop .inv) _ (c15 .loop-test .taken) (c14 .word-in .ensures .0) _ (c11 .locate .ensures) _ _ _
     (leaf-filled _ _ _ _ (c10 .look-in .ensures) under _ accepts (c8 .if2 .taken) _ _ _ _ _ _ (c4 .unfold-leaf .ensures))
 
-unfold-fields-loop-less-3 : (t : ℕ) → unfold-fields-lts.Need-loop-less-3 (unfold-fields-calls t) (unfold-fields-at t) unfold-fields.Post unfold-fields-Inv-loop unfold-fields-μ-loop
+unfold-fields-loop-less-3 : (t : ℕ) → unfold-fields-lts.Need-loop-less-3 (unfold-fields-calls t) (unfold-fields-at t) unfold-fields.Post
+    unfold-fields-Inv-loop unfold-fields-μ-loop
 unfold-fields-loop-less-3 t c = omega arith
 
-unfold-fields-loop-again-3 : (t : ℕ) → unfold-fields-lts.Need-loop-again-3 (unfold-fields-calls t) (unfold-fields-at t) unfold-fields.Post unfold-fields-Inv-loop unfold-fields-μ-loop
+unfold-fields-loop-again-3 : (t : ℕ) → unfold-fields-lts.Need-loop-again-3 (unfold-fields-calls t) (unfold-fields-at t) unfold-fields.Post
+    unfold-fields-Inv-loop unfold-fields-μ-loop
 unfold-fields-loop-again-3 t c =
     let c4 = c .before .before .before .before in
     let c11 = c4 .before .before .before .before .before .before .before in
     let c14 = c11 .before .before .before in
     let c15 = c14 .before in
     let c16 = c15 .before in
-    filling-next _ _ _ _ _ _ _ _ _ _ _ _ _ _ _ _ (c16 .loop .inv) _ (c15 .loop-test .taken) (c14 .word-in .ensures .0) _ (c11 .locate .ensures) _ _ _ (c4 .unfold-item .ensures)
+    filling-next (c16 .loop .inv) _ (c15 .loop-test .taken) (c14 .word-in .ensures .0) _ (c11 .locate .ensures) _ _ _ (c4 .unfold-item .ensures)
 
-unfold-fields-same-length : (t : ℕ) → unfold-fields-lts.Need-same-length (unfold-fields-calls t) (unfold-fields-at t) unfold-fields.Post unfold-fields-Inv-loop unfold-fields-μ-loop
+unfold-fields-same-length : (t : ℕ) → unfold-fields-lts.Need-same-length (unfold-fields-calls t) (unfold-fields-at t) unfold-fields.Post
+    unfold-fields-Inv-loop unfold-fields-μ-loop
 unfold-fields-same-length t c =
     let c1 = c .before in
     stored-length _ _ _ _ _ (c1 .loop .inv .filled .words)
 
-unfold-fields-same-length-2 : (t : ℕ) → unfold-fields-lts.Need-same-length-2 (unfold-fields-calls t) (unfold-fields-at t) unfold-fields.Post unfold-fields-Inv-loop unfold-fields-μ-loop
+unfold-fields-same-length-2 : (t : ℕ) → unfold-fields-lts.Need-same-length-2 (unfold-fields-calls t) (unfold-fields-at t) unfold-fields.Post
+    unfold-fields-Inv-loop unfold-fields-μ-loop
 unfold-fields-same-length-2 t c =
     let c1 = c .before in
     stored-length _ _ _ _ _ (c1 .loop .inv .filled .bytes)
 
-unfold-fields-returns : (t : ℕ) → unfold-fields-lts.Need-returns (unfold-fields-calls t) (unfold-fields-at t) unfold-fields.Post unfold-fields-Inv-loop unfold-fields-μ-loop
+unfold-fields-returns : (t : ℕ) → unfold-fields-lts.Need-returns (unfold-fields-calls t) (unfold-fields-at t) unfold-fields.Post
+    unfold-fields-Inv-loop unfold-fields-μ-loop
 unfold-fields-returns t c =
     let c1 = c .before in
-    filling-end _ _ _ _ _ _ _ _ _ _ _ _ _ _ _ _ (c1 .loop .inv) (c .loop-test .left)
+    filling-end (c1 .loop .inv) (c .loop-test .left)
 
 unfold-item-look-in-requires : (t : ℕ) → unfold-item-lts.Need-look-in-requires (unfold-item-calls t) (unfold-item-at t) unfold-item.Post
 unfold-item-look-in-requires t c κs =
@@ -473,7 +533,7 @@ unfold-item-returns-4 : (t : ℕ) → unfold-item-lts.Need-returns-4 (unfold-ite
 unfold-item-returns-4 t c =
     let c4 = c .before .before .before .before in
     let c12 = c4 .before .before .before .before .before .before .before .before in
-    filling-last _ _ _ _ _ _ _ _ _ _ _ _ _ _ _ _ (c12 .begin .ensures) _ _ _ (c4 .unfold-fields .ensures)
+    filling-last (c12 .begin .ensures) _ _ _ (c4 .unfold-fields .ensures)
 
 pub +unfold-fields+unfold-item-spec : {M : Type 1} → statement M
 +unfold-fields+unfold-item-spec = close μ-unfold-fields μ-unfold-item (λ t. unfold-fields-lts.spec (unfold-fields-calls t)

@@ -78,7 +78,7 @@ put-count-requires c κs =
     let c1 = c .before in
     let c2 = c1 .before in
     let c10 = c2 .before .before .before .before .before .before .before .before in
-    (count-room _ _ _ _ _ _ (c1 .series-in .ensures) (c2 .if2 .left) _ _ _ (c10 .pre .5), c1 .series-in .ensures .few)
+    (count-room (c1 .series-in .ensures) (c2 .if2 .left) (c10 .pre .5), c1 .series-in .ensures .few)
 
 fixed-elements-requires : tie.Need-fixed-elements-requires
 fixed-elements-requires c κs =
@@ -95,7 +95,7 @@ put-bytes-requires-2 c κs =
     let c16 = c8 .before .before .before .before .before .before .before .before in
     let q = fixed-list _ _ _ (c2 .fixed-elements .ensures) (c1 .if3 .taken) in
     bytes-room _ _ _ (c7 .series-in .ensures .copied (q .0) (q .1)) _ _ _
-    (parts-rooms _ _ _ _ _ _ (c7 .series-in .ensures) (c8 .if2 .left) _ _ _ (c16 .pre .5) _ _ (c5 .put-count .ensures .0) (c5 .put-count .ensures .1))
+    (parts-rooms (c7 .series-in .ensures) (c8 .if2 .left) (c16 .pre .5) _ _ (c5 .put-count .ensures .0) (c5 .put-count .ensures .1))
 
 nothing-left-requires-3 : tie.Need-nothing-left-requires-3
 nothing-left-requires-3 c κs = search needs
@@ -121,8 +121,8 @@ returns-3 c =
     let c20 = c12 .before .before .before .before .before .before .before .before in
     let q = fixed-list _ _ _ (c6 .fixed-elements .ensures) (c5 .if3 .taken) in
     all-stored _ _ _ (c20 .pre .0) _ _ _ _ _ _ _ _ _ _ (c .nothing-left3 .ensures) (c20 .pre .5)
-    (filling-last _ _ _ _ _ _ _ _ _ _ _ _ _ _ _ _
-    (parts-left _ _ _ _ _ _ (c11 .series-in .ensures) (c12 .if2 .left) _ _ _ (c20 .pre .5) _ _ (c9 .put-count .ensures .0) (c9 .put-count .ensures .1)) _ _ _
+    (filling-last
+    (parts-left (c11 .series-in .ensures) (c12 .if2 .left) (c20 .pre .5) _ _ (c9 .put-count .ensures .0) (c9 .put-count .ensures .1)) _ _ _
     (bytes-filled _ _ _ (c11 .series-in .ensures .copied (q .0) (q .1)) _ _ _ _ _ (c3 .put-bytes2 .ensures .0) (c3 .put-bytes2 .ensures .1)))
 
 same-length-6 : tie.Need-same-length-6
@@ -136,7 +136,7 @@ returns-4 c =
     let c6 = c4 .before .before in
     let c7 = c6 .before in
     let c15 = c7 .before .before .before .before .before .before .before .before in
-    parts-left _ _ _ _ _ _ (c6 .series-in .ensures) (c7 .if2 .left) _ _ _ (c15 .pre .5) _ _ (c4 .put-count .ensures .0) (c4 .put-count .ensures .1)
+    parts-left (c6 .series-in .ensures) (c7 .if2 .left) (c15 .pre .5) _ _ (c4 .put-count .ensures .0) (c4 .put-count .ensures .1)
 
 pub begin-spec : {M : Type 1} → statement M
 begin-spec =
