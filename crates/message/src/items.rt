@@ -22,7 +22,8 @@ use standard::words::word_at;
 ghost use mathlib.Core.Path.{_≡_};
 ghost use Prim.Native.Nat.{ℕ, _+_, _≤_, _<_, _^_};
 ghost use lib.ListN.{length};
-ghost use Rattle.standard.specs.Choice.{pick};
+ghost use Rattle.standard.specs.Choice.{pick, andAlso};
+ghost use lib.Dec.{eqb, leb};
 ghost use Rattle.standard.specs.Types.{boolean, freeBytes, bitVector, bitList};
 ghost use Rattle.standard.specs.Parts.{InRange};
 ghost use Rattle.layout.specs.Tree.{nodeOf, leafOf, treeOf};
@@ -265,6 +266,16 @@ fn is_plain(kind: usize) -> bool
     kind == 2
 }
 
+// Free bytes within their limit: of them nothing else is asked.
+fn is_within(n: Node, len: usize) -> bool
+    ensures { λ r. ⌜ r ≡ andAlso (eqb (n .kind) 3) (leb len (n .second)) ⌝ }
+{
+    if n.kind != 3 {
+        return false;
+    }
+    len <= n.second
+}
+
 // What there is to read inside an item: a refusal; nothing more, and how many records and contents words the item has; or the words that name
 // its fields or elements: the first, how far apart they stand, how many there are, and the contents words of the item itself.
 enum Inside {
@@ -372,9 +383,8 @@ pub(crate) fn item_check(
 }
 
 // Checks the n fields of type t that the words from a0 on name, step words apart, and counts them with what holds them, which has `own`
-// contents words. Numbers and fixed
-// bytes have their length from the table, which the registration tested, and free bytes, the most common of variable size, are asked for
-// theirs alone: neither needs a call.
+// contents words. Numbers and fixed bytes have their length from the table, and the registration tested it; free bytes are the most common of
+// variable size: neither needs a call.
 fn field_check(
     lens: &[u32; 64],
     layout: &[u8],
@@ -396,39 +406,32 @@ fn field_check(
     while left > 0 {
         let f = word_in(layout, a);
         let node = look_in(layout, f);
+        let here = a;
+        a += step;
+        left -= 1;
         if is_plain(node.kind) {
             let k = lens[f] as usize;
             sum = one_more(sum, 0, k);
             p += k;
-            a += step;
-            left -= 1;
             continue;
         }
-        let w = locate(lens, layout, t, a, step, left, f, b, p);
+        let w = locate(lens, layout, t, here, step, left + 1, f, b, p);
         let from = w.from;
         let to = w.to;
         p = w.next;
-        a += step;
-        left -= 1;
         let at = start + from;
-        if node.kind == 3 {
-            let len = to - from;
-            if len > node.second {
-                return Answer::Refused(Refusal::OverLimit(len, node.second), f, at);
-            }
-            sum = one_more(sum, 1, len);
+        if is_within(node, to - from) {
+            sum = one_more(sum, 1, to - from);
             continue;
         }
         if node.kind < 6 {
-            let r = leaf_check(node, &b[from..to]);
-            match r {
+            match leaf_check(node, &b[from..to]) {
                 LeafTold::Sizes(words, bytes) => sum = one_more(sum, words, bytes),
                 LeafTold::Refused(x) => return Answer::Refused(x, f, at),
             }
             continue;
         }
-        let r = item_check(lens, layout, f, &b[from..to], at);
-        match r {
+        match item_check(lens, layout, f, &b[from..to], at) {
             Answer::Accepted(c) => sum = add(sum, c),
             Answer::Refused(x, u, v) => return Answer::Refused(x, u, v),
         }

@@ -3,12 +3,12 @@
 use mathlib.Core.Path.{_≡_, refl, sym, ap, _∙_}
 use native.Mathlib.Omega.{arith}
 use borrow.Author.Needs.{needs}
-use Prim.Native.Nat.{_+_, _*_}
+use Prim.Native.Nat.{_+_, _-_, _*_}
 use lib.ListN.{length-take, length-drop}
 use Rattle.message.specs.Read.{one, andThen}
 use Rattle.message.proofs.Rows.{Lies, row-there, row-below, row-few, row-small, row-under, row-legal, under-below}
 use Rattle.message.proofs.Bodies.{Reading, reading-new, reading-small, reading-span, reading-item, reading-next, reading-stop, reading-end}
-use Rattle.message.proofs.Bodies.{plain-fits, plain-next, free-next, free-stop}
+use Rattle.message.proofs.Bodies.{plain-fits, plain-next, free-next, within-says}
 use Rattle.message.proofs.Bodies.{item-small, small-more, node-ok, leaf-told}
 use Rattle.message.proofs.Bodies.{bare-read, wrong-read, body-below, body-read}
 use Prim.Native.Nat.{ℕ, _<_}
@@ -25,6 +25,7 @@ use Rattle.message.proofs.fields.locate.Reads as locate-reads
 use Rattle.message.proofs.items.add.Reads as add-reads
 use Rattle.message.proofs.items.inside_of.Reads as inside-of-reads
 use Rattle.message.proofs.items.is_plain.Reads as is-plain-reads
+use Rattle.message.proofs.items.is_within.Reads as is-within-reads
 use Rattle.message.proofs.items.leaf.Reads as leaf-reads
 use Rattle.message.proofs.items.leaf_check.Reads as leaf-check-reads
 use Rattle.message.proofs.items.one_more.Reads as one-more-reads
@@ -78,6 +79,8 @@ field-check-calls t = (
   one-more-reads.Learnt,
   locate-reads.Asked,
   locate-reads.Learnt,
+  is-within-reads.Asked,
+  is-within-reads.Learnt,
   leaf-check-reads.Asked,
   leaf-check-reads.Learnt,
   item-check-below t,
@@ -108,182 +111,141 @@ item-check-calls t = (
 )
 
 -- where the field lies that was located
-field-check-lies : (t : ℕ)
-    (c : field-check-lts.After-locate (field-check-calls t) (field-check-at t) field-check.Post field-check-Inv-loop field-check-μ-loop) →
+field-check-lies : (t : ℕ) (c : field-check-lts.After-locate (field-check-calls t) (field-check-at t) field-check.Post field-check-Inv-loop field-check-μ-loop) →
     Lies (c .before .before .before .before .before .before .before .before .before .before .args .b .now) (c .locate .result)
-field-check-lies t c =
-    let c4 = c .before .before .before .before in
-    let c5 = c4 .before in
-    let c6 = c5 .before in
-    reading-span _ _ _ _ _ _ _ _ _ _ _ _ _ _ (c6 .loop .inv) (c5 .loop-test .taken) (c4 .word-in .ensures .0) _ (c .locate .ensures)
+field-check-lies t at =
+    let word = at .before .before .before .before in
+    let test = word .before in
+    let loop = test .before in
+    let start = loop .before .before .before .before in
+    let rest : loop .loop .left - 1 + 1 - 1 ≡ loop .loop .left - 1 = omega arith in
+    let span = rw rest at (at .locate .ensures) in
+    reading-span _ _ _ _ _ _ _ _ _ _ _ _ _ _ (loop .loop .inv) (test .loop-test .taken) (word .word-in .ensures .0) _ span
 
-field-check-own-record-requires : (t : ℕ) → field-check-lts.Need-own-record-requires (field-check-calls t) (field-check-at t) field-check.Post
-    field-check-Inv-loop field-check-μ-loop
+field-check-own-record-requires : (t : ℕ) → field-check-lts.Need-own-record-requires (field-check-calls t) (field-check-at t) field-check.Post field-check-Inv-loop field-check-μ-loop
 field-check-own-record-requires t c κs = search needs
 
-field-check-loop-holds : (t : ℕ) → field-check-lts.Need-loop-holds (field-check-calls t) (field-check-at t) field-check.Post
-    field-check-Inv-loop field-check-μ-loop
+field-check-loop-holds : (t : ℕ) → field-check-lts.Need-loop-holds (field-check-calls t) (field-check-at t) field-check.Post field-check-Inv-loop field-check-μ-loop
 field-check-loop-holds t c =
-    let c3 = c .before .before .before in
-    rw (c .own-record .ensures) (reading-new _ _ _ _ _ _ _ _ _ (c3 .pre .1 .0) (c3 .pre .1 .1) (c3 .pre .1 .2) (c3 .pre .1 .3))
+    let start = c .before .before .before in
+    rw (c .own-record .ensures) (reading-new _ _ _ _ _ _ _ _ _ (start .pre .1 .0) (start .pre .1 .1) (start .pre .1 .2) (start .pre .1 .3))
 
-field-check-word-in-requires : (t : ℕ) → field-check-lts.Need-word-in-requires (field-check-calls t) (field-check-at t) field-check.Post
-    field-check-Inv-loop field-check-μ-loop
-field-check-word-in-requires t c κs =
-    let c1 = c .before in
-    row-there _ _ _ _ _ _ (c1 .loop .inv .row) (c .loop-test .taken)
+field-check-word-in-requires : (t : ℕ) → field-check-lts.Need-word-in-requires (field-check-calls t) (field-check-at t) field-check.Post field-check-Inv-loop field-check-μ-loop
+field-check-word-in-requires t c κs = row-there _ _ _ _ _ _ (c .before .loop .inv .row) (c .loop-test .taken)
 
-field-check-look-in-requires : (t : ℕ) → field-check-lts.Need-look-in-requires (field-check-calls t) (field-check-at t) field-check.Post
-    field-check-Inv-loop field-check-μ-loop
+field-check-look-in-requires : (t : ℕ) → field-check-lts.Need-look-in-requires (field-check-calls t) (field-check-at t) field-check.Post field-check-Inv-loop field-check-μ-loop
 field-check-look-in-requires t c κs =
-    let c1 = c .before in
-    let c2 = c1 .before in
-    row-legal _ _ _ _ _ _ _ (c2 .loop .inv .row) (c1 .loop-test .taken) (c .word-in .ensures .0)
-
-field-check-is-plain-requires : (t : ℕ) → field-check-lts.Need-is-plain-requires (field-check-calls t) (field-check-at t) field-check.Post
-    field-check-Inv-loop field-check-μ-loop
-field-check-is-plain-requires t c κs = search needs
-
-field-check-mul-k : (t : ℕ) → field-check-lts.Need-mul-k (field-check-calls t) (field-check-at t) field-check.Post field-check-Inv-loop field-check-μ-loop
-field-check-mul-k t c =
-    let c3 = c .before .before .before in
-    omega (arith, c3 .word-in .ensures .1)
-
-field-check-element-copy-out-k : (t : ℕ) → field-check-lts.Need-element-copy-out-k (field-check-calls t) (field-check-at t) field-check.Post
-    field-check-Inv-loop field-check-μ-loop
-field-check-element-copy-out-k t c =
-    let c3 = c .before .before .before in
-    let c4 = c3 .before in
-    let c5 = c4 .before in
-    row-few _ _ _ _ _ _ _ (c5 .loop .inv .row) (c4 .loop-test .taken) (c3 .word-in .ensures .0)
-
-field-check-cast-k : (t : ℕ) → field-check-lts.Need-cast-k (field-check-calls t) (field-check-at t) field-check.Post field-check-Inv-loop field-check-μ-loop
-field-check-cast-k t c =
-    let c4 = c .before .before .before .before in
-    let c5 = c4 .before in
-    let c6 = c5 .before in
-    omega (arith, row-small _ _ _ _ _ _ _ (c6 .loop .inv .row) (c5 .loop-test .taken) (c4 .word-in .ensures .0))
-
-field-check-one-more-requires : (t : ℕ) → field-check-lts.Need-one-more-requires (field-check-calls t) (field-check-at t) field-check.Post
-    field-check-Inv-loop field-check-μ-loop
-field-check-one-more-requires t c κs =
-    let c4 = c .before .before .before .before in
-    let c5 = c4 .before in
-    let c6 = c5 .before in (
-      reading-small _ _ _ _ _ _ _ _ _ _ _ _ _ (c6 .loop .inv),
-      omega arith,
-      omega (arith, row-small _ _ _ _ _ _ _ (c6 .loop .inv .row) (c5 .loop-test .taken) (c4 .word-in .ensures .0)),
-    )
-
-field-check-add-p : (t : ℕ) → field-check-lts.Need-add-p (field-check-calls t) (field-check-at t) field-check.Post field-check-Inv-loop field-check-μ-loop
-field-check-add-p t c =
-    let c2 = c .before .before in
-    let c3 = c2 .before in
-    let c4 = c3 .before in
-    let c5 = c4 .before in
-    let c6 = c5 .before in
-    let c7 = c6 .before in
-    let c11 = c7 .before .before .before .before in
-    omega (
-      arith,
-      plain-fits _ _ _ _ _ _ _ _ _ _ _ _ _ _ (c7 .loop .inv) (c6 .loop-test .taken) (c5 .word-in .ensures .0) _ (c4 .look-in .ensures)
-          (sym (c3 .is-plain .ensures) ∙ c2 .if1 .taken) _ refl,
-      c11 .pre .1 .1,
-    )
+    let test = c .before in
+    row-legal _ _ _ _ _ _ _ (test .before .loop .inv .row) (test .loop-test .taken) (c .word-in .ensures .0)
 
 field-check-add-a : (t : ℕ) → field-check-lts.Need-add-a (field-check-calls t) (field-check-at t) field-check.Post field-check-Inv-loop field-check-μ-loop
 field-check-add-a t c =
-    let c7 = c .before .before .before .before .before .before .before in
-    omega (arith, c7 .loop .inv .row .near, c7 .loop .inv .row .steps)
+    let loop = c .before .before .before in
+    omega (arith, loop .loop .inv .row .near, loop .loop .inv .row .steps)
 
-field-check-sub-left : (t : ℕ) → field-check-lts.Need-sub-left (field-check-calls t) (field-check-at t) field-check.Post
-    field-check-Inv-loop field-check-μ-loop
+field-check-sub-left : (t : ℕ) → field-check-lts.Need-sub-left (field-check-calls t) (field-check-at t) field-check.Post field-check-Inv-loop field-check-μ-loop
 field-check-sub-left t c = omega arith
 
-field-check-loop-less : (t : ℕ) → field-check-lts.Need-loop-less (field-check-calls t) (field-check-at t) field-check.Post
-    field-check-Inv-loop field-check-μ-loop
+field-check-is-plain-requires : (t : ℕ) → field-check-lts.Need-is-plain-requires (field-check-calls t) (field-check-at t) field-check.Post field-check-Inv-loop field-check-μ-loop
+field-check-is-plain-requires t c κs = search needs
+
+field-check-mul-k : (t : ℕ) → field-check-lts.Need-mul-k (field-check-calls t) (field-check-at t) field-check.Post field-check-Inv-loop field-check-μ-loop
+field-check-mul-k t c = omega (arith, c .before .before .before .word-in .ensures .1)
+
+field-check-element-copy-out-k : (t : ℕ) → field-check-lts.Need-element-copy-out-k (field-check-calls t) (field-check-at t) field-check.Post field-check-Inv-loop field-check-μ-loop
+field-check-element-copy-out-k t c =
+    let word = c .before .before .before in
+    let test = word .before in
+    let loop = test .before in
+    row-few _ _ _ _ _ _ _ (loop .loop .inv .row) (test .loop-test .taken) (word .word-in .ensures .0)
+
+field-check-cast-k : (t : ℕ) → field-check-lts.Need-cast-k (field-check-calls t) (field-check-at t) field-check.Post field-check-Inv-loop field-check-μ-loop
+field-check-cast-k t c =
+    let word = c .before .before .before .before in
+    let test = word .before in
+    let loop = test .before in
+    omega (arith, row-small _ _ _ _ _ _ _ (loop .loop .inv .row) (test .loop-test .taken) (word .word-in .ensures .0))
+
+field-check-one-more-requires : (t : ℕ) → field-check-lts.Need-one-more-requires (field-check-calls t) (field-check-at t) field-check.Post field-check-Inv-loop field-check-μ-loop
+field-check-one-more-requires t c κs =
+    let word = c .before .before .before .before in
+    let test = word .before in
+    let loop = test .before in
+    (reading-small _ _ _ _ _ _ _ _ _ _ _ _ _ (loop .loop .inv), omega arith, omega (arith, row-small _ _ _ _ _ _ _ (loop .loop .inv .row) (test .loop-test .taken) (word .word-in .ensures .0)))
+
+field-check-add-p : (t : ℕ) → field-check-lts.Need-add-p (field-check-calls t) (field-check-at t) field-check.Post field-check-Inv-loop field-check-μ-loop
+field-check-add-p t c =
+    let then = c .before .before in
+    let plain = then .before in
+    let look = plain .before in
+    let word = look .before in
+    let test = word .before in
+    let loop = test .before in
+    let start = loop .before .before .before .before in
+    let fits = plain-fits _ _ _ _ _ _ _ _ _ _ _ _ _ _ (loop .loop .inv) (test .loop-test .taken) (word .word-in .ensures .0) _ (look .look-in .ensures)
+    (sym (plain .is-plain .ensures) ∙ then .if1 .taken) _ refl in
+    omega (arith, fits, start .pre .1 .1)
+
+field-check-loop-less : (t : ℕ) → field-check-lts.Need-loop-less (field-check-calls t) (field-check-at t) field-check.Post field-check-Inv-loop field-check-μ-loop
 field-check-loop-less t c = omega arith
 
-field-check-loop-again : (t : ℕ) → field-check-lts.Need-loop-again (field-check-calls t) (field-check-at t) field-check.Post
-    field-check-Inv-loop field-check-μ-loop
+field-check-loop-again : (t : ℕ) → field-check-lts.Need-loop-again (field-check-calls t) (field-check-at t) field-check.Post field-check-Inv-loop field-check-μ-loop
 field-check-loop-again t c =
-    let c2 = c .before .before in
-    let c3 = c2 .before in
-    let c4 = c3 .before in
-    let c5 = c4 .before in
-    let c6 = c5 .before in
-    let c7 = c6 .before in
-    let c11 = c7 .before .before .before .before in
-    rw (c .one-more .ensures)
-    (plain-next _ _ _ _ _ _ _ _ _ _ _ _ _ _ (c7 .loop .inv) (c6 .loop-test .taken) (c5 .word-in .ensures .0) _ (c4 .look-in .ensures)
-    (sym (c3 .is-plain .ensures) ∙ c2 .if1 .taken) _ refl (c11 .pre .1 .1))
+    let then = c .before .before in
+    let plain = then .before in
+    let look = plain .before in
+    let word = look .before in
+    let test = word .before in
+    let loop = test .before in
+    let start = loop .before .before .before .before in
+    rw (c .one-more .ensures) (plain-next _ _ _ _ _ _ _ _ _ _ _ _ _ _ (loop .loop .inv) (test .loop-test .taken) (word .word-in .ensures .0) _ (look .look-in .ensures)
+    (sym (plain .is-plain .ensures) ∙ then .if1 .taken) _ refl (start .pre .1 .1))
 
-field-check-locate-requires : (t : ℕ) → field-check-lts.Need-locate-requires (field-check-calls t) (field-check-at t) field-check.Post
-    field-check-Inv-loop field-check-μ-loop
+field-check-add-locate : (t : ℕ) → field-check-lts.Need-add-locate (field-check-calls t) (field-check-at t) field-check.Post field-check-Inv-loop field-check-μ-loop
+field-check-add-locate t c = omega arith
+
+field-check-locate-requires : (t : ℕ) → field-check-lts.Need-locate-requires (field-check-calls t) (field-check-at t) field-check.Post field-check-Inv-loop field-check-μ-loop
 field-check-locate-requires t c κs =
-    let c3 = c .before .before .before in
-    let c4 = c3 .before in
-    let c5 = c4 .before in
-    (c5 .loop .inv .row, c4 .loop-test .taken, c3 .word-in .ensures .0, c5 .loop .inv .ranges)
-
-field-check-add-a-2 : (t : ℕ) → field-check-lts.Need-add-a-2 (field-check-calls t)
-    (field-check-at t) field-check.Post field-check-Inv-loop field-check-μ-loop
-field-check-add-a-2 t c =
-    let c6 = c .before .before .before .before .before .before in
-    omega (arith, c6 .loop .inv .row .near, c6 .loop .inv .row .steps)
-
-field-check-sub-left-2 : (t : ℕ) → field-check-lts.Need-sub-left-2 (field-check-calls t) (field-check-at t) field-check.Post
-    field-check-Inv-loop field-check-μ-loop
-field-check-sub-left-2 t c = omega arith
+    let word = c .before .before .before in
+    let test = word .before in
+    let loop = test .before in
+    let all : loop .loop .left - 1 + 1 ≡ loop .loop .left = omega (arith, test .loop-test .taken) in
+    rw all (loop .loop .inv .row, test .loop-test .taken, word .word-in .ensures .0, loop .loop .inv .ranges)
 
 field-check-add-at : (t : ℕ) → field-check-lts.Need-add-at (field-check-calls t) (field-check-at t) field-check.Post field-check-Inv-loop field-check-μ-loop
-field-check-add-at t c =
-    let c10 = c .before .before .before .before .before .before .before .before .before .before in
-    omega (arith, field-check-lies t c, c10 .pre .1 .1)
+field-check-add-at t c = omega (arith, field-check-lies t c, c .before .before .before .before .before .before .before .before .before .before .pre .1 .1)
 
-field-check-sub-len : (t : ℕ) → field-check-lts.Need-sub-len (field-check-calls t)
-    (field-check-at t) field-check.Post field-check-Inv-loop field-check-μ-loop
-field-check-sub-len t c =
-    let c2 = c .before .before in
-    field-check-lies t c2 .0
+field-check-sub-is-within : (t : ℕ) → field-check-lts.Need-sub-is-within (field-check-calls t) (field-check-at t) field-check.Post field-check-Inv-loop field-check-μ-loop
+field-check-sub-is-within t c = field-check-lies t c .0
 
-field-check-returns : (t : ℕ) → field-check-lts.Need-returns (field-check-calls t)
-    (field-check-at t) field-check.Post field-check-Inv-loop field-check-μ-loop
-field-check-returns t c =
-    let c2 = c .before .before in
-    let c4 = c2 .before .before in
-    let c7 = c4 .before .before .before in
-    let c8 = c7 .before in
-    let c9 = c8 .before in
-    let c10 = c9 .before in
-    free-stop _ _ _ _ _ _ _ _ _ _ _ _ _ _ (c10 .loop .inv) (c9 .loop-test .taken) (c8 .word-in .ensures .0) _ (c4 .locate .ensures) _
-    (c7 .look-in .ensures) (c2 .if2 .taken) (c .if3 .taken)
+field-check-is-within-requires : (t : ℕ) → field-check-lts.Need-is-within-requires (field-check-calls t) (field-check-at t) field-check.Post field-check-Inv-loop field-check-μ-loop
+field-check-is-within-requires t c κs = search needs
 
-field-check-one-more-requires-2 : (t : ℕ) → field-check-lts.Need-one-more-requires-2 (field-check-calls t) (field-check-at t) field-check.Post
-    field-check-Inv-loop field-check-μ-loop
+field-check-sub-one-more : (t : ℕ) → field-check-lts.Need-sub-one-more (field-check-calls t) (field-check-at t) field-check.Post field-check-Inv-loop field-check-μ-loop
+field-check-sub-one-more t c = field-check-lies t (c .before .before) .0
+
+field-check-one-more-requires-2 : (t : ℕ) → field-check-lts.Need-one-more-requires-2 (field-check-calls t) (field-check-at t) field-check.Post field-check-Inv-loop field-check-μ-loop
 field-check-one-more-requires-2 t c κs =
-    let c4 = c .before .before .before .before in
-    let c10 = c4 .before .before .before .before .before .before in
-    let c14 = c10 .before .before .before .before in
-    (reading-small _ _ _ _ _ _ _ _ _ _ _ _ _ (c10 .loop .inv), omega arith, omega (arith, field-check-lies t c4, c14 .pre .1 .1))
+    let at = c .before .before in
+    let loop = at .before .before .before .before .before .before in
+    (reading-small _ _ _ _ _ _ _ _ _ _ _ _ _ (loop .loop .inv), omega arith, omega (arith, field-check-lies t at, loop .before .before .before .before .pre .1 .1))
 
-field-check-loop-less-2 : (t : ℕ) → field-check-lts.Need-loop-less-2 (field-check-calls t) (field-check-at t) field-check.Post
-    field-check-Inv-loop field-check-μ-loop
+field-check-loop-less-2 : (t : ℕ) → field-check-lts.Need-loop-less-2 (field-check-calls t) (field-check-at t) field-check.Post field-check-Inv-loop field-check-μ-loop
 field-check-loop-less-2 t c = omega arith
 
-field-check-loop-again-2 : (t : ℕ) → field-check-lts.Need-loop-again-2 (field-check-calls t) (field-check-at t) field-check.Post
-    field-check-Inv-loop field-check-μ-loop
+field-check-loop-again-2 : (t : ℕ) → field-check-lts.Need-loop-again-2 (field-check-calls t) (field-check-at t) field-check.Post field-check-Inv-loop field-check-μ-loop
 field-check-loop-again-2 t c =
-    let c1 = c .before in
-    let c3 = c1 .before .before in
-    let c5 = c3 .before .before in
-    let c8 = c5 .before .before .before in
-    let c9 = c8 .before in
-    let c10 = c9 .before in
-    let c11 = c10 .before in
-    let c15 = c11 .before .before .before .before in
-    rw (c .one-more2 .ensures) (free-next _ _ _ _ _ _ _ _ _ _ _ _ _ _ (c11 .loop .inv) (c10 .loop-test .taken) (c9 .word-in .ensures .0) _
-    (c5 .locate .ensures) _ (c8 .look-in .ensures) (c3 .if2 .taken) (c1 .if3 .left) (c15 .pre .1 .1))
+    let then = c .before in
+    let within = then .before in
+    let at = within .before in
+    let word = at .before .before .before .before in
+    let test = word .before in
+    let loop = test .before in
+    let start = loop .before .before .before .before in
+    let rest : loop .loop .left - 1 + 1 - 1 ≡ loop .loop .left - 1 = omega arith in
+    let span = rw rest at (at .locate .ensures) in
+    let free = within-says _ _ _ (sym (within .is-within .ensures) ∙ then .if2 .taken) in
+    rw (c .one-more2 .ensures) (free-next _ _ _ _ _ _ _ _ _ _ _ _ _ _ (loop .loop .inv) (test .loop-test .taken) (word .word-in .ensures .0) _ span _ (at .before .before .before .look-in .ensures) (free .0) (free .1) (start .pre .1 .1))
 
 field-check-sub-leaf-check : (t : ℕ) → field-check-lts.Need-sub-leaf-check (field-check-calls t) (field-check-at t) field-check.Post field-check-Inv-loop field-check-μ-loop
 field-check-sub-leaf-check t c = field-check-lies t (c .before .before .before .before) .0
@@ -297,8 +259,8 @@ field-check-part-leaf-check-end t c = field-check-lies t (c .before .before .bef
 field-check-leaf-check-requires : (t : ℕ) → field-check-lts.Need-leaf-check-requires (field-check-calls t) (field-check-at t) field-check.Post field-check-Inv-loop field-check-μ-loop
 field-check-leaf-check-requires t c κs = search needs
 
-field-check-enum-known-r : (t : ℕ) → field-check-lts.Need-enum-known-r (field-check-calls t) (field-check-at t) field-check.Post field-check-Inv-loop field-check-μ-loop
-field-check-enum-known-r t c = search needs
+field-check-enum-known-words : (t : ℕ) → field-check-lts.Need-enum-known-words (field-check-calls t) (field-check-at t) field-check.Post field-check-Inv-loop field-check-μ-loop
+field-check-enum-known-words t c = search needs
 
 field-check-one-more-requires-3 : (t : ℕ) → field-check-lts.Need-one-more-requires-3 (field-check-calls t) (field-check-at t) field-check.Post field-check-Inv-loop field-check-μ-loop
 field-check-one-more-requires-3 t c κs =
@@ -310,15 +272,17 @@ field-check-one-more-requires-3 t c κs =
     let test = word .before in
     let loop = test .before in
     let start = loop .before .before .before .before in
-    let says = leaf-told _ _ _ (at .before .before .before .look-in .ensures) (small .if4 .taken) _ _ _ (told .r .given .1) (said .leaf-check .ensures) in
-    let counts = reading-item _ _ _ _ _ _ _ _ _ _ _ _ _ _ (loop .loop .inv) (test .loop-test .taken) (word .word-in .ensures .0) _ (at .locate .ensures) _ (start .pre .1 .1) (says _) in
+    let rest : loop .loop .left - 1 + 1 - 1 ≡ loop .loop .left - 1 = omega arith in
+    let span = rw rest at (at .locate .ensures) in
+    let says = leaf-told _ _ _ (at .before .before .before .look-in .ensures) (small .if3 .taken) _ _ _ (told .words .given .1) (said .leaf-check .ensures) in
+    let counts = reading-item _ _ _ _ _ _ _ _ _ _ _ _ _ _ (loop .loop .inv) (test .loop-test .taken) (word .word-in .ensures .0) _ span _ (start .pre .1 .1) (says _) in
     (reading-small _ _ _ _ _ _ _ _ _ _ _ _ _ (loop .loop .inv), small-more _ counts .words, small-more _ counts .bytes)
 
-field-check-enum-known-r-2 : (t : ℕ) → field-check-lts.Need-enum-known-r-2 (field-check-calls t) (field-check-at t) field-check.Post field-check-Inv-loop field-check-μ-loop
-field-check-enum-known-r-2 t c = search needs
+field-check-enum-known-x : (t : ℕ) → field-check-lts.Need-enum-known-x (field-check-calls t) (field-check-at t) field-check.Post field-check-Inv-loop field-check-μ-loop
+field-check-enum-known-x t c = search needs
 
-field-check-returns-2 : (t : ℕ) → field-check-lts.Need-returns-2 (field-check-calls t) (field-check-at t) field-check.Post field-check-Inv-loop field-check-μ-loop
-field-check-returns-2 t c =
+field-check-returns : (t : ℕ) → field-check-lts.Need-returns (field-check-calls t) (field-check-at t) field-check.Post field-check-Inv-loop field-check-μ-loop
+field-check-returns t c =
     let told = c .before in
     let said = told .before .before in
     let small = said .before .before in
@@ -327,8 +291,10 @@ field-check-returns-2 t c =
     let test = word .before in
     let loop = test .before in
     let start = loop .before .before .before .before in
-    let says = leaf-told _ _ _ (at .before .before .before .look-in .ensures) (small .if4 .taken) _ _ _ (told .r2 .given .1) (said .leaf-check .ensures) in
-    reading-stop _ _ _ _ _ _ _ _ _ _ _ _ _ _ (loop .loop .inv) (test .loop-test .taken) (word .word-in .ensures .0) _ (at .locate .ensures) _ _ _ (says _)
+    let rest : loop .loop .left - 1 + 1 - 1 ≡ loop .loop .left - 1 = omega arith in
+    let span = rw rest at (at .locate .ensures) in
+    let says = leaf-told _ _ _ (at .before .before .before .look-in .ensures) (small .if3 .taken) _ _ _ (told .x .given .1) (said .leaf-check .ensures) in
+    reading-stop _ _ _ _ _ _ _ _ _ _ _ _ _ _ (loop .loop .inv) (test .loop-test .taken) (word .word-in .ensures .0) _ span _ _ _ (says _)
 
 field-check-loop-less-3 : (t : ℕ) → field-check-lts.Need-loop-less-3 (field-check-calls t) (field-check-at t) field-check.Post field-check-Inv-loop field-check-μ-loop
 field-check-loop-less-3 t c = omega arith
@@ -343,8 +309,10 @@ field-check-loop-again-3 t c =
     let test = word .before in
     let loop = test .before in
     let start = loop .before .before .before .before in
-    let says = leaf-told _ _ _ (at .before .before .before .look-in .ensures) (small .if4 .taken) _ _ _ (told .r .given .1) (said .leaf-check .ensures) in
-    rw (c .one-more3 .ensures) (reading-next _ _ _ _ _ _ _ _ _ _ _ _ _ _ (loop .loop .inv) (test .loop-test .taken) (word .word-in .ensures .0) _ (at .locate .ensures) _ (start .pre .1 .1) (says _))
+    let rest : loop .loop .left - 1 + 1 - 1 ≡ loop .loop .left - 1 = omega arith in
+    let span = rw rest at (at .locate .ensures) in
+    let says = leaf-told _ _ _ (at .before .before .before .look-in .ensures) (small .if3 .taken) _ _ _ (told .words .given .1) (said .leaf-check .ensures) in
+    rw (c .one-more3 .ensures) (reading-next _ _ _ _ _ _ _ _ _ _ _ _ _ _ (loop .loop .inv) (test .loop-test .taken) (word .word-in .ensures .0) _ span _ (start .pre .1 .1) (says _))
 
 field-check-sub-item-check : (t : ℕ) → field-check-lts.Need-sub-item-check (field-check-calls t) (field-check-at t) field-check.Post field-check-Inv-loop field-check-μ-loop
 field-check-sub-item-check t c = field-check-lies t (c .before .before .before .before) .0
@@ -363,11 +331,10 @@ field-check-item-check-requires t c κs =
     let loop = test .before in
     let start = loop .before .before .before .before in
     let lower = row-below _ _ _ _ _ _ _ (loop .loop .inv .row) (test .loop-test .taken) (word .word-in .ensures .0) in
-    let under = row-under _ _ _ _ _ _ _ (loop .loop .inv .row) (test .loop-test .taken) (word .word-in .ensures .0) in
-    (omega (arith, lower, start .pre .0), (under, omega (arith, field-check-lies t at, start .pre .1 .1)))
+    (omega (arith, lower, start .pre .0), (row-under _ _ _ _ _ _ _ (loop .loop .inv .row) (test .loop-test .taken) (word .word-in .ensures .0), omega (arith, field-check-lies t at, start .pre .1 .1)))
 
-field-check-enum-known-r-3 : (t : ℕ) → field-check-lts.Need-enum-known-r-3 (field-check-calls t) (field-check-at t) field-check.Post field-check-Inv-loop field-check-μ-loop
-field-check-enum-known-r-3 t c = search needs
+field-check-enum-known-c : (t : ℕ) → field-check-lts.Need-enum-known-c (field-check-calls t) (field-check-at t) field-check.Post field-check-Inv-loop field-check-μ-loop
+field-check-enum-known-c t c = search needs
 
 field-check-add-requires : (t : ℕ) → field-check-lts.Need-add-requires (field-check-calls t) (field-check-at t) field-check.Post field-check-Inv-loop field-check-μ-loop
 field-check-add-requires t c κs =
@@ -378,8 +345,10 @@ field-check-add-requires t c κs =
     let test = word .before in
     let loop = test .before in
     let start = loop .before .before .before .before in
-    let says = sym (told .r3 .given .1) ∙ said .item-check .ensures in
-    let counts = reading-item _ _ _ _ _ _ _ _ _ _ _ _ _ _ (loop .loop .inv) (test .loop-test .taken) (word .word-in .ensures .0) _ (at .locate .ensures) _ (start .pre .1 .1) says in
+    let rest : loop .loop .left - 1 + 1 - 1 ≡ loop .loop .left - 1 = omega arith in
+    let span = rw rest at (at .locate .ensures) in
+    let says = sym (told .c .given .1) ∙ said .item-check .ensures in
+    let counts = reading-item _ _ _ _ _ _ _ _ _ _ _ _ _ _ (loop .loop .inv) (test .loop-test .taken) (word .word-in .ensures .0) _ span _ (start .pre .1 .1) says in
     (reading-small _ _ _ _ _ _ _ _ _ _ _ _ _ (loop .loop .inv), small-more _ counts)
 
 field-check-loop-less-4 : (t : ℕ) → field-check-lts.Need-loop-less-4 (field-check-calls t) (field-check-at t) field-check.Post field-check-Inv-loop field-check-μ-loop
@@ -394,14 +363,16 @@ field-check-loop-again-4 t c =
     let test = word .before in
     let loop = test .before in
     let start = loop .before .before .before .before in
-    let says = sym (told .r3 .given .1) ∙ said .item-check .ensures in
-    rw (c .add .ensures) (reading-next _ _ _ _ _ _ _ _ _ _ _ _ _ _ (loop .loop .inv) (test .loop-test .taken) (word .word-in .ensures .0) _ (at .locate .ensures) _ (start .pre .1 .1) says)
+    let rest : loop .loop .left - 1 + 1 - 1 ≡ loop .loop .left - 1 = omega arith in
+    let span = rw rest at (at .locate .ensures) in
+    let says = sym (told .c .given .1) ∙ said .item-check .ensures in
+    rw (c .add .ensures) (reading-next _ _ _ _ _ _ _ _ _ _ _ _ _ _ (loop .loop .inv) (test .loop-test .taken) (word .word-in .ensures .0) _ span _ (start .pre .1 .1) says)
 
-field-check-enum-known-r-4 : (t : ℕ) → field-check-lts.Need-enum-known-r-4 (field-check-calls t) (field-check-at t) field-check.Post field-check-Inv-loop field-check-μ-loop
-field-check-enum-known-r-4 t c = search needs
+field-check-enum-known-x-2 : (t : ℕ) → field-check-lts.Need-enum-known-x-2 (field-check-calls t) (field-check-at t) field-check.Post field-check-Inv-loop field-check-μ-loop
+field-check-enum-known-x-2 t c = search needs
 
-field-check-returns-3 : (t : ℕ) → field-check-lts.Need-returns-3 (field-check-calls t) (field-check-at t) field-check.Post field-check-Inv-loop field-check-μ-loop
-field-check-returns-3 t c =
+field-check-returns-2 : (t : ℕ) → field-check-lts.Need-returns-2 (field-check-calls t) (field-check-at t) field-check.Post field-check-Inv-loop field-check-μ-loop
+field-check-returns-2 t c =
     let told = c .before in
     let said = told .before .before in
     let at = said .before .before .before .before .before .before in
@@ -409,11 +380,13 @@ field-check-returns-3 t c =
     let test = word .before in
     let loop = test .before in
     let start = loop .before .before .before .before in
-    let says = sym (told .r4 .given .1) ∙ said .item-check .ensures in
-    reading-stop _ _ _ _ _ _ _ _ _ _ _ _ _ _ (loop .loop .inv) (test .loop-test .taken) (word .word-in .ensures .0) _ (at .locate .ensures) _ _ _ says
+    let rest : loop .loop .left - 1 + 1 - 1 ≡ loop .loop .left - 1 = omega arith in
+    let span = rw rest at (at .locate .ensures) in
+    let says = sym (told .x2 .given .1) ∙ said .item-check .ensures in
+    reading-stop _ _ _ _ _ _ _ _ _ _ _ _ _ _ (loop .loop .inv) (test .loop-test .taken) (word .word-in .ensures .0) _ span _ _ _ says
 
-field-check-returns-4 : (t : ℕ) → field-check-lts.Need-returns-4 (field-check-calls t) (field-check-at t) field-check.Post field-check-Inv-loop field-check-μ-loop
-field-check-returns-4 t c =
+field-check-returns-3 : (t : ℕ) → field-check-lts.Need-returns-3 (field-check-calls t) (field-check-at t) field-check.Post field-check-Inv-loop field-check-μ-loop
+field-check-returns-3 t c =
     let loop = c .before in
     reading-end _ _ _ _ _ _ _ _ _ _ _ _ _ (loop .loop .inv) (c .loop-test .left)
 
@@ -603,22 +576,22 @@ pub +field-check+item-check-spec : {M : Type 1} → statement M
     (field-check-loop-holds t)
     (field-check-word-in-requires t)
     (field-check-look-in-requires t)
+    (field-check-add-a t)
+    (field-check-sub-left t)
     (field-check-is-plain-requires t)
     (field-check-mul-k t)
     (field-check-element-copy-out-k t)
     (field-check-cast-k t)
     (field-check-one-more-requires t)
     (field-check-add-p t)
-    (field-check-add-a t)
-    (field-check-sub-left t)
     (field-check-loop-less t)
     (field-check-loop-again t)
+    (field-check-add-locate t)
     (field-check-locate-requires t)
-    (field-check-add-a-2 t)
-    (field-check-sub-left-2 t)
     (field-check-add-at t)
-    (field-check-sub-len t)
-    (field-check-returns t)
+    (field-check-sub-is-within t)
+    (field-check-is-within-requires t)
+    (field-check-sub-one-more t)
     (field-check-one-more-requires-2 t)
     (field-check-loop-less-2 t)
     (field-check-loop-again-2 t)
@@ -626,23 +599,23 @@ pub +field-check+item-check-spec : {M : Type 1} → statement M
     (field-check-part-leaf-check-start t)
     (field-check-part-leaf-check-end t)
     (field-check-leaf-check-requires t)
-    (field-check-enum-known-r t)
+    (field-check-enum-known-words t)
     (field-check-one-more-requires-3 t)
-    (field-check-enum-known-r-2 t)
-    (field-check-returns-2 t)
+    (field-check-enum-known-x t)
+    (field-check-returns t)
     (field-check-loop-less-3 t)
     (field-check-loop-again-3 t)
     (field-check-sub-item-check t)
     (field-check-part-item-check-start t)
     (field-check-part-item-check-end t)
     (field-check-item-check-requires t)
-    (field-check-enum-known-r-3 t)
+    (field-check-enum-known-c t)
     (field-check-add-requires t)
     (field-check-loop-less-4 t)
     (field-check-loop-again-4 t)
-    (field-check-enum-known-r-4 t)
-    (field-check-returns-3 t)
-    (field-check-returns-4 t))
+    (field-check-enum-known-x-2 t)
+    (field-check-returns-2 t)
+    (field-check-returns-3 t))
     λ t. item-check-lts.spec (item-check-calls t)
     (item-check-at t)
     item-check.Post
