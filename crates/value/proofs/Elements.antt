@@ -1,29 +1,26 @@
--- What is measured of a list or vector is what is measured of the row of its elements, behind a list's count; and of plain elements, what is
--- measured of all their bytes at once. Assumes nothing.
+-- What is measured of numbers or fixed bytes that share a word is what is measured of all their bytes at once. Assumes nothing.
 use mathlib.Core.Path.{_≡_, refl, _∙_}
 use mathlib.Core.List.{List}
 use mathlib.Core.Bool.{Bool, true, false}
 use Prim.Native.Nat.{ℕ, zero, suc, _+_, _-_, _*_, _≤_, _<_, _^_}
 use native.Mathlib.Nat.{add-zero, zero-add, mul-le-mul-left}
 use native.Mathlib.Omega.{arith}
-use borrow.Author.Tests.{lt-ltb, le-ltb, le-leb, lt-leb, leb-true, leb-false}
+use borrow.Author.Tests.{le-leb, lt-leb, leb-true, leb-false}
 use lib.ListN.{length, getD}
 use lib.Dec.{leb}
 use Rattle.standard.specs.Bytes.{wordAt}
+use Rattle.standard.specs.Types.{Tys}
 use Rattle.standard.specs.Parts.{join}
-use Rattle.standard.specs.declared.Refusal.the-variants.{BadValue}
 use Rattle.layout.specs.Tree.{nodeOf, treeOf}
 use Rattle.layout.specs.declared.Node.{Node}
-use Rattle.message.specs.Steps.{Under, Row, rowOf, isPlain}
-use Rattle.message.proofs.Repeats.{else-list, node-legal, element-word, element-row}
-use Rattle.value.specs.Walk.{upto, withBody, walkItem, walkFields}
-use Rattle.value.specs.Write.{writeItem, partsFrom}
-use Rattle.value.specs.Steps.{cap, measured}
+use Rattle.message.specs.Steps.{Row, rowOf, isPlain}
+use Rattle.value.specs.Walk.{upto, withBody, walkFields}
+use Rattle.value.specs.Write.{partsFrom}
+use Rattle.value.specs.Steps.{cap, measured, AllPlain}
 use Rattle.value.specs.declared.measure.Measured.{Measured}
 use Rattle.value.proofs.Walks.{measured-cap}
 use Rattle.value.proofs.Rows.{Measuring, measuring-none, measuring-end}
 use Rattle.value.proofs.Plain.{Plain, plain-field, measuring-plain, measuring-short}
-use Rattle.value.proofs.Repeats.{list-walk, list-write, vector-walk, vector-write}
 
 -- Fewer than 2^32 elements, each of fewer bytes
 pub product-small : (m k : ℕ) → m < 2 ^ 32 → k < 2 ^ 32 → m * k < 2 ^ 64
@@ -73,56 +70,21 @@ module _ (lens l : List ℕ) (t a m : ℕ) (c b : List ℕ) (i j f : ℕ) (e : f
   plain-left zero sum at g h = plain-none sum at g h
   plain-left (suc left) sum at g h = plain-one left sum at g (λ x y. plain-left left x y)
 
-  pub plain-measured : Row lens l t a 0 m → 0 < m → (r : Measured) → r ≡ measured (withBody b j (m * k) (upto i (j + m * k))) (m * k) → r ≡ whole
-  plain-measured g z r d =
+  plain-measured : Row lens l t a 0 m → 0 < m → measured (withBody b j (m * k) (upto i (j + m * k))) (m * k) ≡ whole
+  plain-measured g z =
       let v : suc (m - 1) ≡ m = omega arith in
       let x = plain-one (m - 1) 0 j (rw v (measuring-none lens l t a 0 m c b i j g)) (λ x y. plain-left (m - 1) x y) in
-      d ∙ (rw (v, zero-add (m * k)) at x)
+      rw (v, zero-add (m * k)) at x
 
--- A list or vector of the type t, whose words are n
-module _ (lens l : List ℕ) (t : ℕ) (n : Node) (e : n ≡ nodeOf l t) (g : Under lens l (t + 1)) (k : 8 ≤ n .kind) (c b : List ℕ) (i j : ℕ) where
-  -- what is measured of the item
-  abbrev ofItem : Measured
-  ofItem = measured (walkItem (treeOf l t) c b i j) (length (writeItem (treeOf l t) c b i j))
+pub elements-plain : (lens l : List ℕ) (t a m f : ℕ) → Row lens l t a 0 m → 0 < m → f ≡ wordAt l a → (n : Node) → n ≡ nodeOf l f →
+    isPlain (n .kind) ≡ true → AllPlain (rowOf l t a 0 m) (m * getD lens f 0)
+unfolding AllPlain
+elements-plain lens l t a m f g z e n d u =
+    let k = getD lens f 0 in
+    let p = plain-field lens l t a 0 m f g z e k refl n d u in
+    λ c b i j. plain-measured lens l t a m c b i j f e k refl p g z
 
-  -- what is measured of m elements, from the contents word p on
-  abbrev ofElements : ℕ → ℕ → Measured
-  ofElements m p =
-      measured (walkFields (rowOf l t (n .at + 1) 0 m) c b p j) (length (join (partsFrom (rowOf l t (n .at + 1) 0 m) c b p j)))
-
-  -- Numbers or fixed bytes: all of their bytes at once
-  pub plain-elements : (m : ℕ) → m < 2 ^ 32 → 0 < m → (x : Node) → x ≡ nodeOf l (n .second) → isPlain (x .kind) ≡ true → (r : Measured) →
-      let all = m * getD lens (n .second) 0 in
-      r ≡ measured (withBody b j all (upto i (j + all))) all → r ≡ ofElements m i
-  plain-elements m h z x d u r q =
-      let f = element-word lens l t n e g k in
-      let w = element-row lens l t n e g k m h in
-      let p = plain-field lens l t (n .at + 1) 0 m (n .second) w z f (getD lens (n .second) 0) refl x d u in
-      plain-measured lens l t (n .at + 1) m c b i j (n .second) f (getD lens (n .second) 0) refl p w z r q
-
-  -- A vector: as many elements as the table says
-  pub vector-measured : n .kind ≡ 9 → (m : ℕ) → m ≡ wordAt l (n .at + 2) → (r : Measured) → r ≡ ofElements m i → r ≡ ofItem
-  vector-measured q m h r d = rw (vector-walk lens l t n e g k c b i j q, vector-write lens l t n e g k c b i j q, ← h) d
-
-  -- A list: its count must be there, and at most its limit
-  module _ (z : n .kind ≡ 9 → ⊥) where
-    kind-list : n .kind ≡ 8
-    kind-list = else-list lens l t n e g k z
-
-    pub count-missing : length c ≤ i → Measured.Wrong (BadValue 0 (length c)) ≡ ofItem
-    count-missing h = rw (list-walk lens l t n e g k c b i j kind-list, le-ltb i (length c) h)
-
-    module _ (h : i < length c) (limit : ℕ) (d : limit ≡ wordAt l (n .at + 2)) where
-      pub count-over : limit < getD c i 0 → Measured.Wrong (BadValue 0 i) ≡ ofItem
-      count-over o = rw (list-walk lens l t n e g k c b i j kind-list, lt-ltb i (length c) h, ← d, lt-leb (getD c i 0) limit o)
-
-      pub list-measured : getD c i 0 ≤ limit → (r : Measured) → r ≡ ofElements (getD c i 0) (i + 1) → r ≡ ofItem
-      list-measured o r q =
-          rw (
-            list-walk lens l t n e g k c b i j kind-list,
-            list-write lens l t n e g k c b i j kind-list,
-            lt-ltb i (length c) h,
-            ← d,
-            le-leb (getD c i 0) limit o,
-          )
-          q
+pub all-plain : (ts : Tys) (n : ℕ) (c b : List ℕ) (i j : ℕ) → AllPlain ts n → (r : Measured) → r ≡ measured (withBody b j n (upto i (j + n))) n →
+    r ≡ measured (walkFields ts c b i j) (length (join (partsFrom ts c b i j)))
+unfolding AllPlain
+all-plain ts n c b i j f r e = e ∙ f c b i j

@@ -10,35 +10,30 @@ use lib.Dec.{eqb}
 use lib.Seq.{sets, length-sets, set-comm}
 use Rattle.standard.specs.Choice.{pick}
 use Rattle.standard.specs.Bytes.{Stored, Room, le, wordAt}
-use Rattle.standard.specs.Types.{Ty, Tys, number, boolean, fixedBytes, freeBytes, bitVector, bitList, container, union, list, vector, end, field, head, headAll, heads, times, width, portion, LegalTy, LegalAll}
-use Rattle.standard.specs.Parts.{Part, piece, fixedLengths, fronts, backs, join, partHeads}
-use Rattle.standard.specs.declared.Head.{Head}
+use Rattle.standard.specs.Types.{Ty, head, width, portion}
+use Rattle.standard.specs.Parts.{Part, piece, fixedLengths, fronts, backs, join}
 use Rattle.standard.specs.declared.Head.the-variants.{Fixed, Variable}
 use Rattle.standard.proofs.Bytes.{length-le}
-use Rattle.standard.proofs.Store.{sets-append, stored-then, room-then}
-use Rattle.standard.proofs.Join.{Size, Sized, fixed-portion, length-fronts, length-join}
-use Rattle.standard.proofs.Elements.{All, copies, all-copies, heads-copies}
-use Rattle.standard.proofs.Laws.{all-fixed, together, together-all, size-join, size-times, legal-copies}
+use Rattle.standard.proofs.Store.{sets-append}
+use Rattle.standard.proofs.Join.{length-fronts, length-join}
 use Rattle.bitfield.proofs.Places.{bit-on, one-shifted}
 use Rattle.layout.specs.Tree.{nodeOf, leafOf, treeOf, headOf}
 use Rattle.layout.specs.declared.Node.{Node}
-use Rattle.layout.specs.Legal.{Legal}
-use Rattle.layout.proofs.Facts.{trees-get, as-leaf}
+use Rattle.layout.proofs.Facts.{as-leaf}
 use Rattle.layout.proofs.Trees.{legal-tree}
 use Rattle.message.specs.Read.{rawBytes}
-use Rattle.message.specs.Steps.{Under, Row, Named, rowOf, headsOf}
-use Rattle.message.proofs.Rows.{under-small, len-head, row-next, row-head, row-heads, heads-none, container-tree}
-use Rattle.message.proofs.Bodies.{container-row}
-use Rattle.value.specs.Walk.{Walked, upto, wrong, onward, lastBits, walkEach, walkItem, walkFields}
-use Rattle.value.specs.Write.{wordAfter, byteAfter, bytesAt, withMark, partsEach, writeItem, partsFrom}
+use Rattle.message.specs.Steps.{Under, Row, rowOf, headsOf}
+use Rattle.message.proofs.Rows.{len-head, row-under, row-next, row-head, row-heads, row-fixed, row-variable, heads-none}
+use Rattle.value.specs.Walk.{Walked, upto, wrong, lastBits, walkItem, walkFields}
+use Rattle.value.specs.Write.{wordAfter, byteAfter, bytesAt, withMark, writeItem, partsFrom}
 use Rattle.value.specs.Steps.{IsUpto}
-use Rattle.value.specs.Stores.{Put, Begun, placeOf, headed, headAfter, tailAfter, Owned, Fields}
+use Rattle.value.specs.Stores.{Put, Copied, Fields}
 use Rattle.value.specs.declared.store.Stop.{Stop}
-use Rattle.value.proofs.Copies.{walk-copies, parts-copies}
 use Rattle.value.proofs.Walks.{length-bytesAt}
-use Rattle.value.proofs.Leaves.{number-form, fixed-form, boolean-form, vector-form}
+use Rattle.value.proofs.Leaves.{PartForm, part-need, part-done}
 use Rattle.value.proofs.Unions.{leaf-walk, leaf-write}
-use Rattle.value.proofs.Rows.{fields-walk, fields-parts, none-walk, none-parts, container-walk, container-write}
+use Rattle.value.proofs.Rows.{fields-walk, fields-parts, none-walk, none-parts}
+use Rattle.value.proofs.Fixed.{onward-first, item-part, row-part, legal-row, row-portion}
 
 -- n bytes of the bodies.
 pub part-stored : (o : List ℕ) (at : ℕ) (b : List ℕ) (i j n : ℕ) (o′ : List ℕ) → j + n ≤ length b → o′ ≡ sets o at (take (j + n - j) (drop j b)) →
@@ -94,82 +89,6 @@ pub sets-apart : (xs ys l : List ℕ) (i k : ℕ) → i + length xs ≤ k → se
 sets-apart [] ys l i k h = refl
 sets-apart (x ∷ xs) ys l i k h = rw (set-sets ys l i k x (omega arith)) (sets-apart xs ys (set l i x) (suc i) k (omega arith))
 
--- What an item of fixed size writes has its length.
-fixed-same : (k m : ℕ) → Fixed k ≡ Fixed m → k ≡ m
-fixed-same k m e = cc
-
-pub onward-first : (x : Walked) (f : ℕ → ℕ → Walked) → IsUpto (onward x f) → (IsUpto x) × (onward x f ≡ f (wordAfter x) (byteAfter x))
-onward-first (upto i j) f h = (tt, refl)
-onward-first (wrong r) f h = absurd h
-
-pub parts-heads : (ts : Tys) (c b : List ℕ) (i j : ℕ) → partHeads (partsFrom ts c b i j) ≡ heads ts
-unfolding partHeads writeItem heads
-parts-heads end c b i j = refl
-parts-heads (field t ts) c b i j = ap (λ (hs : List Head). head t ∷ hs) (parts-heads ts c b _ _)
-
--- What is written has the length that its head says: the law about one type, from it that about a row of fields, and that about elements
-module _ (c b : List ℕ) where
-  SizedAs : Ty → Type 0
-  SizedAs t = (i j : ℕ) → LegalTy t → IsUpto (walkItem t c b i j) → Size (head t) (writeItem t c b i j)
-
-  row-sized : (ts : Tys) → All SizedAs ts → (i j : ℕ) → LegalAll ts → IsUpto (walkFields ts c b i j) → Sized (partsFrom ts c b i j)
-  unfolding SizedAs Sized writeItem walkItem LegalTy
-  row-sized end f i j g h = tt
-  row-sized (field t ts) f i j g h =
-      let q = onward-first (walkItem t c b i j) (λ m k. walkFields ts c b m k) h in
-      (f .0 i j (g .0) (q .0), row-sized ts (f .1) (wordAfter (walkItem t c b i j)) (byteAfter (walkItem t c b i j)) (g .1) (rw (q .1) at h))
-
-  elements-sized :
-      (e : Ty) → SizedAs e → (n i j : ℕ) → LegalTy e → IsUpto (walkEach (λ (m k : ℕ). walkItem e c b m k) n i j)
-      → Size (times n (head e)) (join (partsEach (head e) (λ (m k : ℕ). walkItem e c b m k) (λ (m k : ℕ). writeItem e c b m k) n i j))
-  elements-sized e f n i j g h =
-      let xs = partsFrom (copies e n) c b i j in
-      let z = row-sized (copies e n) (all-copies SizedAs e n f) i j (legal-copies e n g) (rw (walk-copies e c b n i j) at h) in
-      rw (parts-copies e c b n i j) (size-times xs n (head e) z (parts-heads (copies e n) c b i j ∙ heads-copies e n))
-
-mutual
-  unfolding SizedAs Size head walkItem writeItem LegalTy
-
-  written-size : (t : Ty) (c b : List ℕ) (i j : ℕ) → LegalTy t → IsUpto (walkItem t c b i j) → Size (head t) (writeItem t c b i j)
-  written-size (number t w) c b i j g h = length-bytesAt b j w (number-form t c b i j w h .there)
-  written-size (boolean t) c b i j g h = length-bytesAt b j 1 (boolean-form t c b i j h .0 .there)
-  written-size (fixedBytes t m) c b i j g h = length-bytesAt b j m (fixed-form t c b i j m h .there)
-  written-size (freeBytes t limit) c b i j g h = tt
-  written-size (bitVector t m) c b i j g h = length-bytesAt b j (rawBytes m) (vector-form t c b i j m h .0 .there) ∙ omega arith
-  written-size (bitList t limit) c b i j g h = tt
-  written-size (container t ts) c b i j g h =
-      let xs = partsFrom ts c b i j in
-      size-join xs (headAll ts) (row-sized c b ts (all-sized ts c b) i j (g .1) h) (ap together (parts-heads ts c b i j) ∙ together-all ts)
-  written-size (union t os) c b i j g h = tt
-  written-size (list t e limit) c b i j g h = tt
-  written-size (vector t e n) c b i j g h = elements-sized c b e (λ m k l w. written-size e c b m k l w) n i j (g .1) h
-
-  all-sized : (ts : Tys) (c b : List ℕ) → All (SizedAs c b) ts
-  all-sized end c b = tt
-  all-sized (field t ts) c b = ((λ i j g h. written-size t c b i j g h), all-sized ts c b)
-
-pub item-size : (t : Ty) (c b : List ℕ) (i j n : ℕ) → LegalTy t → IsUpto (walkItem t c b i j) → head t ≡ Fixed n → length (writeItem t c b i j) ≡ n
-unfolding Size
-item-size t c b i j n g h e = rw e at (written-size t c b i j g h)
-
-pub parts-sized : (ts : Tys) (c b : List ℕ) (i j : ℕ) → LegalAll ts → IsUpto (walkFields ts c b i j) → Sized (partsFrom ts c b i j)
-parts-sized ts c b = row-sized c b ts (all-sized ts c b)
-
-pub own-portion : (ts : Tys) (c b : List ℕ) (i j : ℕ) → LegalAll ts → IsUpto (walkFields ts c b i j) → fixedLengths (partsFrom ts c b i j) ≡ portion (heads ts)
-own-portion ts c b i j g h = fixed-portion (partsFrom ts c b i j) (parts-sized ts c b i j g h) ∙ ap portion (parts-heads ts c b i j)
-
--- The types of a row are legal, so that its parts have their lengths.
-legal-row : (l : List ℕ) (t a step n : ℕ) → Legal l t → Named l t a step n → LegalAll (rowOf l t a step n)
-unfolding rowOf Named LegalTy
-legal-row l t a step zero g d = tt
-legal-row l t a step (suc n) g d =
-    let e = trees-get l t (wordAt l a) (boolean 0) (d .1) in
-    (rw e (legal-tree l t (wordAt l a) g (d .1)), legal-row l t (a + step) step n g (d .2))
-
-row-portion : (lens l : List ℕ) (t a step n : ℕ) (c b : List ℕ) (i j : ℕ) → Row lens l t a step n → IsUpto (walkFields (rowOf l t a step n) c b i j) →
-    fixedLengths (partsFrom (rowOf l t a step n) c b i j) ≡ portion (headsOf l t a step n)
-row-portion lens l t a step n c b i j g h = own-portion (rowOf l t a step n) c b i j (legal-row l t a step n (g .under .legal) (g .named)) h
-
 -- The parts xs are to be stored in o, the heads from p on, the bodies of variable size from q on: this gives z, which ends at e.
 pub record Two (xs : List Part) (o : List ℕ) (p q start own e : ℕ) (z : List ℕ) : Type 0 where
   pub heads : p + fixedLengths xs ≡ start + own
@@ -219,29 +138,18 @@ module _ (x : List ℕ) (ys : List Part) (o : List ℕ) (p q start own e : ℕ) 
             (rw (length-le 4 (q - start)) at (ap (λ (v : List ℕ). sets v q (x ++ backs ys)) y) ∙ g .rest);
       }
 
-  module _ (h : Head) (at : ℕ) (o₁ : List ℕ) (u : Begun h o p q start at o₁) (g : Two (piece h x ∷ ys) o p q start own e z) where
-    pub two-room : e ≤ length o → Room o₁ at x
-    unfolding fixedLengths backs
-    two-room l = go h u g
-      where
-        go : (h : Head) → Begun h o p q start at o₁ → Two (piece h x ∷ ys) o p q start own e z → Room o₁ at x
-        go (Fixed m) u g = record { room = rw (u .place, u .list) (omega (arith, g .heads, g .tails, g .apart)) }
-        go Variable u g = record { room = rw (u .place, u .list, length-sets) (omega (arith, simp length-append at (g .tails))) }
+  -- Room for a fixed part, for an offset, and for a part of variable size
+  pub room-fixed : (m : ℕ) → Two (piece (Fixed m) x ∷ ys) o p q start own e z → e ≤ length o → Room o p x
+  unfolding fixedLengths backs
+  room-fixed m g l = record { room = omega (arith, g .heads, g .tails, g .apart) }
 
-    pub two-next : (o₂ : List ℕ) (to : ℕ) → Stored o₁ at x to o₂ → Two ys o₂ (headAfter h p to) (tailAfter h q to) start own e z
-    two-next o₂ to s = go h u g
-      where
-        go : (h : Head) → Begun h o p q start at o₁ → Two (piece h x ∷ ys) o p q start own e z → Two ys o₂ (headAfter h p to) (tailAfter h q to) start own e z
-        go (Fixed m) u g = two-fixed m g o₂ to (rw (u .place, u .list) at s)
-        go Variable u g = two-variable g o₂ to (rw (u .place, u .list) at s)
+  pub room-offset : Two (piece Variable x ∷ ys) o p q start own e z → e ≤ length o → p + 4 ≤ length o
+  unfolding fixedLengths
+  room-offset g l = omega (arith, g .heads, g .tails, g .apart)
 
-    pub two-head : e ≤ length o → h ≡ Variable → p + 4 ≤ length o
-    unfolding fixedLengths
-    two-head l v = go h g v
-      where
-        go : (h : Head) → Two (piece h x ∷ ys) o p q start own e z → h ≡ Variable → p + 4 ≤ length o
-        go (Fixed m) g v = let w : _≡_ {A = ℕ} 0 1 = cc in absurd (omega arith)
-        go Variable g v = omega (arith, g .heads, g .tails, g .apart)
+  pub room-variable : Two (piece Variable x ∷ ys) o p q start own e z → e ≤ length o → (o₁ : List ℕ) → length o₁ ≡ length o → Room o₁ q x
+  unfolding backs
+  room-variable g l o₁ d = record { room = rw d (omega (arith, simp length-append at (g .tails))) }
 
 pub two-end : (o : List ℕ) (p q start own e : ℕ) (z : List ℕ) → Two [] o p q start own e z → (o ≡ z) × (q ≡ e)
 unfolding fronts backs
@@ -250,9 +158,12 @@ two-end o p q start own e z g = (g .rest, omega (arith, g .tails))
 pub put-length : (o : List ℕ) (at : ℕ) (x : List ℕ) (w : Walked) (r : Stop) (o′ : List ℕ) → Put o at x w r o′ → length o′ ≡ length o
 put-length o at x w r o′ p = ap length (p .stored .list) ∙ length-sets o at x
 
-pub begun-length : (h : Head) (o : List ℕ) (p q start r : ℕ) (o′ : List ℕ) → Begun h o p q start r o′ → length o′ ≡ length o
-begun-length (Fixed n) o p q start r o′ g = ap length (g .list)
-begun-length Variable o p q start r o′ g = ap length (g .list) ∙ length-sets o p (le 4 (q - start))
+-- An item of fixed size, by the length that the table's check found.
+pub item-own : (lens l : List ℕ) (t : ℕ) (c b : List ℕ) (i j : ℕ) → Under lens l (t + 1) → IsUpto (walkItem (treeOf l t) c b i j) →
+    0 < getD lens t 0 → PartForm (walkItem (treeOf l t) c b i j) (writeItem (treeOf l t) c b i j) b i j (getD lens t 0)
+item-own lens l t c b i j g u z =
+    let h = len-head (head (treeOf l t)) (getD lens t 0) (g .found t (omega arith)) (λ (d : getD lens t 0 ≡ 0). omega arith) in
+    item-part (treeOf l t) c b i j (getD lens t 0) (legal-tree l (t + 1) t (g .legal) (omega arith)) h z u
 
 -- The loop of `write_fields`: what is left to store gives the whole.
 pub record Writing (lens l : List ℕ) (t step : ℕ) (c b : List ℕ) (start own e : ℕ) (w : Walked) (z o₀ o : List ℕ) (p q a left i j : ℕ) : Type 0 where
@@ -278,38 +189,60 @@ module _ (lens l : List ℕ) (t step : ℕ) (c b : List ℕ) (start own e : ℕ)
   pub writing-upto : IsUpto (walkItem (treeOf l f) c b i j)
   writing-upto = writing-onward .0
 
-  pub writing-order : start ≤ q
-  writing-order = omega (arith, g .two .apart)
+  -- Behind the field
+  writing-behind : (r : Stop) (o₁ : List ℕ) (at : ℕ) (o₂ : List ℕ) → length o₁ ≡ length o →
+      Put o₁ at (writeItem (treeOf l f) c b i j) (walkItem (treeOf l f) c b i j) r o₂ → (p₂ q₂ : ℕ) →
+      Two (partsFrom (rowOf l t (a + step) step (left - 1)) c b (wordAfter (walkItem (treeOf l f) c b i j)) (byteAfter (walkItem (treeOf l f) c b i j)))
+      o₂ p₂ q₂ start own e z → Writing lens l t step c b start own e w z o₀ o₂ p₂ q₂ (a + step) (left - 1) (r .word) (r .byte)
+  writing-behind r o₁ at o₂ d x p₂ q₂ two =
+      let s : length o₂ ≡ length o = put-length o₁ at _ _ r o₂ x ∙ d in
+      record {
+        long = s ∙ g .long;
+        row = row-next lens l t a step left f (g .row) y v;
+        walk = rw (x .word, x .byte) (writing-onward .1);
+        room = rw s (g .room);
+        two = rw (x .word, x .byte) two;
+      }
 
-  module _ (k : ℕ) (n : k ≡ getD lens f 0) where
-    writing-head : headOf k ≡ head (treeOf l f)
-    writing-head = ap headOf n ∙ row-head lens l t a step left f (g .row) y v
+  -- A field of fixed size is body bytes, stored where its head is.
+  module _ (k : ℕ) (n : k ≡ getD lens f 0) (s : 0 < k) where
+    fixed-part : PartForm (walkItem (treeOf l f) c b i j) (writeItem (treeOf l f) c b i j) b i j k
+    fixed-part = rw n (item-own lens l f c b i j (row-under lens l t a step left f (g .row) y v) writing-upto (rw n at s))
 
-    pub writing-four : k ≡ 0 → p + 4 ≤ length o
-    writing-four s =
-        two-head (writeItem (treeOf l f) c b i j) _ o p q start own e z (head (treeOf l f)) (placeOf (head (treeOf l f)) p q)
-        (headed (head (treeOf l f)) o p (q - start))
-        (record { place = refl; list = refl }) writing-parts (g .room) (sym writing-head ∙ ap headOf s)
+    fixed-parts : Two (piece (Fixed k) (writeItem (treeOf l f) c b i j) ∷ partsFrom (rowOf l t (a + step) step (left - 1)) c b
+        (wordAfter (walkItem (treeOf l f) c b i j)) (byteAfter (walkItem (treeOf l f) c b i j))) o p q start own e z
+    fixed-parts = rw (← row-fixed lens l t a step left f (g .row) y v k n (λ (h : k ≡ 0). omega arith)) at writing-parts
 
-    module _ (at : ℕ) (o₁ : List ℕ) (d : Begun (headOf k) o p q start at o₁) where
-      writing-begun : Begun (head (treeOf l f)) o p q start at o₁
-      writing-begun = rw writing-head at d
+    pub writing-there : (j + k ≤ length b) × (p + k ≤ length o)
+    writing-there = part-need _ _ b i j k o p fixed-part (room-fixed _ _ o p q start own e z k fixed-parts (g .room))
 
-      pub writing-room : Room o₁ at (writeItem (treeOf l f) c b i j)
-      writing-room = two-room _ _ o p q start own e z _ at o₁ writing-begun writing-parts (g .room)
+    pub writing-fixed : (r : Stop) (o₂ : List ℕ) → Put o p (bytesAt b j k) (upto i (j + k)) r o₂ →
+        Writing lens l t step c b start own e w z o₀ o₂ (r .to) q (a + step) (left - 1) i (r .byte)
+    writing-fixed r o₂ d =
+        let x = part-done _ _ b i j k o p fixed-part r o₂ d in
+        rw (d .word) at (writing-behind r o p o₂ refl x (r .to) q (two-fixed _ _ o p q start own e z k fixed-parts o₂ (r .to) (x .stored)))
 
-      pub writing-next : (r : Stop) (o₂ : List ℕ) → Put o₁ at (writeItem (treeOf l f) c b i j) (walkItem (treeOf l f) c b i j) r o₂ →
-          Writing lens l t step c b start own e w z o₀ o₂ (headAfter (headOf k) p (r .to)) (tailAfter (headOf k) q (r .to)) (a + step) (left - 1) (r .word)
-          (r .byte)
+  -- A field of variable size: its offset where its head is, then the item at q.
+  module _ (k : ℕ) (n : k ≡ getD lens f 0) (s : k ≤ 0) where
+    variable-parts : Two (piece Variable (writeItem (treeOf l f) c b i j) ∷ partsFrom (rowOf l t (a + step) step (left - 1)) c b
+        (wordAfter (walkItem (treeOf l f) c b i j)) (byteAfter (walkItem (treeOf l f) c b i j))) o p q start own e z
+    variable-parts = rw (← row-variable lens l t a step left f (g .row) y v k n (omega arith)) at writing-parts
+
+    pub writing-offset : (start ≤ q) × (p + 4 ≤ length o)
+    writing-offset = (omega (arith, g .two .apart), room-offset _ _ o p q start own e z variable-parts (g .room))
+
+    module _ (o₁ : List ℕ) (d : o₁ ≡ sets o p (le 4 (q - start))) where
+      offset-long : length o₁ ≡ length o
+      offset-long = ap length d ∙ length-sets o p (le 4 (q - start))
+
+      pub writing-room : Room o₁ q (writeItem (treeOf l f) c b i j)
+      writing-room = room-variable _ _ o p q start own e z variable-parts (g .room) o₁ offset-long
+
+      pub writing-next : (r : Stop) (o₂ : List ℕ) → Put o₁ q (writeItem (treeOf l f) c b i j) (walkItem (treeOf l f) c b i j) r o₂ →
+          Writing lens l t step c b start own e w z o₀ o₂ (p + 4) (r .to) (a + step) (left - 1) (r .word) (r .byte)
       writing-next r o₂ x =
-          let s : length o₂ ≡ length o = put-length o₁ at _ _ r o₂ x ∙ begun-length (headOf k) o p q start at o₁ d in
-          record {
-            long = s ∙ g .long;
-            row = row-next lens l t a step left f (g .row) y v;
-            walk = rw (x .word, x .byte) (writing-onward .1);
-            room = rw s (g .room);
-            two = rw (x .word, x .byte, writing-head) (two-next _ _ o p q start own e z _ at o₁ writing-begun writing-parts o₂ (r .to) (x .stored));
-          }
+          writing-behind r o₁ q o₂ offset-long x (p + 4) (r .to)
+          (two-variable _ _ o p q start own e z variable-parts o₂ (r .to) (rw d at (x .stored)))
 
 pub writing-none : (lens l : List ℕ) (t a step n : ℕ) (c b : List ℕ) (i j : ℕ) (o : List ℕ) (start own : ℕ) → Fields lens l t a step n c b i j o start →
     own ≡ portion (headsOf l t a step n) → Writing lens l t step c b start own (start + length (join (partsFrom (rowOf l t a step n) c b i j)))
@@ -317,18 +250,18 @@ pub writing-none : (lens l : List ℕ) (t a step n : ℕ) (c b : List ℕ) (i j 
 writing-none lens l t a step n c b i j o start own g e =
     record {
       long = refl;
-      row = g .owned .row;
+      row = g .row;
       walk = refl;
       room = g .room .room;
       two =
           two-start (partsFrom (rowOf l t a step n) c b i j) o start own
-          (e ∙ sym (row-portion lens l t a step n c b i j (g .owned .row) (g .walk)));
+          (e ∙ sym (row-portion lens l t a step n c b i j (g .row) (g .walk)));
     }
 
 pub fields-fit : (lens l : List ℕ) (t a step n : ℕ) (c b : List ℕ) (i j : ℕ) (o : List ℕ) (start own : ℕ) → Fields lens l t a step n c b i j o start →
     own ≡ portion (headsOf l t a step n) → start + own ≤ length o
 fields-fit lens l t a step n c b i j o start own g e =
-    let p = row-portion lens l t a step n c b i j (g .owned .row) (g .walk) in
+    let p = row-portion lens l t a step n c b i j (g .row) (g .walk) in
     omega (arith, g .room .room, p, length-join (partsFrom (rowOf l t a step n) c b i j))
 
 pub writing-end : (lens l : List ℕ) (t step : ℕ) (c b : List ℕ) (start own e : ℕ) (w : Walked) (x o₀ o : List ℕ) (p q a left i j : ℕ) →
@@ -338,6 +271,13 @@ writing-end lens l t step c b start own e w x o₀ o p q a left i j g n h =
     let d = sym (none-walk l t a step left c b i j h) ∙ g .walk in
     let y = two-end o p q start own e (sets o₀ start x) (rw (none-parts l t a step left c b i j h) at (g .two)) in
     record { stored = record { list = y .0; ends = y .1 ∙ n }; word = ap wordAfter d; byte = ap byteAfter d }
+
+-- Fields that are all of fixed size are their body bytes.
+pub fields-part : (lens l : List ℕ) (t a step n : ℕ) (c b : List ℕ) (i j : ℕ) (o : List ℕ) (start own : ℕ) → Fields lens l t a step n c b i j o start →
+    own ≡ portion (headsOf l t a step n) → Copied (rowOf l t a step n) →
+    PartForm (walkFields (rowOf l t a step n) c b i j) (join (partsFrom (rowOf l t a step n) c b i j)) b i j own
+fields-part lens l t a step n c b i j o start own g e d =
+    rw e (row-part (rowOf l t a step n) c b i j _ (legal-row lens l t a step n (g .row)) (d .fixed) (d .some) (g .walk))
 
 -- The loop of `portion_of`.
 pub record Adding (lens l : List ℕ) (t a₀ step n a left sum : ℕ) : Type 0 where
@@ -361,51 +301,10 @@ pub adding-end : (lens l : List ℕ) (t a₀ step n a left sum : ℕ) → Adding
 unfolding portion
 adding-end lens l t a₀ step n a left sum g h = omega (arith, rw (heads-none l t a step left h) at (g .same))
 
--- A container's fields, ready to be stored.
-module _ (lens l : List ℕ) (t : ℕ) (r : Node) (e : r ≡ nodeOf l t) (g : Under lens l (t + 1)) (k : r .kind ≡ 6) (c b : List ℕ) (i j : ℕ) where
-  container-owned : Owned lens l t (r .at + 2) 1 (r .second)
-  unfolding head
-  container-owned =
-      record {
-        row = container-row lens l t r e g k;
-        few = omega (arith, g .few);
-        small = under-small lens l (t + 1) g t (omega arith);
-        whole =
-            λ h. let f = len-head (head (treeOf l t)) (getD lens t 0) (g .found t (omega arith)) (λ (z : getD lens t 0 ≡ 0). omega arith) in
-            sym (all-fixed (rowOf l t (r .at + 2) 1 (r .second)) (getD lens t 0) (sym (rw (container-tree l t r e k) at f)));
-      }
-
-  pub container-ready : (o : List ℕ) (at : ℕ) → IsUpto (walkItem (treeOf l t) c b i j) → Room o at (writeItem (treeOf l t) c b i j) →
-      Fields lens l t (r .at + 2) 1 (r .second) c b i j o at
-  container-ready o at h m =
-      record { owned = container-owned; walk = rw (container-walk l t r e k c b i j) at h; room = rw (container-write l t r e k c b i j) at m }
-
--- A union: its selector, then its body.
-module _ (x : List ℕ) (k : ℕ) (o : List ℕ) (at : ℕ) where
-  pub selector-need : (c : List ℕ) (i n : ℕ) (ys : List ℕ) → x ≡ k ∷ ys → k ≡ getD c i 0 → i < length c → k < n → n ≤ 128 → Room o at x →
-      (i < length c) × (getD c i 0 < 256) × (at < length o)
-  selector-need c i n ys e f h m l g = let r = rw e at (g .room) in (h, omega (arith, f), omega arith)
-
-  pub bare-done : (w : Walked) (i j : ℕ) → w ≡ upto i j → x ≡ k ∷ [] → (o′ : List ℕ) → Stored o at (k ∷ []) (at + 1) o′ →
-      Put o at x w (record { word = i; byte = j; to = at + 1 }) o′
-  bare-done w i j e f o′ s = rw (e, f) (record { stored = s; word = refl; byte = refl })
-
-  pub body-room : (ys : List ℕ) → x ≡ k ∷ ys → Room o at x → (o₁ : List ℕ) → Stored o at (k ∷ []) (at + 1) o₁ → Room o₁ (at + 1) ys
-  body-room ys e g o₁ s = room-then o at x (k ∷ []) ys (at + 1) o₁ g e s
-
-  pub body-done : (w v : Walked) (ys : List ℕ) → w ≡ v → x ≡ k ∷ ys → (o₁ : List ℕ) → Stored o at (k ∷ []) (at + 1) o₁ → (r : Stop) (o₂ : List ℕ) →
-      Put o₁ (at + 1) ys v r o₂ → Put o at x w r o₂
-  body-done w v ys e f o₁ s r o₂ p =
-      record {
-        stored = stored-then o at (k ∷ []) (at + 1) o₁ ys (r .to) o₂ x s (p .stored) f;
-        word = p .word ∙ ap wordAfter (sym e);
-        byte = p .byte ∙ ap byteAfter (sym e);
-      }
-
 -- A leaf.
 module _ (l : List ℕ) (t : ℕ) (n : Node) (e : n ≡ nodeOf l t) (h : n .kind < 6) (c b : List ℕ) (i j : ℕ) where
   pub tree-walk : walkItem (treeOf l t) c b i j ≡ walkItem (leafOf 0 n) c b i j
-  tree-walk = ap (λ (x : Ty). walkItem x c b i j) (as-leaf l t n e h) ∙ leaf-walk c b i j t n
+  tree-walk = ap (λ (x : Ty). walkItem x c b i j) (as-leaf l t n e h) ∙ leaf-walk t n c b i j
 
   pub tree-write : writeItem (treeOf l t) c b i j ≡ writeItem (leafOf 0 n) c b i j
-  tree-write = ap (λ (x : Ty). writeItem x c b i j) (as-leaf l t n e h) ∙ leaf-write c b i j t n
+  tree-write = ap (λ (x : Ty). writeItem x c b i j) (as-leaf l t n e h) ∙ leaf-write t n c b i j

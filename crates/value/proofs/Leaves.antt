@@ -4,12 +4,13 @@ use mathlib.Core.List.{List, [], _∷_, _++_}
 use mathlib.Core.Bool.{Bool, true, false}
 use Prim.Native.Nat.{ℕ, zero, suc, _+_, _-_, _*_, _/_, _%_, _≤_, _<_, _^_}
 use native.Mathlib.Omega.{arith}
-use borrow.Author.Tests.{leb-true, ltb-true, ne-eqb}
+use borrow.Author.Tests.{leb-true, ltb-true, eqb-true, eqb-false, ne-eqb}
 use lib.ListN.{length, getD}
 use lib.Dec.{eqb, ltb, leb}
 use Rattle.standard.specs.Choice.{pick}
 use Rattle.standard.specs.Bytes.{Stored, Room}
-use Rattle.standard.specs.Types.{Ty, number, boolean, fixedBytes, freeBytes, bitVector, bitList}
+use Rattle.standard.specs.Types.{Ty, number, boolean, fixedBytes, freeBytes, bitVector, bitList, head}
+use Rattle.standard.specs.declared.Head.the-variants.{Variable}
 use Rattle.standard.specs.declared.Refusal.{Refusal}
 use Rattle.standard.specs.declared.Refusal.the-variants.{BadValue}
 use Rattle.layout.specs.Tree.{leafOf}
@@ -36,16 +37,16 @@ word-upto c i ok x h =
     let q = test-upto ok x (BadValue 0 i) (rw (p .1) at h) in
     (ltb-true _ _ (p .0), q .0, p .1 ∙ q .1)
 
--- The form of an item whose bytes are n bytes of the bodies
-pub record PartForm (x : Ty) (c b : List ℕ) (i j m n : ℕ) : Type 0 where
-  pub walk : walkItem x c b i j ≡ upto m (j + n)
-  pub write : writeItem x c b i j ≡ bytesAt b j n
+-- The walk w and the bytes x are those of n bytes of the bodies from j on.
+pub record PartForm (w : Walked) (x b : List ℕ) (m j n : ℕ) : Type 0 where
+  pub walk : w ≡ upto m (j + n)
+  pub write : x ≡ bytesAt b j n
   pub there : j + n ≤ length b
 
--- The form of a bit list of k bits
-pub record ListForm (x : Ty) (c b : List ℕ) (i j m k : ℕ) : Type 0 where
-  pub walk : walkItem x c b i j ≡ upto m (j + rawBytes k)
-  pub write : writeItem x c b i j ≡ withMark b j k
+-- The same of a bit list of k bits
+pub record ListForm (w : Walked) (x b : List ℕ) (m j k : ℕ) : Type 0 where
+  pub walk : w ≡ upto m (j + rawBytes k)
+  pub write : x ≡ withMark b j k
   pub there : j + rawBytes k ≤ length b
   pub last : getD b (j + rawBytes k - 1) 0 < 2 ^ lastBits k
 
@@ -58,15 +59,15 @@ bits-upto b k i j h =
     (p .1 ∙ q .1, p .0, ltb-true _ _ (q .0))
 
 module _ (t : ℕ) (c b : List ℕ) (i j : ℕ) where
-  pub number-form : (w : ℕ) → IsUpto (walkItem (number t w) c b i j) → PartForm (number t w) c b i j i w
+  pub number-form : (w : ℕ) → IsUpto (walkItem (number t w) c b i j) → PartForm (walkItem (number t w) c b i j) (writeItem (number t w) c b i j) b i j w
   unfolding walkItem writeItem
   number-form w h = let p = body-upto b j w (upto i (j + w)) h in record { walk = p .1; write = refl; there = p .0 }
 
-  pub fixed-form : (n : ℕ) → IsUpto (walkItem (fixedBytes t n) c b i j) → PartForm (fixedBytes t n) c b i j i n
+  pub fixed-form : (n : ℕ) → IsUpto (walkItem (fixedBytes t n) c b i j) → PartForm (walkItem (fixedBytes t n) c b i j) (writeItem (fixedBytes t n) c b i j) b i j n
   unfolding walkItem writeItem
   fixed-form n h = let p = body-upto b j n (upto i (j + n)) h in record { walk = p .1; write = refl; there = p .0 }
 
-  pub boolean-form : IsUpto (walkItem (boolean t) c b i j) → PartForm (boolean t) c b i j i 1 × (getD b j 0 < 2)
+  pub boolean-form : IsUpto (walkItem (boolean t) c b i j) → PartForm (walkItem (boolean t) c b i j) (writeItem (boolean t) c b i j) b i j 1 × (getD b j 0 < 2)
   unfolding walkItem writeItem
   boolean-form h =
       let p = body-upto b j 1 (pick (ltb (getD b j 0) 2) (upto i (j + 1)) (wrong (BadValue 1 j))) h in
@@ -74,7 +75,7 @@ module _ (t : ℕ) (c b : List ℕ) (i j : ℕ) where
       (record { walk = p .1 ∙ q .1; write = refl; there = p .0 }, ltb-true _ _ (q .0))
 
   pub free-form : (limit : ℕ) → IsUpto (walkItem (freeBytes t limit) c b i j) →
-      PartForm (freeBytes t limit) c b i j (i + 1) (getD c i 0) × (i < length c) × (getD c i 0 ≤ limit)
+      PartForm (walkItem (freeBytes t limit) c b i j) (writeItem (freeBytes t limit) c b i j) b (i + 1) j (getD c i 0) × (i < length c) × (getD c i 0 ≤ limit)
   unfolding walkItem writeItem
   free-form limit h =
       let k = getD c i 0 in
@@ -83,12 +84,12 @@ module _ (t : ℕ) (c b : List ℕ) (i j : ℕ) where
       (record { walk = p .2 ∙ q .1; write = refl; there = q .0 }, p .0, leb-true _ _ (p .1))
 
   pub vector-form : (n : ℕ) → IsUpto (walkItem (bitVector t n) c b i j) →
-      PartForm (bitVector t n) c b i j i (rawBytes n) × (getD b (j + rawBytes n - 1) 0 < 2 ^ lastBits n)
+      PartForm (walkItem (bitVector t n) c b i j) (writeItem (bitVector t n) c b i j) b i j (rawBytes n) × (getD b (j + rawBytes n - 1) 0 < 2 ^ lastBits n)
   unfolding walkItem writeItem
   vector-form n h = let p = bits-upto b n i j h in (record { walk = p .0; write = refl; there = p .1 }, p .2)
 
   pub list-form : (limit : ℕ) → IsUpto (walkItem (bitList t limit) c b i j) →
-      ListForm (bitList t limit) c b i j (i + 1) (getD c i 0) × (i < length c) × (getD c i 0 ≤ limit)
+      ListForm (walkItem (bitList t limit) c b i j) (writeItem (bitList t limit) c b i j) b (i + 1) j (getD c i 0) × (i < length c) × (getD c i 0 ≤ limit)
   unfolding walkItem writeItem
   list-form limit h =
       let k = getD c i 0 in
@@ -96,80 +97,57 @@ module _ (t : ℕ) (c b : List ℕ) (i j : ℕ) where
       let q = bits-upto b k (i + 1) j (rw (p .2) at h) in
       (record { walk = p .2 ∙ q .0; write = refl; there = q .1; last = q .2 }, p .0, leb-true _ _ (p .1))
 
--- Which leaf it is.
-module _ (n : Node) where
-  leaf-0 : n .kind ≡ 0 → leafOf 0 n ≡ number 0 (n .second)
+-- A leaf of variable size is of kind 3 or 5.
+leaf-variable : (t : ℕ) (n : Node) → head (leafOf t n) ≡ Variable → (n .kind ≡ 3 → ⊥) → leafOf t n ≡ bitList t (n .second)
+unfolding leafOf head
+leaf-variable t n h z =
+    let e = ne-eqb (n .kind) 3 z in
+    rw e (go (eqb (n .kind) 0) (eqb (n .kind) 1) (eqb (n .kind) 2) (eqb (n .kind) 4) (rw e at h))
+  where
+    go : (p q r s : Bool) → head (pick p (number t (n .second)) (pick q (boolean t) (pick r (fixedBytes t (n .second)) (pick s (bitVector t (n .second))
+        (bitList t (n .second)))))) ≡ Variable →
+        pick p (number t (n .second)) (pick q (boolean t) (pick r (fixedBytes t (n .second)) (pick s (bitVector t (n .second)) (bitList t (n .second)))))
+        ≡ bitList t (n .second)
+    go true q r s e = let w : _≡_ {A = ℕ} 0 1 = cc in absurd (omega arith)
+    go false true r s e = let w : _≡_ {A = ℕ} 0 1 = cc in absurd (omega arith)
+    go false false true s e = let w : _≡_ {A = ℕ} 0 1 = cc in absurd (omega arith)
+    go false false false true e = let w : _≡_ {A = ℕ} 0 1 = cc in absurd (omega arith)
+    go false false false false e = refl
+
+-- Free bytes or a bit list: what its walk says.
+module _ (n : Node) (c b : List ℕ) (i j : ℕ) (h : IsUpto (walkItem (leafOf 0 n) c b i j)) where
+  pub kind-free : n .kind ≡ 3 →
+      PartForm (walkItem (leafOf 0 n) c b i j) (writeItem (leafOf 0 n) c b i j) b (i + 1) j (getD c i 0) × (i < length c)
   unfolding leafOf
-  leaf-0 h = rw h
+  kind-free k = let p = free-form 0 c b i j (n .second) (rw k at h) in (rw k (p .0), p .1)
 
-  leaf-1 : n .kind ≡ 1 → leafOf 0 n ≡ boolean 0
-  unfolding leafOf
-  leaf-1 h = rw h
+  module _ (v : head (leafOf 0 n) ≡ Variable) where
+    pub kind-bits : (n .kind ≡ 3 → ⊥) →
+        ListForm (walkItem (leafOf 0 n) c b i j) (writeItem (leafOf 0 n) c b i j) b (i + 1) j (getD c i 0) × (i < length c)
+    kind-bits z = let e = leaf-variable 0 n v z in let p = list-form 0 c b i j (n .second) (rw e at h) in (rw e (p .0), p .1)
 
-  leaf-2 : n .kind ≡ 2 → leafOf 0 n ≡ fixedBytes 0 (n .second)
-  unfolding leafOf
-  leaf-2 h = rw h
-
-  leaf-3 : n .kind ≡ 3 → leafOf 0 n ≡ freeBytes 0 (n .second)
-  unfolding leafOf
-  leaf-3 h = rw h
-
-  leaf-4 : n .kind ≡ 4 → leafOf 0 n ≡ bitVector 0 (n .second)
-  unfolding leafOf
-  leaf-4 h = rw h
-
-  leaf-5 : (n .kind ≡ 0 → ⊥) → (n .kind ≡ 1 → ⊥) → (n .kind ≡ 2 → ⊥) → (n .kind ≡ 3 → ⊥) → (n .kind ≡ 4 → ⊥) → leafOf 0 n ≡ bitList 0 (n .second)
-  unfolding leafOf
-  leaf-5 a b c d e = rw (ne-eqb (n .kind) 0 a, ne-eqb (n .kind) 1 b, ne-eqb (n .kind) 2 c, ne-eqb (n .kind) 3 d, ne-eqb (n .kind) 4 e)
-
-  module _ (c b : List ℕ) (i j : ℕ) (h : IsUpto (walkItem (leafOf 0 n) c b i j)) where
-    pub kind-0 : n .kind ≡ 0 → PartForm (leafOf 0 n) c b i j i (n .second)
-    kind-0 k = rw (leaf-0 k) (number-form 0 c b i j (n .second) (rw (leaf-0 k) at h))
-
-    pub kind-1 : n .kind ≡ 1 → PartForm (leafOf 0 n) c b i j i 1
-    kind-1 k = rw (leaf-1 k) (boolean-form 0 c b i j (rw (leaf-1 k) at h) .0)
-
-    pub kind-2 : n .kind ≡ 2 → PartForm (leafOf 0 n) c b i j i (n .second)
-    kind-2 k = rw (leaf-2 k) (fixed-form 0 c b i j (n .second) (rw (leaf-2 k) at h))
-
-    pub kind-3 : n .kind ≡ 3 → PartForm (leafOf 0 n) c b i j (i + 1) (getD c i 0) × (i < length c)
-    kind-3 k = let p = free-form 0 c b i j (n .second) (rw (leaf-3 k) at h) in (rw (leaf-3 k) (p .0), p .1)
-
-    pub kind-4 : n .kind ≡ 4 → PartForm (leafOf 0 n) c b i j i (rawBytes (n .second))
-    kind-4 k = rw (leaf-4 k) (vector-form 0 c b i j (n .second) (rw (leaf-4 k) at h) .0)
-
-    pub kind-5 : (n .kind ≡ 0 → ⊥) → (n .kind ≡ 1 → ⊥) → (n .kind ≡ 2 → ⊥) → (n .kind ≡ 3 → ⊥) → (n .kind ≡ 4 → ⊥) →
-        ListForm (leafOf 0 n) c b i j (i + 1) (getD c i 0) × (i < length c)
-    kind-5 p q r s u =
-        let e = leaf-5 p q r s u in
-        let x = list-form 0 c b i j (n .second) (rw e at h) in
-        (rw e (x .0), x .1)
-
-    -- The word is there where the leaf has one.
-    pub kind-word : (n .kind ≡ 0 → ⊥) → (n .kind ≡ 1 → ⊥) → (n .kind ≡ 2 → ⊥) → (n .kind ≡ 4 → ⊥) → i < length c
-    kind-word p q r u = go (eqb (n .kind) 3) refl
+    pub kind-word : i < length c
+    kind-word = go (eqb (n .kind) 3) refl
       where
-        go : (v : Bool) → eqb (n .kind) 3 ≡ v → i < length c
-        go true e = kind-3 (borrow.Author.Tests.eqb-true _ _ e) .1
-        go false e = kind-5 p q r (borrow.Author.Tests.eqb-false _ _ e) u .1
+        go : (p : Bool) → eqb (n .kind) 3 ≡ p → i < length c
+        go true e = kind-free (eqb-true _ _ e) .1
+        go false e = kind-bits (eqb-false _ _ e) .1
 
--- What storing a leaf asks and gives.
-module _ (x : Ty) (c b : List ℕ) (i j m n : ℕ) (o : List ℕ) (at : ℕ) where
-  pub part-need : PartForm x c b i j m n → Room o at (writeItem x c b i j) → (j + n ≤ length b) × (at + n ≤ length o)
+-- What storing body bytes, or a bit list, asks and gives.
+module _ (w : Walked) (x b : List ℕ) (m j n : ℕ) (o : List ℕ) (at : ℕ) where
+  pub part-need : PartForm w x b m j n → Room o at x → (j + n ≤ length b) × (at + n ≤ length o)
   part-need f g =
-      let e : length (writeItem x c b i j) ≡ n = ap length (f .write) ∙ length-bytesAt b j n (f .there) in
+      let e : length x ≡ n = ap length (f .write) ∙ length-bytesAt b j n (f .there) in
       (f .there, omega (arith, g .room))
 
-  pub part-done : PartForm x c b i j m n → (r : Stop) (o′ : List ℕ) → Put o at (bytesAt b j n) (upto m (j + n)) r o′ →
-      Put o at (writeItem x c b i j) (walkItem x c b i j) r o′
+  pub part-done : PartForm w x b m j n → (r : Stop) (o′ : List ℕ) → Put o at (bytesAt b j n) (upto m (j + n)) r o′ → Put o at x w r o′
   part-done f r o′ p = rw (f .walk, f .write) p
 
-  pub list-need : ListForm x c b i j m n → Room o at (writeItem x c b i j) →
+  pub list-need : ListForm w x b m j n → Room o at x →
       (j + rawBytes n ≤ length b) × (getD b (j + rawBytes n - 1) 0 < 2 ^ lastBits n) × (at + (n / 8 + 1) ≤ length o)
   list-need f g =
-      let e : length (writeItem x c b i j) ≡ n / 8 + 1 = ap length (f .write) ∙ length-withMark b j n (f .there) in
+      let e : length x ≡ n / 8 + 1 = ap length (f .write) ∙ length-withMark b j n (f .there) in
       (f .there, f .last, omega (arith, g .room))
 
-  pub list-done : ListForm x c b i j m n → (r : Stop) (o′ : List ℕ) → Put o at (withMark b j n) (upto m (j + rawBytes n)) r o′ →
-      Put o at (writeItem x c b i j) (walkItem x c b i j) r o′
+  pub list-done : ListForm w x b m j n → (r : Stop) (o′ : List ℕ) → Put o at (withMark b j n) (upto m (j + rawBytes n)) r o′ → Put o at x w r o′
   list-done f r o′ p = rw (f .walk, f .write) p

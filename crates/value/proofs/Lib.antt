@@ -7,9 +7,10 @@ pub mod Selectors
 pub mod Unions
 pub mod Rows
 pub mod Leaves
+pub mod Fixed
 pub mod Fills
 pub mod Plain
-pub mod Runs
+pub mod Made
 pub mod Calls
 pub mod Forms
 pub mod Values

@@ -1,36 +1,35 @@
 -- Fields that a loop takes without looking at their type twice: a leaf by what the table says of it, a number or fixed bytes
 -- by their length alone. Assumes nothing.
-use mathlib.Core.Path.{_≡_, refl, ap, _∙_}
+use mathlib.Core.Path.{_≡_, refl, sym, ap, _∙_}
 use mathlib.Core.List.{List}
 use mathlib.Core.Bool.{Bool, true, false}
 use mathlib.Core.Logic.{_⊎_, inl, inr, ⊎-elim}
 use Prim.Native.Nat.{ℕ, _+_, _-_, _≤_, _<_}
 use native.Mathlib.Omega.{arith}
 use borrow.Author.Tests.{eqb-true, leb-true}
-use lib.ListN.{length, getD, take, drop}
-use lib.Seq.{sets}
+use lib.ListN.{length, getD}
 use lib.Dec.{eqb, leb}
 use Rattle.standard.specs.Choice.{pick}
 use Rattle.standard.specs.Bytes.{Room, wordAt}
 use Rattle.standard.specs.Types.{Ty, number, fixedBytes, head}
 use Rattle.standard.specs.Parts.{join}
-use Rattle.standard.specs.declared.Head.the-variants.{Fixed}
+use Rattle.standard.specs.declared.Head.the-variants.{Fixed, Variable}
 use Rattle.standard.specs.declared.Refusal.the-variants.{BadValue}
 use Rattle.layout.specs.Tree.{nodeOf, treeOf, leafOf, lenOf, headOf}
 use Rattle.layout.specs.declared.Node.{Node}
 use Rattle.layout.proofs.Facts.{as-leaf}
-use Rattle.message.specs.Steps.{Row, rowOf, isPlain}
-use Rattle.message.proofs.Rows.{row-below, row-head}
+use Rattle.message.specs.Steps.{Under, Row, rowOf, isPlain}
+use Rattle.message.proofs.Rows.{under-head, row-below, row-head}
 use Rattle.value.specs.Walk.{Walked, upto, wrong, withBody, walkItem, walkFields}
 use Rattle.value.specs.Write.{bytesAt, writeItem, partsFrom}
 use Rattle.value.specs.Steps.{cap, measured, IsUpto}
-use Rattle.value.specs.Stores.{Put, Begun}
+use Rattle.value.specs.Stores.{Put}
 use Rattle.value.specs.declared.store.Stop.{Stop}
 use Rattle.value.specs.declared.measure.Measured.{Measured}
 use Rattle.value.proofs.Walks.{length-bytesAt}
 use Rattle.value.proofs.Rows.{Measuring, measuring-next, measuring-stop}
-use Rattle.value.proofs.Leaves.{PartForm, body-upto, part-need, part-done}
-use Rattle.value.proofs.Fills.{Writing, writing-upto, writing-room, writing-next, part-stored, tree-walk, tree-write}
+use Rattle.value.proofs.Unions.{leaf-head}
+use Rattle.value.proofs.Fills.{tree-walk, tree-write}
 
 -- A kind below 6 has no lower types, and the number of its type is no matter.
 module _ (l : List ℕ) (f : ℕ) (n : Node) (e : n ≡ nodeOf l f) (h : n .kind < 6) where
@@ -45,19 +44,18 @@ module _ (l : List ℕ) (f : ℕ) (n : Node) (e : n ≡ nodeOf l f) (h : n .kind
         r ≡ measured (walkItem (treeOf l f) c b i j) (length (writeItem (treeOf l f) c b i j))
     below-measured r q = rw (below-walk, below-write) q
 
-    pub below-asked : (o : List ℕ) (at : ℕ) → IsUpto (walkItem (treeOf l f) c b i j) → Room o at (writeItem (treeOf l f) c b i j) →
-        IsUpto (walkItem (leafOf 0 n) c b i j) × Room o at (writeItem (leafOf 0 n) c b i j)
-    below-asked o at u g = (rw below-walk at u, rw below-write at g)
+    pub below-asked : (o : List ℕ) (at : ℕ) (lens : List ℕ) → Under lens l (f + 1) → getD lens f 0 ≤ 0 → IsUpto (walkItem (treeOf l f) c b i j) →
+        Room o at (writeItem (treeOf l f) c b i j) →
+        (head (leafOf 0 n) ≡ Variable) × IsUpto (walkItem (leafOf 0 n) c b i j) × Room o at (writeItem (leafOf 0 n) c b i j)
+    below-asked o at lens v z u g =
+        let y : getD lens f 0 ≡ 0 = omega arith in
+        let d = sym (leaf-head f n) ∙ sym (ap head (as-leaf l f n e h)) ∙ sym (under-head lens l (f + 1) v f (omega arith)) ∙ ap headOf y in
+        (d, rw below-walk at u, rw below-write at g)
 
     pub below-put : (o : List ℕ) (at : ℕ) (r : Stop) (o′ : List ℕ) →
         Put o at (writeItem (leafOf 0 n) c b i j) (walkItem (leafOf 0 n) c b i j) r o′ →
         Put o at (writeItem (treeOf l f) c b i j) (walkItem (treeOf l f) c b i j) r o′
     below-put o at r o′ p = rw (below-walk, below-write) p
-
--- What was stored, under another name.
-pub put-as : (o : List ℕ) (at : ℕ) (x : List ℕ) (w : Walked) (r r₀ : Stop) (o′ o₁ : List ℕ) → o′ ≡ o₁ → r ≡ r₀ → Put o at x w r₀ o₁ →
-    Put o at x w r o′
-put-as o at x w r r₀ o′ o₁ d e p = rw (d, e) p
 
 -- A type whose items are k bytes of the bodies, whatever they are
 pub record Plain (x : Ty) (k : ℕ) : Type 0 where
@@ -114,29 +112,3 @@ module _ (lens l : List ℕ) (t a₀ step n : ℕ) (c b : List ℕ) (i₀ j₀ :
   measuring-short h =
       let w : walkItem (treeOf l f) c b i j ≡ wrong (BadValue 1 (length b)) = p .walk c b i j ∙ rw h in
       measuring-stop lens l t a₀ step n c b i₀ j₀ sum a left i j f g z e (BadValue 1 (length b)) (rw w)
-
--- A plain field is stored where its head is.
-module _ (lens l : List ℕ) (t step : ℕ) (c b : List ℕ) (start own e : ℕ) (w : Walked) (z o₀ o : List ℕ) (p q a left i j f : ℕ) (u : IsUpto w)
-    (g : Writing lens l t step c b start own e w z o₀ o p q a left i j) (y : 0 < left) (v : f ≡ wordAt l a) (k : ℕ) (n : k ≡ getD lens f 0)
-    (x : Plain (treeOf l f) k) where
-  plain-form : PartForm (treeOf l f) c b i j i k
-  plain-form =
-      let d = body-upto b j k (upto i (j + k)) (rw (x .walk c b i j) at (writing-upto lens l t step c b start own e w z o₀ o p q a left i j f u g y v)) in
-      record { walk = x .walk c b i j ∙ d .1; write = x .write c b i j; there = d .0 }
-
-  plain-head : headOf k ≡ Fixed k
-  plain-head = ap headOf n ∙ row-head lens l t a step left f (g .row) y v ∙ x .head
-
-  plain-begun : Begun (headOf k) o p q start p o
-  plain-begun = rw plain-head (record { place = refl; list = refl })
-
-  pub writing-there : (j + k ≤ length b) × (p + k ≤ length o)
-  writing-there =
-      part-need (treeOf l f) c b i j i k o p plain-form (writing-room lens l t step c b start own e w z o₀ o p q a left i j f u g y v k n p o plain-begun)
-
-  pub writing-plain : (o₂ : List ℕ) → o₂ ≡ sets o p (take (j + k - j) (drop j b)) →
-      Writing lens l t step c b start own e w z o₀ o₂ (p + k) q (a + step) (left - 1) i (j + k)
-  writing-plain o₂ d =
-      let r : Stop = record { word = i; byte = j + k; to = p + k } in
-      let s = part-done (treeOf l f) c b i j i k o p plain-form r o₂ (part-stored o p b i j k o₂ (plain-form .there) d) in
-      rw plain-head at (writing-next lens l t step c b start own e w z o₀ o p q a left i j f u g y v k n p o plain-begun r o₂ s)

@@ -9,7 +9,7 @@ use lib.ListN.{length, getD}
 use lib.Dec.{eqb, ltb}
 use Rattle.standard.specs.Choice.{pick}
 use Rattle.standard.specs.Bytes.{wordAt}
-use Rattle.standard.specs.Types.{Ty, Tys, Opts, number, boolean, fixedBytes, freeBytes, bitVector, bitList, container, union, over, bare, body}
+use Rattle.standard.specs.Types.{Ty, Tys, Opts, number, boolean, fixedBytes, freeBytes, bitVector, bitList, over, bare, body, head}
 use Rattle.standard.specs.declared.Refusal.{Refusal}
 use Rattle.standard.specs.declared.Refusal.the-variants.{BadValue}
 use Rattle.layout.specs.Tree.{nodeOf, leafOf, options, trees, treeOf}
@@ -18,8 +18,8 @@ use Rattle.layout.specs.declared.Node.{Node}
 use Rattle.layout.proofs.Facts.{trees-get, as-union, as-leaf, legal-node}
 use Rattle.value.specs.Walk.{Walked, upto, wrong, walkItem, walkOption}
 use Rattle.value.specs.Write.{writeItem, writeOption}
-use Rattle.value.specs.Steps.{chosenAt, choose}
-use Rattle.value.specs.declared.measure.Choice.{Choice}
+use Rattle.value.specs.Steps.{choose, LaidAs}
+use Rattle.value.specs.declared.laid.Laid.{Laid}
 
 pick-ap : {A B : Type 0} (f : A → B) (q : Bool) (x y : A) → pick q (f x) (f y) ≡ f (pick q x y)
 pick-ap f true x y = refl
@@ -113,98 +113,102 @@ module _ (l : List ℕ) (a n : ℕ) (c : List ℕ) (i : ℕ) where
   w : ℕ
   w = wordAt l (a + getD c i 0)
 
-  Cases : Bool → Bool → Bool → Choice
-  Cases p q r = pick p (pick q (pick r Choice.Bare (Choice.Body w)) (Choice.Wrong (BadValue 0 i))) (Choice.Wrong (BadValue 0 (length c)))
+  Cases : Bool → Bool → Bool → Laid
+  Cases p q r = pick p (pick q (pick r Laid.Bare (Laid.Body w)) (Laid.Wrong (BadValue 0 i))) (Laid.Wrong (BadValue 0 (length c)))
 
-  chosen-bare : Choice.Bare ≡ choose l a n c i → (ltb i (length c) ≡ true) × (ltb (getD c i 0) n ≡ true) × (eqb w 4294967295 ≡ true)
+  chosen-bare : Laid.Bare ≡ choose l a n c i → (ltb i (length c) ≡ true) × (ltb (getD c i 0) n ≡ true) × (eqb w 4294967295 ≡ true)
   unfolding choose w Cases
   chosen-bare e = go (ltb i (length c)) (ltb (getD c i 0) n) (eqb w 4294967295) refl refl refl e
     where
-      go : (p q r : Bool) → ltb i (length c) ≡ p → ltb (getD c i 0) n ≡ q → eqb w 4294967295 ≡ r → Choice.Bare ≡ Cases p q r →
+      go : (p q r : Bool) → ltb i (length c) ≡ p → ltb (getD c i 0) n ≡ q → eqb w 4294967295 ≡ r → Laid.Bare ≡ Cases p q r →
           (ltb i (length c) ≡ true) × (ltb (getD c i 0) n ≡ true) × (eqb w 4294967295 ≡ true)
       go true true true f g h e = (f, g, h)
       go true true false f g h e = let z : _≡_ {A = ℕ} 0 1 = cc in absurd (omega arith)
       go true false r f g h e = let z : _≡_ {A = ℕ} 0 1 = cc in absurd (omega arith)
       go false q r f g h e = let z : _≡_ {A = ℕ} 0 1 = cc in absurd (omega arith)
 
-  chosen-body : (o : ℕ) → Choice.Body o ≡ choose l a n c i → (ltb i (length c) ≡ true) × (ltb (getD c i 0) n ≡ true) × (eqb w 4294967295 ≡ false) × (o ≡ w)
+  chosen-body : (o : ℕ) → Laid.Body o ≡ choose l a n c i → (ltb i (length c) ≡ true) × (ltb (getD c i 0) n ≡ true) × (eqb w 4294967295 ≡ false) × (o ≡ w)
   unfolding choose w Cases
   chosen-body o e = go (ltb i (length c)) (ltb (getD c i 0) n) (eqb w 4294967295) refl refl refl e
     where
-      go : (p q r : Bool) → ltb i (length c) ≡ p → ltb (getD c i 0) n ≡ q → eqb w 4294967295 ≡ r → Choice.Body o ≡ Cases p q r →
+      go : (p q r : Bool) → ltb i (length c) ≡ p → ltb (getD c i 0) n ≡ q → eqb w 4294967295 ≡ r → Laid.Body o ≡ Cases p q r →
           (ltb i (length c) ≡ true) × (ltb (getD c i 0) n ≡ true) × (eqb w 4294967295 ≡ false) × (o ≡ w)
       go true true true f g h e = let z : _≡_ {A = ℕ} 0 1 = cc in absurd (omega arith)
       go true true false f g h e = (f, g, h, cc)
       go true false r f g h e = let z : _≡_ {A = ℕ} 0 1 = cc in absurd (omega arith)
       go false q r f g h e = let z : _≡_ {A = ℕ} 0 1 = cc in absurd (omega arith)
 
-  abbrev wrongOf : Choice → Walked → Type 0
-  wrongOf (Choice.Wrong x) y = y ≡ wrong x
-  wrongOf Choice.Bare y = Unit {0}
-  wrongOf (Choice.Body o) y = Unit {0}
+  abbrev wrongOf : Laid → Walked → Type 0
+  wrongOf (Laid.Wrong x) y = y ≡ wrong x
+  wrongOf Laid.Bare y = Unit {0}
+  wrongOf (Laid.Body o) y = Unit {0}
+  wrongOf (Laid.Fields a b c d) y = ⊥
 
   chosen-wrong : (lower : List Ty) (b : List ℕ) (j : ℕ) → wrongOf (choose l a n c i)
       (pick (ltb i (length c)) (walkFound c b i j (pick (ltb (getD c i 0) n) (foundAt lower w) nothing)) (wrong (BadValue 0 (length c))))
   unfolding choose w
   chosen-wrong lower b j = go (ltb i (length c)) (ltb (getD c i 0) n) (eqb w 4294967295)
     where
-      go : (p q r : Bool) → wrongOf (pick p (pick q (pick r Choice.Bare (Choice.Body w)) (Choice.Wrong (BadValue 0 i)))
-          (Choice.Wrong (BadValue 0 (length c)))) (pick p (walkFound c b i j (pick q (foundAt lower w) nothing)) (wrong (BadValue 0 (length c))))
+      go : (p q r : Bool) → wrongOf (pick p (pick q (pick r Laid.Bare (Laid.Body w)) (Laid.Wrong (BadValue 0 i)))
+          (Laid.Wrong (BadValue 0 (length c)))) (pick p (walkFound c b i j (pick q (foundAt lower w) nothing)) (wrong (BadValue 0 (length c))))
       go true true true = tt
       go true true false = tt
       go true false r = refl
       go false q r = refl
 
--- A union of the table.
-module _ (l : List ℕ) (t : ℕ) (r : Node) (e : r ≡ nodeOf l t) (k : r .kind ≡ 7) (c b : List ℕ) (i j : ℕ) where
-  union-walk : walkItem (treeOf l t) c b i j ≡ pick (ltb i (length c))
+-- A union of the table: what `select` answers is what its item is made of.
+module _ (l : List ℕ) (t : ℕ) (r : Node) (e : r ≡ nodeOf l t) (k : r .kind ≡ 7) (g : Legal l (t + 1)) (c : List ℕ) (i : ℕ) where
+  union-walk : (b : List ℕ) (j : ℕ) → walkItem (treeOf l t) c b i j ≡ pick (ltb i (length c))
       (walkFound c b i j (pick (ltb (getD c i 0) (r .second)) (foundAt (trees l t) (wordAt l (r .at + 2 + getD c i 0))) nothing))
       (wrong (BadValue 0 (length c)))
   unfolding walkItem
-  union-walk =
+  union-walk b j =
       rw (
         as-union l t r e k,
         walk-found c b i j (options l (trees l t) (r .at + 2) 0 (r .second)) (getD c i 0),
-        whole-find l (trees l t) (r .at + 2)
-            (r .second) (getD c i 0),
+        whole-find l (trees l t) (r .at + 2) (r .second) (getD c i 0),
       )
 
-  union-write : writeItem (treeOf l t) c b i j ≡ getD c i 0 ∷ writeFound c b i j
+  union-write : (b : List ℕ) (j : ℕ) → writeItem (treeOf l t) c b i j ≡ getD c i 0 ∷ writeFound c b i j
       (pick (ltb (getD c i 0) (r .second)) (foundAt (trees l t) (wordAt l (r .at + 2 + getD c i 0))) nothing)
   unfolding writeItem
-  union-write =
+  union-write b j =
       rw (
         as-union l t r e k,
         write-found c b i j (options l (trees l t) (r .at + 2) 0 (r .second)) (getD c i 0),
-        whole-find l (trees l t)
-            (r .at + 2) (r .second) (getD c i 0),
+        whole-find l (trees l t) (r .at + 2) (r .second) (getD c i 0),
       )
 
-  pub bare-item : Choice.Bare ≡ choose l (r .at + 2) (r .second) c i →
-      (walkItem (treeOf l t) c b i j ≡ upto (i + 1) j) × (writeItem (treeOf l t) c b i j ≡ getD c i 0 ∷ []) × (i < length c) ×
-      (getD c i 0 < r .second)
-  unfolding w
-  bare-item q =
-      let p = chosen-bare l (r .at + 2) (r .second) c i q in
-      (union-walk ∙ rw (p .0, p .1, p .2), union-write ∙ rw (p .1, p .2), ltb-true _ _ (p .0), ltb-true _ _ (p .1))
+  few : LegalNode l t r
+  few = legal-node l t r e g
 
-  pub wrong-item : (x : Refusal) → Choice.Wrong x ≡ choose l (r .at + 2) (r .second) c i → walkItem (treeOf l t) c b i j ≡ wrong x
-  unfolding w
-  wrong-item x q = union-walk ∙ rw (← q) at (chosen-wrong l (r .at + 2) (r .second) c i (trees l t) b j)
-
-  pub body-item : Legal l (t + 1) → (o : ℕ) → Choice.Body o ≡ choose l (r .at + 2) (r .second) c i →
-      (walkItem (treeOf l t) c b i j ≡ walkItem (treeOf l o) c b (i + 1) j) ×
-      (writeItem (treeOf l t) c b i j ≡ getD c i 0 ∷ writeItem (treeOf l o) c b (i + 1) j) × (i < length c) × (getD c i 0 < r .second) × (o < t)
+  pub laid-union : (x : Laid) → x ≡ choose l (r .at + 2) (r .second) c i → LaidAs l t c i x
   unfolding w LowerOrBare
-  body-item g o q =
+  laid-union (Laid.Fields a b n p) q = absurd (rw (← q) at (chosen-wrong l (r .at + 2) (r .second) c i (trees l t) [] 0))
+  laid-union Laid.Bare q =
+      let p = chosen-bare l (r .at + 2) (r .second) c i q in
+      record {
+        there = ltb-true _ _ (p .0);
+        small = omega (arith, ltb-true (getD c i 0) (r .second) (p .1), few .most k);
+        walk = λ b j. union-walk b j ∙ rw (p .0, p .1, p .2);
+        write = λ b j. union-write b j ∙ rw (p .1, p .2);
+      }
+  laid-union (Laid.Body o) q =
       let p = chosen-body l (r .at + 2) (r .second) c i o q in
-      let m = legal-node l t r e g in
-      let h : o < t = rw (p .3) (m .optional k (getD c i 0) (ltb-true _ _ (p .1)) (eqb-false _ _ (p .2))) in
-      let y = trees-get l t o (boolean 0) h in
-      (union-walk ∙ rw (p .0, p .1, p .2, ← p .3, y), union-write ∙ rw (p .1, p .2, ← p .3, y), ltb-true _ _ (p .0), ltb-true _ _ (p .1), h)
+      let h : o < t = rw (p .3) (few .optional k (getD c i 0) (ltb-true _ _ (p .1)) (eqb-false _ _ (p .2))) in
+      let y = trees-get l t o (boolean 0) h in (
+        h,
+        record {
+          there = ltb-true _ _ (p .0);
+          small = omega (arith, ltb-true (getD c i 0) (r .second) (p .1), few .most k);
+          walk = λ b j. union-walk b j ∙ rw (p .0, p .1, p .2, ← p .3, y);
+          write = λ b j. union-write b j ∙ rw (p .1, p .2, ← p .3, y);
+        },
+      )
+  laid-union (Laid.Wrong x) q = λ b j. union-walk b j ∙ rw (← q) at (chosen-wrong l (r .at + 2) (r .second) c i (trees l t) b j)
 
 -- A leaf's number is no matter.
-module _ (c b : List ℕ) (i j t : ℕ) (n : Node) where
+module _ (t : ℕ) (n : Node) where
   leaf-any : {A : Type 0} (f : Ty → A) → ((w : ℕ) → f (number t w) ≡ f (number 0 w)) → f (boolean t) ≡ f (boolean 0) →
       ((w : ℕ) → f (fixedBytes t w) ≡ f (fixedBytes 0 w)) → ((w : ℕ) → f (freeBytes t w) ≡ f (freeBytes 0 w)) →
       ((w : ℕ) → f (bitVector t w) ≡ f (bitVector 0 w)) → ((w : ℕ) → f (bitList t w) ≡ f (bitList 0 w)) → f (leafOf t n) ≡ f (leafOf 0 n)
@@ -224,10 +228,14 @@ module _ (c b : List ℕ) (i j t : ℕ) (n : Node) where
       go false false false false true = x4 s
       go false false false false false = x5 s
 
-  pub leaf-walk : walkItem (leafOf t n) c b i j ≡ walkItem (leafOf 0 n) c b i j
+  pub leaf-walk : (c b : List ℕ) (i j : ℕ) → walkItem (leafOf t n) c b i j ≡ walkItem (leafOf 0 n) c b i j
   unfolding walkItem
-  leaf-walk = leaf-any (λ (x : Ty). walkItem x c b i j) (λ w. refl) refl (λ w. refl) (λ w. refl) (λ w. refl) (λ w. refl)
+  leaf-walk c b i j = leaf-any (λ (x : Ty). walkItem x c b i j) (λ w. refl) refl (λ w. refl) (λ w. refl) (λ w. refl) (λ w. refl)
 
-  pub leaf-write : writeItem (leafOf t n) c b i j ≡ writeItem (leafOf 0 n) c b i j
+  pub leaf-head : head (leafOf t n) ≡ head (leafOf 0 n)
+  unfolding head
+  leaf-head = leaf-any head (λ w. refl) refl (λ w. refl) (λ w. refl) (λ w. refl) (λ w. refl)
+
+  pub leaf-write : (c b : List ℕ) (i j : ℕ) → writeItem (leafOf t n) c b i j ≡ writeItem (leafOf 0 n) c b i j
   unfolding writeItem
-  leaf-write = leaf-any (λ (x : Ty). writeItem x c b i j) (λ w. refl) refl (λ w. refl) (λ w. refl) (λ w. refl) (λ w. refl)
+  leaf-write c b i j = leaf-any (λ (x : Ty). writeItem x c b i j) (λ w. refl) refl (λ w. refl) (λ w. refl) (λ w. refl) (λ w. refl)

@@ -1,4 +1,5 @@
 // The value writer: from the form of a value to the message.
+mod laid;
 mod measure;
 mod store;
 mod words;

@@ -1,26 +1,24 @@
 // The form of a value measured: its first fault, or how far it goes and how long what it says is. Nothing is written.
+use crate::laid::Laid;
+use crate::laid::lay;
 use crate::words::look_in;
 use crate::words::word_in;
-use decode::union_selector::SelectorResult;
-use decode::union_selector::UnionSelector;
-use layout::NO_BODY;
 use layout::Node;
 use standard::Refusal;
-use standard::words::word_at;
 ghost use mathlib.Core.Path.{_≡_};
-ghost use Prim.Native.Nat.{_+_, _/_, _≤_, _<_, _^_, min};
+ghost use Prim.Native.Nat.{_+_, _/_, _<_, _^_, min};
 ghost use lib.ListN.{length, getD};
 ghost use lib.Dec.{ltb, leb};
 ghost use Rattle.standard.specs.Choice.{pick};
 ghost use Rattle.standard.specs.Types.{freeBytes, bitList};
 ghost use Rattle.standard.specs.Parts.{join};
 ghost use Rattle.standard.specs.declared.Refusal.the-variants.{BadValue};
-ghost use Rattle.layout.specs.Tree.{nodeOf, leafOf, treeOf, headOf};
+ghost use Rattle.layout.specs.Tree.{leafOf, treeOf, headOf};
 ghost use Rattle.message.specs.Read.{rawBytes};
 ghost use Rattle.message.specs.Steps.{Under, Row, rowOf, isPlain};
 ghost use Rattle.value.specs.Walk.{upto, wrong, withBody, walkBits, walkItem, walkFields};
 ghost use Rattle.value.specs.Write.{writeItem, partsFrom};
-ghost use Rattle.value.specs.Steps.{cap, measured, selected, extra, choose, choiceOf, chosenAt};
+ghost use Rattle.value.specs.Steps.{cap, measured, selected, extra, AllPlain};
 ghost use Rattle.value.specs.declared.measure.Mark.{Mark};
 ghost use Rattle.value.specs.declared.measure.Measured.{Measured};
 
@@ -33,13 +31,6 @@ pub(crate) struct Mark {
 
 pub(crate) enum Measured {
     Upto(Mark),
-    Wrong(Refusal),
-}
-
-// What a union's contents word chooses: an option without body, the type of a body, or a refusal.
-pub(crate) enum Choice {
-    Bare,
-    Body(usize),
     Wrong(Refusal),
 }
 
@@ -74,7 +65,7 @@ pub(crate) fn raw_bytes(bits: usize) -> usize
 }
 
 // A number or fixed bytes: as many body bytes as the type's length says, and no contents word.
-pub(crate) fn is_plain(kind: usize) -> bool
+fn is_plain(kind: usize) -> bool
     ensures { λ r. ⌜ r ≡ isPlain kind ⌝ }
 {
     if kind == 0 {
@@ -207,53 +198,6 @@ fn measure_leaf(n: Node, contents: &[u32], bodies: &[u8], i: usize, j: usize) ->
     measure_list(contents, bodies, i, j, second)
 }
 
-// The option whose word is w.
-fn option_at(w: usize) -> Choice
-    ensures { λ r. ⌜ r ≡ chosenAt w ⌝ }
-{
-    if w == NO_BODY {
-        Choice::Bare
-    } else {
-        Choice::Body(w)
-    }
-}
-
-// The option that the selector names among the n whose words stand from a on. Its contents word is the one at i.
-fn option_of(layout: &[u8], a: usize, n: usize, selector: UnionSelector, i: usize) -> Choice
-    requires { ⌜ a < 2 ^ 34 ⌝ }
-    ensures { λ r. ⌜ r ≡ choiceOf (now (layout .entry)) a n (selector .0) i ⌝ }
-{
-    let byte = selector.get();
-    let k = byte as usize;
-    if k >= n {
-        return Choice::Wrong(Refusal::BadValue(0, i));
-    }
-    let place = a + k;
-    let w = word_at(layout, place);
-    option_at(w)
-}
-
-// What the contents word at i chooses among the n options that the words from a on name. No table has more than 128 options.
-pub(crate) fn select(layout: &[u8], a: usize, n: usize, contents: &[u32], i: usize) -> Choice
-    requires { ⌜ (a < 2 ^ 34) × (n ≤ 128) ⌝ }
-    ensures { λ r. ⌜ r ≡ choose (now (layout .entry)) a n (now (contents .entry)) i ⌝ }
-{
-    let words = contents.len();
-    if i >= words {
-        return Choice::Wrong(Refusal::BadValue(0, words));
-    }
-    let k = contents[i];
-    if k > 127 {
-        return Choice::Wrong(Refusal::BadValue(0, i));
-    }
-    let byte = k as u8;
-    let s = UnionSelector::new(byte);
-    match s {
-        SelectorResult::Selector(selector) => option_of(layout, a, n, selector, i),
-        SelectorResult::Refused(_) => Choice::Wrong(Refusal::BadValue(0, i)),
-    }
-}
-
 // A union's selector byte, with what its body has.
 fn with_selector(r: Measured) -> Measured
     ensures { λ x. ⌜ x ≡ selected r ⌝ }
@@ -292,94 +236,49 @@ pub(crate) fn measure_item(
     ensures { λ r. ⌜ r ≡ measured (walkItem (treeOf (now (layout .entry)) t) (now (contents .entry)) (now (bodies .entry)) i j) (length (writeItem (treeOf (now (layout .entry)) t) (now (contents .entry)) (now (bodies .entry)) i j)) ⌝ }
 {
     let n = look_in(layout, t);
-    let first = n.at + 2;
-    if n.kind == 6 {
-        measure_fields(lens, layout, t, first, 1, n.second, contents, bodies, i, j)
-    } else if n.kind == 7 {
-        let c = select(layout, first, n.second, contents, i);
-        match c {
-            Choice::Bare => {
-                let word = i + 1;
-                Measured::Upto(Mark {
-                    word,
-                    byte: j,
-                    len: 1,
-                })
-            }
-            Choice::Body(o) => {
-                let word = i + 1;
-                let r = measure_item(lens, layout, o, contents, bodies, word, j);
-                with_selector(r)
-            }
-            Choice::Wrong(x) => Measured::Wrong(x),
+    if n.kind < 6 {
+        return measure_leaf(n, contents, bodies, i, j);
+    }
+    let made = lay(layout, t, n, contents, i);
+    match made {
+        Laid::Fields(first, step, m, word) => {
+            measure_fields(lens, layout, t, first, step, m, contents, bodies, word, j)
         }
-    } else if n.kind < 6 {
-        measure_leaf(n, contents, bodies, i, j)
-    } else {
-        measure_elements(lens, layout, n, t, contents, bodies, i, j)
+        Laid::Bare => {
+            let word = i + 1;
+            Measured::Upto(Mark {
+                word,
+                byte: j,
+                len: 1,
+            })
+        }
+        Laid::Body(o) => {
+            let word = i + 1;
+            let r = measure_item(lens, layout, o, contents, bodies, word, j);
+            with_selector(r)
+        }
+        Laid::Wrong(x) => Measured::Wrong(x),
     }
 }
 
-// Measures the form of a list or vector of the type t, whose words are n: a list's count stands before its elements.
-fn measure_elements(
-    lens: &[u32; 64],
-    layout: &[u8],
-    n: Node,
-    t: usize,
-    contents: &[u32],
-    bodies: &[u8],
-    i: usize,
-    j: usize,
-) -> Measured
-    requires { ⌜ Under (now lens) (now layout) (t + 1) × (n ≡ nodeOf (now layout) t) × (8 ≤ n .kind) ⌝ }
-    ensures { λ r. ⌜ r ≡ measured (walkItem (treeOf (now (layout .entry)) t) (now (contents .entry)) (now (bodies .entry)) i j) (length (writeItem (treeOf (now (layout .entry)) t) (now (contents .entry)) (now (bodies .entry)) i j)) ⌝ }
+// How many bytes n elements are, if they are numbers or fixed bytes: those are measured at once. 0 stands for other elements, and for
+// fields.
+fn plain_bytes(lens: &[u32; 64], layout: &[u8], t: usize, a: usize, step: usize, n: usize) -> usize
+    requires { ⌜ Row (now lens) (now layout) t a step n × (n < 2 ^ 32) ⌝ }
+    ensures { λ r. ⌜ (0 < r → AllPlain (rowOf (now (layout .entry)) t a step n) r) ⌝ }
 {
-    let third = word_in(layout, n.at + 2);
-    if n.kind == 9 {
-        return measure_many(lens, layout, n, t, third, contents, bodies, i, j);
+    if step > 0 {
+        return 0;
     }
-    if i >= contents.len() {
-        return Measured::Wrong(Refusal::BadValue(0, contents.len()));
+    if n == 0 {
+        return 0;
     }
-    let m = contents[i] as usize;
-    if m > third {
-        return Measured::Wrong(Refusal::BadValue(0, i));
-    }
-    let word = i + 1;
-    measure_many(lens, layout, n, t, m, contents, bodies, word, j)
-}
-
-// Measures the forms of m elements of a list or vector of the type t, whose words are n. Numbers and fixed bytes are measured at once.
-fn measure_many(
-    lens: &[u32; 64],
-    layout: &[u8],
-    n: Node,
-    t: usize,
-    m: usize,
-    contents: &[u32],
-    bodies: &[u8],
-    i: usize,
-    j: usize,
-) -> Measured
-    requires { ⌜ Under (now lens) (now layout) (t + 1) × (n ≡ nodeOf (now layout) t) × (8 ≤ n .kind) × (m < 2 ^ 32) ⌝ }
-    ensures { λ r. ⌜ r ≡ measured (walkFields (rowOf (now (layout .entry)) t (n .at + 1) 0 m) (now (contents .entry)) (now (bodies .entry)) i j) (length (join (partsFrom (rowOf (now (layout .entry)) t (n .at + 1) 0 m) (now (contents .entry)) (now (bodies .entry)) i j))) ⌝ }
-{
-    if m == 0 {
-        return Measured::Upto(Mark {
-            word: i,
-            byte: j,
-            len: 0,
-        });
-    }
-    let f = n.second;
+    let f = word_in(layout, a);
     let e = look_in(layout, f);
     if is_plain(e.kind) {
-        let k = lens[f] as usize;
-        let size = m * k;
-        return measure_exact(bodies, i, j, size);
+        return n * (lens[f] as usize);
     }
-    let first = n.at + 1;
-    measure_fields(lens, layout, t, first, 0, m, contents, bodies, i, j)
+    0
 }
 
 // Measures the forms of the n fields of type t that the words from a0 on name, which stand step words apart: 1 for fields, 0 for elements,
@@ -397,9 +296,13 @@ fn measure_fields(
     i0: usize,
     j0: usize,
 ) -> Measured
-    requires { ⌜ Row (now lens) (now layout) t a0 step n ⌝ }
+    requires { ⌜ Row (now lens) (now layout) t a0 step n × (n < 2 ^ 32) ⌝ }
     ensures { λ r. ⌜ r ≡ measured (walkFields (rowOf (now (layout .entry)) t a0 step n) (now (contents .entry)) (now (bodies .entry)) i0 j0) (length (join (partsFrom (rowOf (now (layout .entry)) t a0 step n) (now (contents .entry)) (now (bodies .entry)) i0 j0))) ⌝ }
 {
+    let all = plain_bytes(lens, layout, t, a0, step, n);
+    if all > 0 {
+        return measure_exact(bodies, i0, j0, all);
+    }
     let mut sum: usize = 0;
     let mut a = a0;
     let mut left = n;

@@ -1,30 +1,30 @@
 // The message written from a form that was measured: each body byte is copied once.
-use crate::measure::Choice;
-use crate::measure::is_plain;
+use crate::laid::Laid;
+use crate::laid::lay;
 use crate::measure::raw_bytes;
-use crate::measure::select;
 use crate::words::look_in;
 use crate::words::word_in;
 use layout::Node;
 use standard::words::put_four;
 ghost use mathlib.Core.Path.{_≡_};
 ghost use mathlib.Core.List.{[], _∷_};
-ghost use Prim.Native.Nat.{_+_, _-_, _/_, _%_, _≤_, _<_, _^_};
+ghost use mathlib.Core.Bool.{true};
+ghost use Prim.Native.Nat.{_+_, _-_, _/_, _≤_, _<_, _^_};
 ghost use lib.ListN.{length, getD};
 ghost use lib.Seq.{sets};
 ghost use lib.Dec.{eqb};
 ghost use Rattle.standard.specs.Choice.{pick};
-ghost use Rattle.standard.specs.Bytes.{Stored, Room};
-ghost use Rattle.standard.specs.Types.{width, portion};
+ghost use Rattle.standard.specs.Bytes.{Room};
+ghost use Rattle.standard.specs.Types.{head, width, portion};
 ghost use Rattle.standard.specs.Parts.{join};
-ghost use Rattle.layout.specs.Table.{count};
-ghost use Rattle.layout.specs.Tree.{nodeOf, leafOf, treeOf, headOf};
+ghost use Rattle.standard.specs.declared.Head.the-variants.{Variable};
+ghost use Rattle.layout.specs.Tree.{leafOf, treeOf, headOf};
 ghost use Rattle.message.specs.Read.{rawBytes};
 ghost use Rattle.message.specs.Steps.{Under, Row, rowOf, headsOf};
 ghost use Rattle.value.specs.Walk.{upto, lastBits, walkItem, walkFields};
 ghost use Rattle.value.specs.Write.{bytesAt, withMark, writeItem, partsFrom};
 ghost use Rattle.value.specs.Steps.{IsUpto};
-ghost use Rattle.value.specs.Stores.{Put, Begun, headAfter, tailAfter, Owned, Fields, Counted};
+ghost use Rattle.value.specs.Stores.{Put, Copied, Fields};
 
 // How far the contents and the bodies are used, and where what was written ends.
 pub(crate) struct Stop {
@@ -87,7 +87,7 @@ fn put_list(out: &mut [u8], at: usize, bodies: &[u8], i: usize, j: usize, k: usi
     Stop { word: i, byte, to }
 }
 
-// Stores an item of a type that has no lower types.
+// Stores an item of variable size of a type that has no lower types: free bytes or a bit list.
 fn put_leaf(
     out: &mut [u8],
     at: usize,
@@ -97,39 +97,27 @@ fn put_leaf(
     i: usize,
     j: usize,
 ) -> Stop
-    requires { ⌜ IsUpto (walkItem (leafOf 0 n) (now contents) (now bodies) i j) × Room (now out) at (writeItem (leafOf 0 n) (now contents) (now bodies) i j) ⌝ }
+    requires { ⌜ (head (leafOf 0 n) ≡ Variable) × IsUpto (walkItem (leafOf 0 n) (now contents) (now bodies) i j) × Room (now out) at (writeItem (leafOf 0 n) (now contents) (now bodies) i j) ⌝ }
     ensures { λ r. ⌜ Put (now (out .entry)) at (writeItem (leafOf 0 n) (now (contents .entry)) (now (bodies .entry)) i j) (walkItem (leafOf 0 n) (now (contents .entry)) (now (bodies .entry)) i j) r (now (out .exit)) ⌝ }
 {
-    let kind = n.kind;
-    let second = n.second;
-    if kind == 0 {
-        return put_part(out, at, bodies, i, j, second);
-    }
-    if kind == 1 {
-        return put_part(out, at, bodies, i, j, 1);
-    }
-    if kind == 2 {
-        return put_part(out, at, bodies, i, j, second);
-    }
-    if kind == 4 {
-        let raw = raw_bytes(second);
-        return put_part(out, at, bodies, i, j, raw);
-    }
     let k = contents[i] as usize;
     let next = i + 1;
-    if kind == 3 {
+    if n.kind == 3 {
         return put_part(out, at, bodies, next, j, k);
     }
     put_list(out, at, bodies, next, j, k)
 }
 
-// Stores the selector of a union.
-fn put_selector(out: &mut [u8], at: usize, contents: &[u32], i: usize)
+// Stores the selector of a union, whose body starts at the body byte j.
+fn put_selector(out: &mut [u8], at: usize, contents: &[u32], i: usize, j: usize) -> Stop
     requires { ⌜ (i < length (now contents)) × (getD (now contents) i 0 < 256) × (at < length (now out)) ⌝ }
-    ensures { λ _. ⌜ Stored (now (out .entry)) at (getD (now (contents .entry)) i 0 ∷ []) (at + 1) (now (out .exit)) ⌝ }
+    ensures { λ r. ⌜ Put (now (out .entry)) at (getD (now (contents .entry)) i 0 ∷ []) (upto (i + 1) j) r (now (out .exit)) ⌝ }
 {
     let k = contents[i];
     out[at] = k as u8;
+    let word = i + 1;
+    let to = at + 1;
+    Stop { word, byte: j, to }
 }
 
 // The fixed portion of n elements of type t, which share the word a: there may be very many, so they are not added up one by one.
@@ -145,15 +133,11 @@ fn shared_portion(lens: &[u32; 64], layout: &[u8], t: usize, a: usize, n: usize)
     n * k
 }
 
-// The fixed portion of the n fields of type t that the words from a0 on name, step words apart: the type's own length where it has one.
+// The fixed portion of the n fields of type t that the words from a0 on name, step words apart.
 fn portion_of(lens: &[u32; 64], layout: &[u8], t: usize, a0: usize, step: usize, n: usize) -> usize
-    requires { ⌜ Owned (now lens) (now layout) t a0 step n × (portion (headsOf (now layout) t a0 step n) < 2 ^ 64) ⌝ }
+    requires { ⌜ Row (now lens) (now layout) t a0 step n × (portion (headsOf (now layout) t a0 step n) < 2 ^ 64) ⌝ }
     ensures { λ r. ⌜ r ≡ portion (headsOf (now (layout .entry)) t a0 step n) ⌝ }
 {
-    let own = lens[t] as usize;
-    if own > 0 {
-        return own;
-    }
     if step == 0 {
         return shared_portion(lens, layout, t, a0, n);
     }
@@ -177,32 +161,19 @@ fn width_of(len: usize) -> usize
     if len == 0 { 4 } else { len }
 }
 
-// Where the field goes whose head is at p, and whose length k says whether it is of variable size: to q then, which its head says.
-fn begin(out: &mut [u8], k: usize, p: usize, q: usize, start: usize) -> usize
-    requires { ⌜ start ≤ q ⌝ }
-    ensures { λ r. ⌜ Begun (headOf k) (now (out .entry)) p q start r (now (out .exit)) ⌝ }
+// Whether there are elements, and each is of fixed size: then all of them are body bytes. Without any, nothing says that those are there.
+fn are_copied(lens: &[u32; 64], layout: &[u8], t: usize, a: usize, step: usize, n: usize) -> bool
+    requires { ⌜ Row (now lens) (now layout) t a step n ⌝ }
+    ensures { λ r. ⌜ (r ≡ true → Copied (rowOf (now (layout .entry)) t a step n)) ⌝ }
 {
-    if k == 0 {
-        let off = q - start;
-        put_four(out, p, off);
-        return q;
+    if step > 0 {
+        return false;
     }
-    p
-}
-
-// Where the next head is.
-fn next_head(k: usize, p: usize, to: usize) -> usize
-    requires { ⌜ (k ≡ 0 → p + 4 < 2 ^ 64) ⌝ }
-    ensures { λ r. ⌜ r ≡ headAfter (headOf k) p to ⌝ }
-{
-    if k == 0 { p + 4 } else { to }
-}
-
-// Where the next field of variable size goes.
-fn next_tail(k: usize, q: usize, to: usize) -> usize
-    ensures { λ r. ⌜ r ≡ tailAfter (headOf k) q to ⌝ }
-{
-    if k == 0 { to } else { q }
+    if n == 0 {
+        return false;
+    }
+    let f = word_in(layout, a);
+    lens[f] > 0
 }
 
 // Stores the item of the type t from at on, whose form starts at the contents word i and the body byte j.
@@ -220,105 +191,47 @@ pub(crate) fn write_item(
     requires { ⌜ Under (now lens) (now layout) (t + 1) × IsUpto (walkItem (treeOf (now layout) t) (now contents) (now bodies) i j) × Room (now out) at (writeItem (treeOf (now layout) t) (now contents) (now bodies) i j) ⌝ }
     ensures { λ r. ⌜ Put (now (out .entry)) at (writeItem (treeOf (now (layout .entry)) t) (now (contents .entry)) (now (bodies .entry)) i j) (walkItem (treeOf (now (layout .entry)) t) (now (contents .entry)) (now (bodies .entry)) i j) r (now (out .exit)) ⌝ }
 {
+    let own = lens[t] as usize;
+    if own > 0 {
+        return put_part(out, at, bodies, i, j, own);
+    }
     let n = look_in(layout, t);
-    let a = n.at + 2;
-    let k = n.second;
-    if n.kind == 6 {
-        write_fields(out, at, lens, layout, t, a, 1, k, contents, bodies, i, j)
-    } else if n.kind == 7 {
-        let c = select(layout, a, k, contents, i);
-        match c {
-            Choice::Bare => {
-                put_selector(out, at, contents, i);
-                let word = i + 1;
-                let to = at + 1;
-                Stop { word, byte: j, to }
-            }
-            Choice::Body(o) => {
-                put_selector(out, at, contents, i);
-                let word = i + 1;
-                let to = at + 1;
-                write_item(out, to, lens, layout, o, contents, bodies, word, j)
-            }
-            Choice::Wrong(_) => Stop {
-                word: i,
-                byte: j,
-                to: at,
-            },
+    if n.kind < 6 {
+        return put_leaf(out, at, n, contents, bodies, i, j);
+    }
+    let made = lay(layout, t, n, contents, i);
+    match made {
+        Laid::Fields(first, step, m, word) => {
+            write_fields(
+                out,
+                at,
+                lens,
+                layout,
+                t,
+                first,
+                step,
+                m,
+                contents,
+                bodies,
+                word,
+                j,
+            )
         }
-    } else if n.kind < 6 {
-        put_leaf(out, at, n, contents, bodies, i, j)
-    } else {
-        write_elements(out, at, lens, layout, n, t, contents, bodies, i, j)
+        Laid::Bare => put_selector(out, at, contents, i, j),
+        Laid::Body(o) => {
+            let s = put_selector(out, at, contents, i, j);
+            write_item(out, s.to, lens, layout, o, contents, bodies, s.word, s.byte)
+        }
+        Laid::Wrong(_) => Stop {
+            word: i,
+            byte: j,
+            to: at,
+        },
     }
-}
-
-// How many elements a list or vector has, and the contents word that theirs start with.
-struct Run {
-    many: usize,
-    word: usize,
-}
-
-// A vector's count is in the table, a list's is the contents word before its elements.
-fn run_of(layout: &[u8], n: Node, contents: &[u32], i: usize) -> Run
-    requires { ⌜ (n .at + 2 < count (now layout)) × ((n .kind ≡ 9 → ⊥) → i < length (now contents)) ⌝ }
-    ensures { λ r. ⌜ Counted (now (layout .entry)) n (now (contents .entry)) i r ⌝ }
-{
-    if n.kind == 9 {
-        let many = word_in(layout, n.at + 2);
-        return Run { many, word: i };
-    }
-    let many = contents[i] as usize;
-    let word = i + 1;
-    Run { many, word }
-}
-
-// Stores the list or vector of the type t, whose words are n. Elements of a kind below 3 are body bytes alone: all of them are copied at
-// once. Without any, nothing says that j is within the bodies.
-fn write_elements(
-    out: &mut [u8],
-    at: usize,
-    lens: &[u32; 64],
-    layout: &[u8],
-    n: Node,
-    t: usize,
-    contents: &[u32],
-    bodies: &[u8],
-    i: usize,
-    j: usize,
-) -> Stop
-    requires { ⌜ Under (now lens) (now layout) (t + 1) × (n ≡ nodeOf (now layout) t) × (8 ≤ n .kind) × IsUpto (walkItem (treeOf (now layout) t) (now contents) (now bodies) i j) × Room (now out) at (writeItem (treeOf (now layout) t) (now contents) (now bodies) i j) ⌝ }
-    ensures { λ r. ⌜ Put (now (out .entry)) at (writeItem (treeOf (now (layout .entry)) t) (now (contents .entry)) (now (bodies .entry)) i j) (walkItem (treeOf (now (layout .entry)) t) (now (contents .entry)) (now (bodies .entry)) i j) r (now (out .exit)) ⌝ }
-{
-    let run = run_of(layout, n, contents, i);
-    let m = run.many;
-    let word = run.word;
-    let f = n.second;
-    let e = look_in(layout, f);
-    if m > 0 && e.kind < 3 {
-        let len = m * (lens[f] as usize);
-        return put_part(out, at, bodies, word, j, len);
-    }
-    let first = n.at + 1;
-    write_fields(
-        out,
-        at,
-        lens,
-        layout,
-        t,
-        first,
-        0,
-        m,
-        contents,
-        bodies,
-        word,
-        j,
-    )
 }
 
 // Stores the n fields of type t that the words from a0 on name, step words apart: each head in the fixed portion, each body of variable
-// size behind it. A number or fixed bytes are copied at once, another kind below 6 has no lower types: only a type that has some is
-// stored as an item.
+// size behind it. A field of fixed size is copied without a look at its type.
 fn write_fields(
     out: &mut [u8],
     start: usize,
@@ -337,6 +250,9 @@ fn write_fields(
     ensures { λ r. ⌜ Put (now (out .entry)) start (join (partsFrom (rowOf (now (layout .entry)) t a0 step n) (now (contents .entry)) (now (bodies .entry)) i0 j0)) (walkFields (rowOf (now (layout .entry)) t a0 step n) (now (contents .entry)) (now (bodies .entry)) i0 j0) r (now (out .exit)) ⌝ }
 {
     let own = portion_of(lens, layout, t, a0, step, n);
+    if are_copied(lens, layout, t, a0, step, n) {
+        return put_part(out, start, bodies, i0, j0, own);
+    }
     let mut p = start;
     let mut q = start + own;
     let mut a = a0;
@@ -345,25 +261,20 @@ fn write_fields(
     let mut j = j0;
     while left > 0 {
         let f = word_in(layout, a);
-        let n = look_in(layout, f);
         let k = lens[f] as usize;
         a += step;
         left -= 1;
-        if is_plain(n.kind) {
-            let byte = j + k;
-            copy_into(out, p, &bodies[j..byte]);
-            p += k;
-            j = byte;
+        if k > 0 {
+            let s = put_part(out, p, bodies, i, j, k);
+            p = s.to;
+            j = s.byte;
             continue;
         }
-        let at = begin(out, k, p, q, start);
-        let s = if n.kind < 6 {
-            put_leaf(out, at, n, contents, bodies, i, j)
-        } else {
-            write_item(out, at, lens, layout, f, contents, bodies, i, j)
-        };
-        p = next_head(k, p, s.to);
-        q = next_tail(k, q, s.to);
+        let off = q - start;
+        put_four(out, p, off);
+        p += 4;
+        let s = write_item(out, q, lens, layout, f, contents, bodies, i, j);
+        q = s.to;
         i = s.word;
         j = s.byte;
     }

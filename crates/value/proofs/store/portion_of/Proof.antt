@@ -7,43 +7,23 @@ use Rattle.value.proofs.store.portion_of.Statement.{statement}
 use Rattle.value.proofs.store.portion_of.Tie as tie
 
 abbrev Inv-loop : tie.InvT-loop
-Inv-loop lens layout t a0 step n own a₀ left₀ sum₀ a left sum = Adding lens layout t a0 step n a left sum
+Inv-loop lens layout t a0 step n a₀ left₀ sum₀ a left sum = Adding lens layout t a0 step n a left sum
 
 abbrev μ-loop : tie.MeasureT-loop
-μ-loop lens layout t a0 step n own a₀ left₀ sum₀ a left sum = left
-
-mul-own : tie.Need-mul-own Inv-loop μ-loop
-mul-own c =
-    let c1 = c .before in
-    omega (arith, c1 .pre .0 .few)
-
-element-copy-out-own : tie.Need-element-copy-out-own Inv-loop μ-loop
-element-copy-out-own c =
-    let c1 = c .before in
-    c1 .pre .0 .few
-
-cast-own : tie.Need-cast-own Inv-loop μ-loop
-cast-own c = omega (arith, c .before .before .pre .0 .small)
-
-returns : tie.Need-returns Inv-loop μ-loop
-returns c =
-    let c3 = c .before .before .before in
-    c3 .pre .0 .whole (c .if1 .taken)
+μ-loop lens layout t a0 step n a₀ left₀ sum₀ a left sum = left
 
 shared-portion-requires : tie.Need-shared-portion-requires Inv-loop μ-loop
 shared-portion-requires c κs =
-    let c4 = c .before .before .before .before in
-    (rw (c .if2 .taken) at (c4 .pre .0 .row), rw (c .if2 .taken) at (c4 .pre .1))
+    let p = c .before .before .pre in
+    (rw (c .if1 .taken) at (p .0), rw (c .if1 .taken) at (p .1))
 
-returns-2 : tie.Need-returns-2 Inv-loop μ-loop
-returns-2 c =
+returns : tie.Need-returns Inv-loop μ-loop
+returns c =
     let c1 = c .before in
-    rw (c1 .if2 .taken) (c .shared-portion .ensures)
+    rw (c1 .if1 .taken) (c .shared-portion .ensures)
 
 loop-holds : tie.Need-loop-holds Inv-loop μ-loop
-loop-holds c =
-    let c4 = c .before .before .before .before in
-    adding-none _ _ _ _ _ _ (c4 .pre .0 .row)
+loop-holds c = adding-none _ _ _ _ _ _ (c .before .before .pre .0)
 
 word-in-requires : tie.Need-word-in-requires Inv-loop μ-loop
 word-in-requires c κs =
@@ -74,8 +54,8 @@ add-sum c =
     let c2 = c .before .before in
     let c3 = c2 .before in
     let c4 = c3 .before in
-    let c9 = c4 .before .before .before .before .before in
-    omega (arith, adding-same _ _ _ _ _ _ _ _ _ _ _ (c4 .loop .inv) (c3 .loop-test .taken) (c2 .word-in .ensures .0) (c .width-of .ensures), c9 .pre .1)
+    let c7 = c4 .before .before .before in
+    omega (arith, adding-same _ _ _ _ _ _ _ _ _ _ _ (c4 .loop .inv) (c3 .loop-test .taken) (c2 .word-in .ensures .0) (c .width-of .ensures), c7 .pre .1)
 
 add-a : tie.Need-add-a Inv-loop μ-loop
 add-a c =
@@ -95,8 +75,8 @@ loop-again c =
     let c4 = c3 .before in
     adding-next _ _ _ _ _ _ _ _ _ _ _ (c4 .loop .inv) (c3 .loop-test .taken) (c2 .word-in .ensures .0) (c .width-of .ensures)
 
-returns-3 : tie.Need-returns-3 Inv-loop μ-loop
-returns-3 c =
+returns-2 : tie.Need-returns-2 Inv-loop μ-loop
+returns-2 c =
     let c1 = c .before in
     adding-end _ _ _ _ _ _ _ _ _ (c1 .loop .inv) (c .loop-test .left)
 
@@ -106,12 +86,8 @@ portion-of-spec =
     (tie.spec
     Inv-loop
     μ-loop
-    mul-own
-    element-copy-out-own
-    cast-own
-    returns
     shared-portion-requires
-    returns-2
+    returns
     loop-holds
     word-in-requires
     mul-width-of
@@ -123,4 +99,4 @@ portion-of-spec =
     sub-left
     loop-less
     loop-again
-    returns-3)
+    returns-2)

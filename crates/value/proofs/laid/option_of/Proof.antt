@@ -1,8 +1,8 @@
 -- By the tests. Assumes nothing.
 use borrow.Author.Tests.{lt-ltb, le-ltb}
 use borrow.Author.Needs.{needs}
-use Rattle.value.proofs.measure.option_of.Statement.{statement}
-use Rattle.value.proofs.measure.option_of.Tie as tie
+use Rattle.value.proofs.laid.option_of.Statement.{statement}
+use Rattle.value.proofs.laid.option_of.Tie as tie
 
 get-requires : tie.Need-get-requires
 get-requires c κs = search needs

@@ -1,7 +1,7 @@
 -- By the test. Assumes nothing.
 use borrow.Author.Tests.{eq-eqb, ne-eqb}
-use Rattle.value.proofs.measure.option_at.Statement.{statement}
-use Rattle.value.proofs.measure.option_at.Tie as tie
+use Rattle.value.proofs.laid.option_at.Statement.{statement}
+use Rattle.value.proofs.laid.option_at.Tie as tie
 
 returns : tie.Need-returns
 returns c = rw (eq-eqb _ _ (c .if1 .taken))

@@ -6,8 +6,8 @@ use borrow.Author.Tests.{lt-ltb, le-ltb}
 use Rattle.value.specs.Steps.{choose}
 use Rattle.value.proofs.Selectors.{selector-word, no-refusal, no-option}
 use borrow.Author.Needs.{needs}
-use Rattle.value.proofs.measure.select.Statement.{statement}
-use Rattle.value.proofs.measure.select.Tie as tie
+use Rattle.value.proofs.laid.select.Statement.{statement}
+use Rattle.value.proofs.laid.select.Tie as tie
 
 returns : tie.Need-returns
 unfolding choose
