@@ -9,7 +9,6 @@ use borrow.Author.Tests.{le-leb, lt-leb, leb-true, leb-false}
 use lib.ListN.{length, getD}
 use lib.Dec.{leb}
 use Rattle.standard.specs.Bytes.{wordAt}
-use Rattle.standard.specs.Types.{Tys}
 use Rattle.standard.specs.Parts.{join}
 use Rattle.layout.specs.Tree.{nodeOf, treeOf}
 use Rattle.layout.specs.declared.Node.{Node}
@@ -83,8 +82,3 @@ elements-plain lens l t a m f g z e n d u =
     let k = getD lens f 0 in
     let p = plain-field lens l t a 0 m f g z e k refl n d u in
     λ c b i j. plain-measured lens l t a m c b i j f e k refl p g z
-
-pub all-plain : (ts : Tys) (n : ℕ) (c b : List ℕ) (i j : ℕ) → AllPlain ts n → (r : Measured) → r ≡ measured (withBody b j n (upto i (j + n))) n →
-    r ≡ measured (walkFields ts c b i j) (length (join (partsFrom ts c b i j)))
-unfolding AllPlain
-all-plain ts n c b i j f r e = e ∙ f c b i j

@@ -27,13 +27,13 @@ use Rattle.message.proofs.Rows.{len-head, row-under, row-next, row-head, row-he
 use Rattle.value.specs.Walk.{Walked, upto, wrong, lastBits, walkItem, walkFields}
 use Rattle.value.specs.Write.{wordAfter, byteAfter, bytesAt, withMark, writeItem, partsFrom}
 use Rattle.value.specs.Steps.{IsUpto}
-use Rattle.value.specs.Stores.{Put, Copied, Fields}
+use Rattle.value.specs.Stores.{Put, Fields}
 use Rattle.value.specs.declared.store.Stop.{Stop}
 use Rattle.value.proofs.Walks.{length-bytesAt}
 use Rattle.value.proofs.Leaves.{PartForm, part-need, part-done}
 use Rattle.value.proofs.Unions.{leaf-walk, leaf-write}
 use Rattle.value.proofs.Rows.{fields-walk, fields-parts, none-walk, none-parts}
-use Rattle.value.proofs.Fixed.{onward-first, item-part, row-part, legal-row, row-portion}
+use Rattle.value.proofs.Fixed.{onward-first, item-part, row-portion}
 
 -- n bytes of the bodies.
 pub part-stored : (o : List ℕ) (at : ℕ) (b : List ℕ) (i j n : ℕ) (o′ : List ℕ) → j + n ≤ length b → o′ ≡ sets o at (take (j + n - j) (drop j b)) →
@@ -167,13 +167,14 @@ item-own lens l t c b i j g u z =
 
 -- The loop of `write_fields`: what is left to store gives the whole.
 pub record Writing (lens l : List ℕ) (t step : ℕ) (c b : List ℕ) (start own e : ℕ) (w : Walked) (z o₀ o : List ℕ) (p q a left i j : ℕ) : Type 0 where
+  pub well : IsUpto w
   pub long : length o ≡ length o₀
   pub row : Row lens l t a step left
   pub walk : walkFields (rowOf l t a step left) c b i j ≡ w
   pub room : e ≤ length o
   pub two : Two (partsFrom (rowOf l t a step left) c b i j) o p q start own e z
 
-module _ (lens l : List ℕ) (t step : ℕ) (c b : List ℕ) (start own e : ℕ) (w : Walked) (z o₀ o : List ℕ) (p q a left i j f : ℕ) (u : IsUpto w)
+module _ (lens l : List ℕ) (t step : ℕ) (c b : List ℕ) (start own e : ℕ) (w : Walked) (z o₀ o : List ℕ) (p q a left i j f : ℕ)
     (g : Writing lens l t step c b start own e w z o₀ o p q a left i j) (y : 0 < left) (v : f ≡ wordAt l a) where
   writing-parts : Two (piece (head (treeOf l f)) (writeItem (treeOf l f) c b i j) ∷ partsFrom (rowOf l t (a + step) step (left - 1)) c b
       (wordAfter (walkItem (treeOf l f) c b i j)) (byteAfter (walkItem (treeOf l f) c b i j))) o p q start own e z
@@ -183,7 +184,7 @@ module _ (lens l : List ℕ) (t step : ℕ) (c b : List ℕ) (start own e : ℕ)
       (walkFields (rowOf l t (a + step) step (left - 1)) c b (wordAfter (walkItem (treeOf l f) c b i j)) (byteAfter (walkItem (treeOf l f) c b i j)) ≡ w)
   writing-onward =
       let d = sym (fields-walk lens l t a step left f (g .row) y v c b i j) ∙ g .walk in
-      let r = onward-first (walkItem (treeOf l f) c b i j) (λ m k. walkFields (rowOf l t (a + step) step (left - 1)) c b m k) (rw (← d) at u) in
+      let r = onward-first (walkItem (treeOf l f) c b i j) (λ m k. walkFields (rowOf l t (a + step) step (left - 1)) c b m k) (rw (← d) at (g .well)) in
       (r .0, sym (r .1) ∙ d)
 
   pub writing-upto : IsUpto (walkItem (treeOf l f) c b i j)
@@ -197,6 +198,7 @@ module _ (lens l : List ℕ) (t step : ℕ) (c b : List ℕ) (start own e : ℕ)
   writing-behind r o₁ at o₂ d x p₂ q₂ two =
       let s : length o₂ ≡ length o = put-length o₁ at _ _ r o₂ x ∙ d in
       record {
+        well = g .well;
         long = s ∙ g .long;
         row = row-next lens l t a step left f (g .row) y v;
         walk = rw (x .word, x .byte) (writing-onward .1);
@@ -249,6 +251,7 @@ pub writing-none : (lens l : List ℕ) (t a step n : ℕ) (c b : List ℕ) (i j 
     (walkFields (rowOf l t a step n) c b i j) (sets o start (join (partsFrom (rowOf l t a step n) c b i j))) o o start (start + own) a n i j
 writing-none lens l t a step n c b i j o start own g e =
     record {
+      well = g .walk;
       long = refl;
       row = g .row;
       walk = refl;
@@ -271,13 +274,6 @@ writing-end lens l t step c b start own e w x o₀ o p q a left i j g n h =
     let d = sym (none-walk l t a step left c b i j h) ∙ g .walk in
     let y = two-end o p q start own e (sets o₀ start x) (rw (none-parts l t a step left c b i j h) at (g .two)) in
     record { stored = record { list = y .0; ends = y .1 ∙ n }; word = ap wordAfter d; byte = ap byteAfter d }
-
--- Fields that are all of fixed size are their body bytes.
-pub fields-part : (lens l : List ℕ) (t a step n : ℕ) (c b : List ℕ) (i j : ℕ) (o : List ℕ) (start own : ℕ) → Fields lens l t a step n c b i j o start →
-    own ≡ portion (headsOf l t a step n) → Copied (rowOf l t a step n) →
-    PartForm (walkFields (rowOf l t a step n) c b i j) (join (partsFrom (rowOf l t a step n) c b i j)) b i j own
-fields-part lens l t a step n c b i j o start own g e d =
-    rw e (row-part (rowOf l t a step n) c b i j _ (legal-row lens l t a step n (g .row)) (d .fixed) (d .some) (g .walk))
 
 -- The loop of `portion_of`.
 pub record Adding (lens l : List ℕ) (t a₀ step n a left sum : ℕ) : Type 0 where

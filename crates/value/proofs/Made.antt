@@ -5,20 +5,24 @@ use Prim.Native.Nat.{ℕ, _+_, _<_, _^_}
 use native.Mathlib.Omega.{arith}
 use lib.ListN.{length, getD}
 use Rattle.standard.specs.Bytes.{Room}
+use Rattle.standard.specs.Types.{headAll}
 use Rattle.standard.specs.Parts.{join}
+use Rattle.standard.specs.declared.Head.the-variants.{Fixed}
 use Rattle.standard.specs.declared.Refusal.{Refusal}
 use Rattle.standard.proofs.Store.{stored-then, room-then}
 use Rattle.layout.specs.Tree.{treeOf}
 use Rattle.message.specs.Steps.{Under, Row, rowOf}
 use Rattle.message.proofs.Rows.{under-small}
-use Rattle.value.specs.Walk.{Walked, upto, wrong, walkItem, walkFields}
+use Rattle.value.specs.Walk.{Walked, upto, wrong, withBody, walkItem, walkFields}
 use Rattle.value.specs.Write.{writeItem, partsFrom}
-use Rattle.value.specs.Steps.{measured, selected, IsUpto, AsRow, AsOption, LaidAs}
+use Rattle.value.specs.Steps.{measured, selected, IsUpto, AsRow, AsOption, LaidAs, AllPlain}
 use Rattle.value.specs.Stores.{Put, Fields}
 use Rattle.value.specs.declared.laid.Laid.{Laid}
 use Rattle.value.specs.declared.measure.Measured.{Measured}
 use Rattle.value.specs.declared.store.Stop.{Stop}
 use Rattle.value.proofs.Walks.{selected-item}
+use Rattle.value.proofs.Leaves.{PartForm}
+use Rattle.value.proofs.Fixed.{row-part, legal-row}
 
 pub own-small : (lens l : List ℕ) (t : ℕ) → Under lens l (t + 1) → getD lens t 0 < 2 ^ 32
 own-small lens l t g = under-small lens l (t + 1) g t (omega arith)
@@ -94,6 +98,11 @@ module _ (l : List ℕ) (t : ℕ) (c : List ℕ) (i : ℕ) (b : List ℕ) (j : �
       r ≡ measured (walkFields (rowOf l t a step n) c b p j) (length (join (partsFrom (rowOf l t a step n) c b p j))) → r ≡ ofItem
   row-measured a step n p e r q = let g : AsRow l t c i a step n p = rw e at d in rw (g .walk b j, g .write b j) q
 
+  pub plain-measured : (a step n p : ℕ) → made ≡ Laid.Fields a step n p → (k : ℕ) → AllPlain (rowOf l t a step n) k → (r : Measured) →
+      r ≡ measured (withBody b j k (upto p (j + k))) k → r ≡ ofItem
+  unfolding AllPlain
+  plain-measured a step n p e k f r q = row-measured a step n p e r (q ∙ f c b p j)
+
   pub bare-measured : made ≡ Laid.Bare → Measured.Upto (record { word = i + 1; byte = j; len = 1 }) ≡ ofItem
   bare-measured e = let g : LaidAs l t c i Laid.Bare = rw e at d in rw (g .walk b j, g .write b j)
 
@@ -116,3 +125,12 @@ module _ (l : List ℕ) (t : ℕ) (c : List ℕ) (i : ℕ) (made : Laid) (d : La
 
   pub body-there : (f : ℕ) → made ≡ Laid.Body f → i < length c
   body-there f e = let g : LaidAs l t c i (Laid.Body f) = rw e at d in g .1 .there
+
+  -- A row whose fields are all of fixed size is its body bytes.
+  pub row-all : (b : List ℕ) (j a step n p : ℕ) → made ≡ Laid.Fields a step n p → (lens : List ℕ) → Under lens l (t + 1) →
+      IsUpto (walkItem (treeOf l t) c b i j) → (k : ℕ) → 0 < k → headAll (rowOf l t a step n) ≡ Fixed k →
+      PartForm (walkItem (treeOf l t) c b i j) (writeItem (treeOf l t) c b i j) b p j k
+  row-all b j a step n p e lens u h k z f =
+      let g : AsRow l t c i a step n p = rw e at d in
+      let x = row-part (rowOf l t a step n) c b p j k (legal-row lens l t a step n (g .row lens u)) f z (rw (g .walk b j) at h) in
+      record { walk = g .walk b j ∙ x .walk; write = g .write b j ∙ x .write; there = x .there }

@@ -2,8 +2,7 @@
 -- with a word each. Assumes nothing.
 use mathlib.Core.Path.{_≡_, refl, sym, ap, _∙_}
 use mathlib.Core.List.{List}
-use Prim.Native.Nat.{ℕ, _+_, _*_, _<_, _≤_, _^_}
-use native.Mathlib.Nat.{mul-le-mul-right}
+use Prim.Native.Nat.{ℕ, zero, suc, _+_, _*_, _<_, _≤_, _^_}
 use native.Mathlib.Omega.{arith}
 use borrow.Author.Tests.{lt-ltb, le-ltb, le-leb, lt-leb}
 use lib.ListN.{length, getD}
@@ -13,7 +12,6 @@ use Rattle.standard.specs.Types.{Ty, list, vector, headAll}
 use Rattle.standard.specs.Parts.{join}
 use Rattle.standard.specs.declared.Head.the-variants.{Fixed}
 use Rattle.standard.specs.declared.Refusal.the-variants.{BadValue}
-use Rattle.standard.proofs.Laws.{all-fixed}
 use Rattle.layout.specs.Tree.{nodeOf, treeOf, filled}
 use Rattle.layout.specs.Legal.{Legal}
 use Rattle.layout.specs.declared.Node.{Node}
@@ -25,7 +23,6 @@ use Rattle.message.proofs.Repeats.{else-list, element-below, element-copies, el
 use Rattle.value.specs.Walk.{withWord, walkItem, walkFields}
 use Rattle.value.specs.Write.{writeItem, partsFrom}
 use Rattle.value.specs.Steps.{LaidAs}
-use Rattle.value.specs.Stores.{Copied}
 use Rattle.value.specs.declared.laid.Laid.{Laid}
 use Rattle.value.proofs.Copies.{walk-copies, parts-copies}
 use Rattle.value.proofs.Fixed.{copies-fixed}
@@ -110,13 +107,14 @@ module _ (l : List ℕ) (t : ℕ) (g : Legal l (t + 1)) (f : t < 64) (n : Node) 
                 write = λ b j. list-write (filled l (t + 1)) l t n e under k c b i j kind-list;
               }
 
--- Elements of fixed size, some of them.
-pub elements-copied : (lens l : List ℕ) (t a n f k : ℕ) → Row lens l t a 0 n → 0 < n → f ≡ wordAt l a → k ≡ getD lens f 0 → 0 < k →
-    Copied (rowOf l t a 0 n)
-elements-copied lens l t a n f k g z e q s =
-    let x = row-fixed lens l t a 0 n f g z e k q (λ (h : k ≡ 0). omega arith) in
+-- Elements of fixed size are of their length together.
+some-factor : (n k : ℕ) → 0 < n * k → 0 < k
+some-factor n zero h = absurd (omega arith)
+some-factor n (suc k) h = omega arith
+
+pub elements-fixed : (lens l : List ℕ) (t a n f k : ℕ) → Row lens l t a 0 n → 0 < n → f ≡ wordAt l a → k ≡ getD lens f 0 → 0 < n * k →
+    headAll (rowOf l t a 0 n) ≡ Fixed (n * k)
+elements-fixed lens l t a n f k g z e q s =
+    let x = row-fixed lens l t a 0 n f g z e k q (λ (h : k ≡ 0). omega (arith, some-factor n k s)) in
     let y = shared-copies l t a f e (row-below lens l t a 0 n f g z e) n in
-    let d = ap headAll y ∙ copies-fixed (treeOf l f) k n (sym x) in
-    let p = all-fixed (rowOf l t a 0 n) (n * k) d in
-    let m : 1 ≤ n = omega arith in
-    record { some = rw p (omega (arith, mul-le-mul-right k m)); fixed = d ∙ ap Fixed (sym p) }
+    ap headAll y ∙ copies-fixed (treeOf l f) k n (sym x)

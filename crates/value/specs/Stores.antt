@@ -1,11 +1,9 @@
 -- What the steps that store give. Assumes nothing: these are definitions.
-use Prim.Native.Nat.{ℕ, _<_}
+use Prim.Native.Nat.{ℕ}
 use mathlib.Core.Path.{_≡_}
 use mathlib.Core.List.{List}
 use Rattle.standard.specs.Bytes.{Stored, Room}
-use Rattle.standard.specs.Types.{Tys, headAll, heads, portion}
 use Rattle.standard.specs.Parts.{join}
-use Rattle.standard.specs.declared.Head.the-variants.{Fixed}
 use Rattle.message.specs.Steps.{Row, rowOf}
 use Rattle.value.specs.Walk.{Walked, walkFields}
 use Rattle.value.specs.Write.{wordAfter, byteAfter, partsFrom}
@@ -17,11 +15,6 @@ pub record Put (o : List ℕ) (at : ℕ) (x : List ℕ) (w : Walked) (r : Stop) 
   pub stored : Stored o at x (r .to) o′
   pub word : r .word ≡ wordAfter w
   pub byte : r .byte ≡ byteAfter w
-
--- Some fields that are all of fixed size: what is stored of them is their body bytes.
-pub record Copied (ts : Tys) : Type 0 where
-  pub some : 0 < portion (heads ts)
-  pub fixed : headAll ts ≡ Fixed (portion (heads ts))
 
 -- What storing the n fields that the words from a on name asks: their form is well, and there is room for them. So there is room for
 -- their fixed portion, however many they are.

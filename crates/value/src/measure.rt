@@ -222,45 +222,6 @@ fn with_offset(k: usize, len: usize) -> usize
     if k == 0 { add(4, len) } else { capped(len) }
 }
 
-// Measures the form of an item of the type t, from the contents word i and the body byte j on.
-pub(crate) fn measure_item(
-    lens: &[u32; 64],
-    layout: &[u8],
-    t: usize,
-    contents: &[u32],
-    bodies: &[u8],
-    i: usize,
-    j: usize,
-) -> Measured
-    requires { ⌜ Under (now lens) (now layout) (t + 1) ⌝ }
-    ensures { λ r. ⌜ r ≡ measured (walkItem (treeOf (now (layout .entry)) t) (now (contents .entry)) (now (bodies .entry)) i j) (length (writeItem (treeOf (now (layout .entry)) t) (now (contents .entry)) (now (bodies .entry)) i j)) ⌝ }
-{
-    let n = look_in(layout, t);
-    if n.kind < 6 {
-        return measure_leaf(n, contents, bodies, i, j);
-    }
-    let made = lay(layout, t, n, contents, i);
-    match made {
-        Laid::Fields(first, step, m, word) => {
-            measure_fields(lens, layout, t, first, step, m, contents, bodies, word, j)
-        }
-        Laid::Bare => {
-            let word = i + 1;
-            Measured::Upto(Mark {
-                word,
-                byte: j,
-                len: 1,
-            })
-        }
-        Laid::Body(o) => {
-            let word = i + 1;
-            let r = measure_item(lens, layout, o, contents, bodies, word, j);
-            with_selector(r)
-        }
-        Laid::Wrong(x) => Measured::Wrong(x),
-    }
-}
-
 // How many bytes n elements are, if they are numbers or fixed bytes: those are measured at once. 0 stands for other elements, and for
 // fields.
 fn plain_bytes(lens: &[u32; 64], layout: &[u8], t: usize, a: usize, step: usize, n: usize) -> usize
@@ -281,6 +242,49 @@ fn plain_bytes(lens: &[u32; 64], layout: &[u8], t: usize, a: usize, step: usize,
     0
 }
 
+// Measures the form of an item of the type t, from the contents word i and the body byte j on.
+pub(crate) fn measure_item(
+    lens: &[u32; 64],
+    layout: &[u8],
+    t: usize,
+    contents: &[u32],
+    bodies: &[u8],
+    i: usize,
+    j: usize,
+) -> Measured
+    requires { ⌜ Under (now lens) (now layout) (t + 1) ⌝ }
+    ensures { λ r. ⌜ r ≡ measured (walkItem (treeOf (now (layout .entry)) t) (now (contents .entry)) (now (bodies .entry)) i j) (length (writeItem (treeOf (now (layout .entry)) t) (now (contents .entry)) (now (bodies .entry)) i j)) ⌝ }
+{
+    let n = look_in(layout, t);
+    if n.kind < 6 {
+        return measure_leaf(n, contents, bodies, i, j);
+    }
+    let made = lay(layout, t, n, contents, i);
+    match made {
+        Laid::Fields(first, step, m, word) => {
+            let all = plain_bytes(lens, layout, t, first, step, m);
+            if all > 0 {
+                return measure_exact(bodies, word, j, all);
+            }
+            measure_fields(lens, layout, t, first, step, m, contents, bodies, word, j)
+        }
+        Laid::Bare => {
+            let word = i + 1;
+            Measured::Upto(Mark {
+                word,
+                byte: j,
+                len: 1,
+            })
+        }
+        Laid::Body(o) => {
+            let word = i + 1;
+            let r = measure_item(lens, layout, o, contents, bodies, word, j);
+            with_selector(r)
+        }
+        Laid::Wrong(x) => Measured::Wrong(x),
+    }
+}
+
 // Measures the forms of the n fields of type t that the words from a0 on name, which stand step words apart: 1 for fields, 0 for elements,
 // which share one. Most are numbers or fixed bytes, which need no call, and another kind below 6 has no lower types: only what has lower
 // types is measured as an item.
@@ -296,13 +300,9 @@ fn measure_fields(
     i0: usize,
     j0: usize,
 ) -> Measured
-    requires { ⌜ Row (now lens) (now layout) t a0 step n × (n < 2 ^ 32) ⌝ }
+    requires { ⌜ Row (now lens) (now layout) t a0 step n ⌝ }
     ensures { λ r. ⌜ r ≡ measured (walkFields (rowOf (now (layout .entry)) t a0 step n) (now (contents .entry)) (now (bodies .entry)) i0 j0) (length (join (partsFrom (rowOf (now (layout .entry)) t a0 step n) (now (contents .entry)) (now (bodies .entry)) i0 j0))) ⌝ }
 {
-    let all = plain_bytes(lens, layout, t, a0, step, n);
-    if all > 0 {
-        return measure_exact(bodies, i0, j0, all);
-    }
     let mut sum: usize = 0;
     let mut a = a0;
     let mut left = n;

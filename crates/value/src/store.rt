@@ -8,23 +8,22 @@ use layout::Node;
 use standard::words::put_four;
 ghost use mathlib.Core.Path.{_≡_};
 ghost use mathlib.Core.List.{[], _∷_};
-ghost use mathlib.Core.Bool.{true};
 ghost use Prim.Native.Nat.{_+_, _-_, _/_, _≤_, _<_, _^_};
 ghost use lib.ListN.{length, getD};
 ghost use lib.Seq.{sets};
 ghost use lib.Dec.{eqb};
 ghost use Rattle.standard.specs.Choice.{pick};
 ghost use Rattle.standard.specs.Bytes.{Room};
-ghost use Rattle.standard.specs.Types.{head, width, portion};
+ghost use Rattle.standard.specs.Types.{head, headAll, width, portion};
 ghost use Rattle.standard.specs.Parts.{join};
-ghost use Rattle.standard.specs.declared.Head.the-variants.{Variable};
+ghost use Rattle.standard.specs.declared.Head.the-variants.{Fixed, Variable};
 ghost use Rattle.layout.specs.Tree.{leafOf, treeOf, headOf};
 ghost use Rattle.message.specs.Read.{rawBytes};
 ghost use Rattle.message.specs.Steps.{Under, Row, rowOf, headsOf};
 ghost use Rattle.value.specs.Walk.{upto, lastBits, walkItem, walkFields};
 ghost use Rattle.value.specs.Write.{bytesAt, withMark, writeItem, partsFrom};
 ghost use Rattle.value.specs.Steps.{IsUpto};
-ghost use Rattle.value.specs.Stores.{Put, Copied, Fields};
+ghost use Rattle.value.specs.Stores.{Put, Fields};
 
 // How far the contents and the bodies are used, and where what was written ends.
 pub(crate) struct Stop {
@@ -161,19 +160,19 @@ fn width_of(len: usize) -> usize
     if len == 0 { 4 } else { len }
 }
 
-// Whether there are elements, and each is of fixed size: then all of them are body bytes. Without any, nothing says that those are there.
-fn are_copied(lens: &[u32; 64], layout: &[u8], t: usize, a: usize, step: usize, n: usize) -> bool
-    requires { ⌜ Row (now lens) (now layout) t a step n ⌝ }
-    ensures { λ r. ⌜ (r ≡ true → Copied (rowOf (now (layout .entry)) t a step n)) ⌝ }
+// How many bytes n elements are, if each is of fixed size: those are copied at once. 0 stands for other elements, and for fields.
+fn copied_bytes(lens: &[u32; 64], layout: &[u8], t: usize, a: usize, step: usize, n: usize) -> usize
+    requires { ⌜ Row (now lens) (now layout) t a step n × (n < 2 ^ 32) ⌝ }
+    ensures { λ r. ⌜ (0 < r → headAll (rowOf (now (layout .entry)) t a step n) ≡ Fixed r) ⌝ }
 {
     if step > 0 {
-        return false;
+        return 0;
     }
     if n == 0 {
-        return false;
+        return 0;
     }
     let f = word_in(layout, a);
-    lens[f] > 0
+    n * (lens[f] as usize)
 }
 
 // Stores the item of the type t from at on, whose form starts at the contents word i and the body byte j.
@@ -202,6 +201,10 @@ pub(crate) fn write_item(
     let made = lay(layout, t, n, contents, i);
     match made {
         Laid::Fields(first, step, m, word) => {
+            let all = copied_bytes(lens, layout, t, first, step, m);
+            if all > 0 {
+                return put_part(out, at, bodies, word, j, all);
+            }
             write_fields(
                 out,
                 at,
@@ -231,7 +234,8 @@ pub(crate) fn write_item(
 }
 
 // Stores the n fields of type t that the words from a0 on name, step words apart: each head in the fixed portion, each body of variable
-// size behind it. A field of fixed size is copied without a look at its type.
+// size behind it. A field of fixed size is copied without a look at its type, and a kind below 6 has no lower types: only what has
+// lower types is stored as an item.
 fn write_fields(
     out: &mut [u8],
     start: usize,
@@ -250,9 +254,6 @@ fn write_fields(
     ensures { λ r. ⌜ Put (now (out .entry)) start (join (partsFrom (rowOf (now (layout .entry)) t a0 step n) (now (contents .entry)) (now (bodies .entry)) i0 j0)) (walkFields (rowOf (now (layout .entry)) t a0 step n) (now (contents .entry)) (now (bodies .entry)) i0 j0) r (now (out .exit)) ⌝ }
 {
     let own = portion_of(lens, layout, t, a0, step, n);
-    if are_copied(lens, layout, t, a0, step, n) {
-        return put_part(out, start, bodies, i0, j0, own);
-    }
     let mut p = start;
     let mut q = start + own;
     let mut a = a0;
@@ -273,7 +274,12 @@ fn write_fields(
         let off = q - start;
         put_four(out, p, off);
         p += 4;
-        let s = write_item(out, q, lens, layout, f, contents, bodies, i, j);
+        let n = look_in(layout, f);
+        let s = if n.kind < 6 {
+            put_leaf(out, q, n, contents, bodies, i, j)
+        } else {
+            write_item(out, q, lens, layout, f, contents, bodies, i, j)
+        };
         q = s.to;
         i = s.word;
         j = s.byte;

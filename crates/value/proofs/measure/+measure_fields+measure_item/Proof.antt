@@ -13,8 +13,7 @@ use Rattle.value.specs.Write.{writeItem}
 use Rattle.value.specs.Steps.{measured}
 use Rattle.value.proofs.Rows.{Measuring, measuring-none, measuring-next, measuring-stop, measuring-end}
 use Rattle.value.proofs.Plain.{below-measured, plain-field, measuring-plain, measuring-short}
-use Rattle.value.proofs.Elements.{all-plain}
-use Rattle.value.proofs.Made.{laid-row, laid-below, bare-there, body-there, row-measured, bare-measured, body-measured, wrong-measured}
+use Rattle.value.proofs.Made.{laid-row, laid-below, bare-there, body-there, row-measured, plain-measured, bare-measured, body-measured, wrong-measured}
 use Prim.Native.Nat.{ℕ, _<_}
 use borrow.Fn.Kinds.{In}
 use borrow.Fn.PlainCycle.{Measures, is, falls, and}
@@ -73,19 +72,15 @@ measure-item-below t =
     measure-item.Pre
 
 abbrev measure-fields-Inv-loop : measure-fields-lts.InvT-loop
-measure-fields-Inv-loop lens layout t a0 step n contents bodies i0 j0 all sum₀ a₀ left₀ i₀ j₀ sum a left i j =
+measure-fields-Inv-loop lens layout t a0 step n contents bodies i0 j0 sum₀ a₀ left₀ i₀ j₀ sum a left i j =
     Measuring lens layout t a0 step n contents bodies i0 j0 sum a left i j
 
 abbrev measure-fields-μ-loop : measure-fields-lts.MeasureT-loop
-measure-fields-μ-loop lens layout t a0 step n contents bodies i0 j0 all sum₀ a₀ left₀ i₀ j₀ sum a left i j = left
+measure-fields-μ-loop lens layout t a0 step n contents bodies i0 j0 sum₀ a₀ left₀ i₀ j₀ sum a left i j = left
 
 -- what `measure_fields` calls, at the measure t
 abbrev measure-fields-calls : ℕ → measure-fields-lts.Claims
 measure-fields-calls t = (
-  plain-bytes-reads.Asked,
-  plain-bytes-reads.Learnt,
-  measure-exact-reads.Asked,
-  measure-exact-reads.Learnt,
   word-in-reads.Asked,
   word-in-reads.Learnt,
   look-in-reads.Asked,
@@ -113,6 +108,10 @@ measure-item-calls t = (
   measure-leaf-reads.Learnt,
   lay-reads.Asked,
   lay-reads.Learnt,
+  plain-bytes-reads.Asked,
+  plain-bytes-reads.Learnt,
+  measure-exact-reads.Asked,
+  measure-exact-reads.Learnt,
   measure-fields-below t,
   measure-fields.Post,
   measure-item-below t,
@@ -122,42 +121,25 @@ measure-item-calls t = (
 )
 
 -- What is measured of a field that is not plain, whichever way.
-measure-fields-told : (t : ℕ) → (c : measure-fields-lts.Joined4 (measure-fields-calls t) (measure-fields-at t) measure-fields.Post
+measure-fields-told : (t : ℕ) → (c : measure-fields-lts.Joined3 (measure-fields-calls t) (measure-fields-at t) measure-fields.Post
     measure-fields-Inv-loop measure-fields-μ-loop) →
     let c6 = c .before .before .before .before .before .before in
     let c8 = c6 .before .before in
-    let args = c8 .before .before .before .before .before .before .args in
+    let args = c8 .before .before .before .before .args in
     let tree = treeOf (args .layout .now) (c6 .word-in .result) in
-    c .if4 .r ≡ measured (walkItem tree (args .contents .now) (args .bodies .now) (c8 .loop .i) (c8 .loop .j))
+    c .if3 .r ≡ measured (walkItem tree (args .contents .now) (args .bodies .now) (c8 .loop .i) (c8 .loop .j))
     (length (writeItem tree (args .contents .now) (args .bodies .now) (c8 .loop .i) (c8 .loop .j)))
 measure-fields-told t c =
     ⊎-elim
     (λ h. h .2 ∙ below-measured _ _ _ (c .before .before .before .before .before .look-in .ensures) (h .0 .taken) _ _ _ _ _ (h .1 .ensures))
     (λ h. h .2 ∙ h .1 .ensures)
-    (c .if4 .came)
-
-measure-fields-plain-bytes-requires : (t : ℕ) → measure-fields-lts.Need-plain-bytes-requires (measure-fields-calls t) (measure-fields-at t)
-    measure-fields.Post measure-fields-Inv-loop measure-fields-μ-loop
-measure-fields-plain-bytes-requires t c κs =
-    let c3 = c .before .before .before in
-    c3 .pre .1
-
-measure-fields-measure-exact-requires : (t : ℕ) → measure-fields-lts.Need-measure-exact-requires (measure-fields-calls t) (measure-fields-at t)
-    measure-fields.Post measure-fields-Inv-loop measure-fields-μ-loop
-measure-fields-measure-exact-requires t c κs = search needs
-
-measure-fields-returns : (t : ℕ) → measure-fields-lts.Need-returns (measure-fields-calls t) (measure-fields-at t) measure-fields.Post
-    measure-fields-Inv-loop measure-fields-μ-loop
-measure-fields-returns t c =
-    let c1 = c .before in
-    let c2 = c1 .before in
-    all-plain _ _ _ _ _ _ (c2 .plain-bytes .ensures (c1 .if1 .taken)) _ (c .measure-exact .ensures)
+    (c .if3 .came)
 
 measure-fields-loop-holds : (t : ℕ) → measure-fields-lts.Need-loop-holds (measure-fields-calls t) (measure-fields-at t) measure-fields.Post
     measure-fields-Inv-loop measure-fields-μ-loop
 measure-fields-loop-holds t c =
-    let c5 = c .before .before .before .before .before in
-    measuring-none _ _ _ _ _ _ _ _ _ _ (c5 .pre .1 .0)
+    let c3 = c .before .before .before in
+    measuring-none _ _ _ _ _ _ _ _ _ _ (c3 .pre .1)
 
 measure-fields-word-in-requires : (t : ℕ) → measure-fields-lts.Need-word-in-requires (measure-fields-calls t) (measure-fields-at t) measure-fields.Post
     measure-fields-Inv-loop measure-fields-μ-loop
@@ -212,9 +194,9 @@ measure-fields-has-requires : (t : ℕ) → measure-fields-lts.Need-has-requires
     measure-fields-Inv-loop measure-fields-μ-loop
 measure-fields-has-requires t c κs = search needs
 
-measure-fields-returns-2 : (t : ℕ) → measure-fields-lts.Need-returns-2 (measure-fields-calls t) (measure-fields-at t) measure-fields.Post
+measure-fields-returns : (t : ℕ) → measure-fields-lts.Need-returns (measure-fields-calls t) (measure-fields-at t) measure-fields.Post
     measure-fields-Inv-loop measure-fields-μ-loop
-measure-fields-returns-2 t c =
+measure-fields-returns t c =
     let c1 = c .before in
     let c2 = c1 .before in
     let c3 = c2 .before in
@@ -224,7 +206,7 @@ measure-fields-returns-2 t c =
     let c8 = c7 .before in
     measuring-short _ _ _ _ _ _ _ _ _ _ _ _ _ _ _ _ (c8 .loop .inv) (c7 .loop-test .taken) (c6 .word-in .ensures .0) _ refl
     (plain-field _ _ _ _ _ _ _ (c8 .loop .inv .row) (c7 .loop-test .taken) (c6 .word-in .ensures .0) _ refl _ (c5 .look-in .ensures)
-    (sym (c3 .is-plain .ensures) ∙ c2 .if2 .taken)) (sym (c1 .has .ensures) ∙ not-true (c1 .has .result) (c .if3 .taken))
+    (sym (c3 .is-plain .ensures) ∙ c2 .if1 .taken)) (sym (c1 .has .ensures) ∙ not-true (c1 .has .result) (c .if2 .taken))
 
 measure-fields-add-j : (t : ℕ) → measure-fields-lts.Need-add-j (measure-fields-calls t) (measure-fields-at t) measure-fields.Post
     measure-fields-Inv-loop measure-fields-μ-loop
@@ -232,10 +214,10 @@ measure-fields-add-j t c =
     let c1 = c .before in
     let c6 = c1 .before .before .before .before .before in
     let c8 = c6 .before .before in
-    let c14 = c8 .before .before .before .before .before .before in
-    let there = leb-true (c8 .loop .j + getD (c14 .args .lens .now) (c6 .word-in .result) 0) (length (c14 .args .bodies .now))
-    (sym (c1 .has .ensures) ∙ not-false (c1 .has .result) (c .if3 .left)) in
-    omega (arith, there, c14 .good)
+    let c12 = c8 .before .before .before .before in
+    let there = leb-true (c8 .loop .j + getD (c12 .args .lens .now) (c6 .word-in .result) 0) (length (c12 .args .bodies .now))
+    (sym (c1 .has .ensures) ∙ not-false (c1 .has .result) (c .if2 .left)) in
+    omega (arith, there, c12 .good)
 
 measure-fields-add-requires : (t : ℕ) → measure-fields-lts.Need-add-requires (measure-fields-calls t) (measure-fields-at t) measure-fields.Post
     measure-fields-Inv-loop measure-fields-μ-loop
@@ -259,7 +241,7 @@ measure-fields-loop-again t c =
     rw (c .add .ensures)
     (measuring-plain _ _ _ _ _ _ _ _ _ _ _ _ _ _ _ _ (c9 .loop .inv) (c8 .loop-test .taken) (c7 .word-in .ensures .0) _ refl
     (plain-field _ _ _ _ _ _ _ (c9 .loop .inv .row) (c8 .loop-test .taken) (c7 .word-in .ensures .0) _ refl _ (c6 .look-in .ensures)
-    (sym (c4 .is-plain .ensures) ∙ c3 .if2 .taken)) (sym (c2 .has .ensures) ∙ not-false (c2 .has .result) (c1 .if3 .left)))
+    (sym (c4 .is-plain .ensures) ∙ c3 .if1 .taken)) (sym (c2 .has .ensures) ∙ not-false (c2 .has .result) (c1 .if2 .left)))
 
 measure-fields-measure-leaf-requires : (t : ℕ) → measure-fields-lts.Need-measure-leaf-requires (measure-fields-calls t) (measure-fields-at t)
     measure-fields.Post measure-fields-Inv-loop measure-fields-μ-loop
@@ -271,8 +253,8 @@ measure-fields-measure-item-requires t c κs =
     let c6 = c .before .before .before .before .before .before in
     let c7 = c6 .before in
     let c8 = c7 .before in
-    let c14 = c8 .before .before .before .before .before .before in (
-      omega (arith, row-below _ _ _ _ _ _ _ (c8 .loop .inv .row) (c7 .loop-test .taken) (c6 .word-in .ensures .0), c14 .pre .0),
+    let c12 = c8 .before .before .before .before in (
+      omega (arith, row-below _ _ _ _ _ _ _ (c8 .loop .inv .row) (c7 .loop-test .taken) (c6 .word-in .ensures .0), c12 .pre .0),
       row-under _ _ _ _ _ _ _
           (c8 .loop .inv .row) (c7 .loop-test .taken) (c6 .word-in .ensures .0),
     )
@@ -310,9 +292,9 @@ measure-fields-enum-known-r-2 : (t : ℕ) → measure-fields-lts.Need-enum-known
     measure-fields-Inv-loop measure-fields-μ-loop
 measure-fields-enum-known-r-2 t c = search needs
 
-measure-fields-returns-3 : (t : ℕ) → measure-fields-lts.Need-returns-3 (measure-fields-calls t) (measure-fields-at t) measure-fields.Post
+measure-fields-returns-2 : (t : ℕ) → measure-fields-lts.Need-returns-2 (measure-fields-calls t) (measure-fields-at t) measure-fields.Post
     measure-fields-Inv-loop measure-fields-μ-loop
-measure-fields-returns-3 t c =
+measure-fields-returns-2 t c =
     let c1 = c .before in
     let c3 = c1 .before .before in
     let c9 = c3 .before .before .before .before .before .before in
@@ -321,9 +303,9 @@ measure-fields-returns-3 t c =
     measuring-stop _ _ _ _ _ _ _ _ _ _ _ _ _ _ _ _ (c11 .loop .inv) (c10 .loop-test .taken) (c9 .word-in .ensures .0) _
     (sym (c1 .r2 .given .1) ∙ measure-fields-told t c3)
 
-measure-fields-returns-4 : (t : ℕ) → measure-fields-lts.Need-returns-4 (measure-fields-calls t) (measure-fields-at t) measure-fields.Post
+measure-fields-returns-3 : (t : ℕ) → measure-fields-lts.Need-returns-3 (measure-fields-calls t) (measure-fields-at t) measure-fields.Post
     measure-fields-Inv-loop measure-fields-μ-loop
-measure-fields-returns-4 t c =
+measure-fields-returns-3 t c =
     let c1 = c .before in
     measuring-end _ _ _ _ _ _ _ _ _ _ _ _ _ _ _ (c1 .loop .inv) (c .loop-test .left)
 
@@ -350,12 +332,30 @@ measure-item-lay-requires t c κs =
 measure-item-enum-known-made : (t : ℕ) → measure-item-lts.Need-enum-known-made (measure-item-calls t) (measure-item-at t) measure-item.Post
 measure-item-enum-known-made t c = search needs
 
-measure-item-measure-fields-requires : (t : ℕ) → measure-item-lts.Need-measure-fields-requires (measure-item-calls t) (measure-item-at t) measure-item.Post
-measure-item-measure-fields-requires t c κs =
+measure-item-plain-bytes-requires : (t : ℕ) → measure-item-lts.Need-plain-bytes-requires (measure-item-calls t) (measure-item-at t) measure-item.Post
+measure-item-plain-bytes-requires t c κs =
     let c1 = c .before in
     let c3 = c1 .before .before in
     let c10 = c3 .before .before .before .before .before .before .before in
-    (omega (arith, c10 .pre .0), laid-row _ _ _ _ _ (c3 .lay .ensures) _ (c10 .pre .1) _ _ _ _ (c1 .made .given .1))
+    laid-row _ _ _ _ _ (c3 .lay .ensures) _ (c10 .pre .1) _ _ _ _ (c1 .made .given .1)
+
+measure-item-measure-exact-requires : (t : ℕ) → measure-item-lts.Need-measure-exact-requires (measure-item-calls t) (measure-item-at t) measure-item.Post
+measure-item-measure-exact-requires t c κs = search needs
+
+measure-item-returns-2 : (t : ℕ) → measure-item-lts.Need-returns-2 (measure-item-calls t) (measure-item-at t) measure-item.Post
+measure-item-returns-2 t c =
+    let c1 = c .before in
+    let c2 = c1 .before in
+    let c4 = c2 .before .before in
+    let c6 = c4 .before .before in
+    plain-measured _ _ _ _ _ _ _ (c6 .lay .ensures) _ _ _ _ (c4 .made .given .1) _ (c2 .plain-bytes .ensures (c1 .if2 .taken)) _ (c .measure-exact .ensures)
+
+measure-item-measure-fields-requires : (t : ℕ) → measure-item-lts.Need-measure-fields-requires (measure-item-calls t) (measure-item-at t) measure-item.Post
+measure-item-measure-fields-requires t c κs =
+    let c3 = c .before .before .before in
+    let c5 = c3 .before .before in
+    let c12 = c5 .before .before .before .before .before .before .before in
+    (omega (arith, c12 .pre .0), laid-row _ _ _ _ _ (c5 .lay .ensures) _ (c12 .pre .1) _ _ _ _ (c3 .made .given .1) .0)
 
 measure-item-enum-told : (t : ℕ) → measure-item-lts.Need-enum-told (measure-item-calls t) (measure-item-at t) measure-item.Post
 measure-item-enum-told t c = search needs
@@ -390,26 +390,26 @@ measure-item-with-selector-requires t c κs = search needs
 measure-item-enum-known-made-3 : (t : ℕ) → measure-item-lts.Need-enum-known-made-3 (measure-item-calls t) (measure-item-at t) measure-item.Post
 measure-item-enum-known-made-3 t c = search needs
 
-measure-item-returns-2 : (t : ℕ) → measure-item-lts.Need-returns-2 (measure-item-calls t) (measure-item-at t) measure-item.Post
-measure-item-returns-2 t c =
-    let c2 = c .before .before in
-    let c4 = c2 .before .before in
-    row-measured _ _ _ _ _ _ _ (c4 .lay .ensures) _ _ _ _ (c2 .made .given .1) _ (c .measure-fields .ensures)
-
 measure-item-returns-3 : (t : ℕ) → measure-item-lts.Need-returns-3 (measure-item-calls t) (measure-item-at t) measure-item.Post
 measure-item-returns-3 t c =
-    let c2 = c .before .before in
-    bare-measured _ _ _ _ _ _ _ (c2 .lay .ensures) (c .enum-told .given .1)
+    let c4 = c .before .before .before .before in
+    let c6 = c4 .before .before in
+    row-measured _ _ _ _ _ _ _ (c6 .lay .ensures) _ _ _ _ (c4 .made .given .1) _ (c .measure-fields .ensures)
 
 measure-item-returns-4 : (t : ℕ) → measure-item-lts.Need-returns-4 (measure-item-calls t) (measure-item-at t) measure-item.Post
 measure-item-returns-4 t c =
+    let c2 = c .before .before in
+    bare-measured _ _ _ _ _ _ _ (c2 .lay .ensures) (c .enum-told .given .1)
+
+measure-item-returns-5 : (t : ℕ) → measure-item-lts.Need-returns-5 (measure-item-calls t) (measure-item-at t) measure-item.Post
+measure-item-returns-5 t c =
     let c1 = c .before in
     let c3 = c1 .before .before in
     let c5 = c3 .before .before in
     body-measured _ _ _ _ _ _ _ (c5 .lay .ensures) _ (c3 .made2 .given .1) _ _ (c .with-selector .ensures) (c1 .measure-item .ensures)
 
-measure-item-returns-5 : (t : ℕ) → measure-item-lts.Need-returns-5 (measure-item-calls t) (measure-item-at t) measure-item.Post
-measure-item-returns-5 t c =
+measure-item-returns-6 : (t : ℕ) → measure-item-lts.Need-returns-6 (measure-item-calls t) (measure-item-at t) measure-item.Post
+measure-item-returns-6 t c =
     let c1 = c .before in
     let c3 = c1 .before .before in
     wrong-measured _ _ _ _ _ _ _ (c3 .lay .ensures) _ (c1 .made3 .given .1)
@@ -421,9 +421,6 @@ pub +measure-fields+measure-item-spec : {M : Type 1} → statement M
     measure-fields.Post
     measure-fields-Inv-loop
     measure-fields-μ-loop
-    (measure-fields-plain-bytes-requires t)
-    (measure-fields-measure-exact-requires t)
-    (measure-fields-returns t)
     (measure-fields-loop-holds t)
     (measure-fields-word-in-requires t)
     (measure-fields-look-in-requires t)
@@ -434,7 +431,7 @@ pub +measure-fields+measure-item-spec : {M : Type 1} → statement M
     (measure-fields-sub-left t)
     (measure-fields-is-plain-requires t)
     (measure-fields-has-requires t)
-    (measure-fields-returns-2 t)
+    (measure-fields-returns t)
     (measure-fields-add-j t)
     (measure-fields-add-requires t)
     (measure-fields-loop-less t)
@@ -447,8 +444,8 @@ pub +measure-fields+measure-item-spec : {M : Type 1} → statement M
     (measure-fields-loop-less-2 t)
     (measure-fields-loop-again-2 t)
     (measure-fields-enum-known-r-2 t)
-    (measure-fields-returns-3 t)
-    (measure-fields-returns-4 t))
+    (measure-fields-returns-2 t)
+    (measure-fields-returns-3 t))
     λ t. measure-item-lts.spec (measure-item-calls t)
     (measure-item-at t)
     measure-item.Post
@@ -457,6 +454,9 @@ pub +measure-fields+measure-item-spec : {M : Type 1} → statement M
     (measure-item-returns t)
     (measure-item-lay-requires t)
     (measure-item-enum-known-made t)
+    (measure-item-plain-bytes-requires t)
+    (measure-item-measure-exact-requires t)
+    (measure-item-returns-2 t)
     (measure-item-measure-fields-requires t)
     (measure-item-enum-told t)
     (measure-item-add-word t)
@@ -465,7 +465,7 @@ pub +measure-fields+measure-item-spec : {M : Type 1} → statement M
     (measure-item-measure-item-requires t)
     (measure-item-with-selector-requires t)
     (measure-item-enum-known-made-3 t)
-    (measure-item-returns-2 t)
     (measure-item-returns-3 t)
     (measure-item-returns-4 t)
     (measure-item-returns-5 t)
+    (measure-item-returns-6 t)

@@ -7,13 +7,13 @@ use lib.Seq.{sets}
 use lib.ListN.{length}
 use Rattle.standard.specs.Parts.{join}
 use Rattle.message.specs.Steps.{rowOf}
-use Rattle.message.proofs.Rows.{row-there, row-below, row-under, row-small, row-few, under-below}
+use Rattle.message.proofs.Rows.{row-there, row-legal, row-below, row-under, row-small, row-few, under-below}
 use Rattle.value.specs.Walk.{walkFields}
 use Rattle.value.specs.Write.{partsFrom}
 use Rattle.value.proofs.Leaves.{part-need, part-done}
-use Rattle.value.proofs.Fills.{Writing, item-own, writing-none, writing-upto, writing-there, writing-fixed, writing-offset, writing-room, writing-next, writing-end, fields-fit, fields-part}
+use Rattle.value.proofs.Fills.{Writing, item-own, writing-none, writing-upto, writing-there, writing-fixed, writing-offset, writing-room, writing-next, writing-end, fields-fit}
 use Rattle.value.proofs.Plain.{below-asked, below-put}
-use Rattle.value.proofs.Made.{own-small, laid-below, row-ready, row-done, bare-need, bare-done, body-need, body-ready, body-done, wrong-never}
+use Rattle.value.proofs.Made.{own-small, laid-below, laid-row, row-ready, row-done, row-all, bare-need, bare-done, body-need, body-ready, body-done, wrong-never}
 use Prim.Native.Nat.{ℕ, _<_}
 use borrow.Fn.Kinds.{In}
 use borrow.Fn.PlainCycle.{Measures, is, falls, and}
@@ -25,7 +25,7 @@ use Rattle.value.proofs.store.write_item.Kinds as write-item-kinds
 use Rattle.value.proofs.store.+write_fields+write_item.Lts-write_item as write-item-lts
 use Rattle.standard.proofs.words.put_four.Reads as put-four-reads
 use Rattle.value.proofs.laid.lay.Reads as lay-reads
-use Rattle.value.proofs.store.are_copied.Reads as are-copied-reads
+use Rattle.value.proofs.store.copied_bytes.Reads as copied-bytes-reads
 use Rattle.value.proofs.store.portion_of.Reads as portion-of-reads
 use Rattle.value.proofs.store.put_leaf.Reads as put-leaf-reads
 use Rattle.value.proofs.store.put_part.Reads as put-part-reads
@@ -75,14 +75,16 @@ abbrev write-fields-calls : ℕ → write-fields-lts.Claims
 write-fields-calls t = (
   portion-of-reads.Asked,
   portion-of-reads.Learnt,
-  are-copied-reads.Asked,
-  are-copied-reads.Learnt,
-  put-part-reads.Asked,
-  put-part-reads.Learnt,
   word-in-reads.Asked,
   word-in-reads.Learnt,
+  put-part-reads.Asked,
+  put-part-reads.Learnt,
   put-four-reads.Asked,
   put-four-reads.Learnt,
+  look-in-reads.Asked,
+  look-in-reads.Learnt,
+  put-leaf-reads.Asked,
+  put-leaf-reads.Learnt,
   write-item-below t,
   write-item.Post,
 )
@@ -98,6 +100,8 @@ write-item-calls t = (
   put-leaf-reads.Learnt,
   lay-reads.Asked,
   lay-reads.Learnt,
+  copied-bytes-reads.Asked,
+  copied-bytes-reads.Learnt,
   write-fields-below t,
   write-fields.Post,
   put-selector-reads.Asked,
@@ -112,50 +116,17 @@ write-fields-portion-of-requires t c κs =
     let c4 = c .before .before .before .before in
     (c4 .pre .1 .row, omega (arith, fields-fit _ _ _ _ _ _ _ _ _ _ _ _ _ (c4 .pre .1) refl, c4 .good))
 
-write-fields-are-copied-requires : (t : ℕ) → write-fields-lts.Need-are-copied-requires (write-fields-calls t) (write-fields-at t) write-fields.Post
-    write-fields-Inv-loop write-fields-μ-loop
-write-fields-are-copied-requires t c κs =
-    let c5 = c .before .before .before .before .before in
-    c5 .pre .1 .row
-
-write-fields-put-part-requires : (t : ℕ) → write-fields-lts.Need-put-part-requires (write-fields-calls t) (write-fields-at t) write-fields.Post
-    write-fields-Inv-loop write-fields-μ-loop
-write-fields-put-part-requires t c κs =
-    let c1 = c .before in
-    let c2 = c1 .before in
-    let c3 = c2 .before in
-    let c8 = c3 .before .before .before .before .before in
-    part-need _ _ _ _ _ _ _ _ (fields-part _ _ _ _ _ _ _ _ _ _ _ _ _ (c8 .pre .1) (c3 .portion-of .ensures) (c2 .are-copied .ensures (c1 .if1 .taken)))
-    (c8 .pre .1 .room)
-
-write-fields-same-length : (t : ℕ) → write-fields-lts.Need-same-length (write-fields-calls t) (write-fields-at t) write-fields.Post
-    write-fields-Inv-loop write-fields-μ-loop
-write-fields-same-length t c = search needs
-
-write-fields-returns : (t : ℕ) → write-fields-lts.Need-returns (write-fields-calls t) (write-fields-at t) write-fields.Post
-    write-fields-Inv-loop write-fields-μ-loop
-write-fields-returns t c =
-    let c2 = c .before .before in
-    let c4 = c2 .before .before in
-    let c5 = c4 .before in
-    let c6 = c5 .before in
-    let c11 = c6 .before .before .before .before .before in
-    part-done _ _ _ _ _ _ _ _ (fields-part _ _ _ _ _ _ _ _ _ _ _ _ _ (c11 .pre .1) (c6 .portion-of .ensures) (c5 .are-copied .ensures (c4 .if1 .taken))) _ _
-    (c2 .put-part .ensures)
-
 write-fields-add-q : (t : ℕ) → write-fields-lts.Need-add-q (write-fields-calls t) (write-fields-at t) write-fields.Post
     write-fields-Inv-loop write-fields-μ-loop
 write-fields-add-q t c =
-    let c2 = c .before .before in
-    let c7 = c2 .before .before .before .before .before in
-    omega (arith, fields-fit _ _ _ _ _ _ _ _ _ _ _ _ _ (c7 .pre .1) (c2 .portion-of .ensures), c7 .good)
+    let c5 = c .before .before .before .before .before in
+    omega (arith, fields-fit _ _ _ _ _ _ _ _ _ _ _ _ _ (c5 .pre .1) (c .portion-of .ensures), c5 .good)
 
 write-fields-loop-holds : (t : ℕ) → write-fields-lts.Need-loop-holds (write-fields-calls t) (write-fields-at t) write-fields.Post
     write-fields-Inv-loop write-fields-μ-loop
 write-fields-loop-holds t c =
-    let c2 = c .before .before in
-    let c7 = c2 .before .before .before .before .before in
-    writing-none _ _ _ _ _ _ _ _ _ _ _ _ _ (c7 .pre .1) (c2 .portion-of .ensures)
+    let c5 = c .before .before .before .before .before in
+    writing-none _ _ _ _ _ _ _ _ _ _ _ _ _ (c5 .pre .1) (c .portion-of .ensures)
 
 write-fields-word-in-requires : (t : ℕ) → write-fields-lts.Need-word-in-requires (write-fields-calls t) (write-fields-at t) write-fields.Post
     write-fields-Inv-loop write-fields-μ-loop
@@ -192,16 +163,14 @@ write-fields-sub-left : (t : ℕ) → write-fields-lts.Need-sub-left (write-fiel
     write-fields-Inv-loop write-fields-μ-loop
 write-fields-sub-left t c = omega arith
 
-write-fields-put-part-requires-2 : (t : ℕ) → write-fields-lts.Need-put-part-requires-2 (write-fields-calls t) (write-fields-at t) write-fields.Post
+write-fields-put-part-requires : (t : ℕ) → write-fields-lts.Need-put-part-requires (write-fields-calls t) (write-fields-at t) write-fields.Post
     write-fields-Inv-loop write-fields-μ-loop
-write-fields-put-part-requires-2 t c κs =
+write-fields-put-part-requires t c κs =
     let c1 = c .before in
     let c3 = c1 .before .before in
     let c4 = c3 .before in
     let c5 = c4 .before in
-    let c13 = c5 .before .before .before .before .before .before .before .before in
-    writing-there _ _ _ _ _ _ _ _ _ _ _ _ _ _ _ _ _ _ _ _ (c13 .pre .1 .walk) (c5 .loop .inv) (c4 .loop-test .taken) (c3 .word-in .ensures .0) _ refl
-    (c1 .if2 .taken)
+    writing-there _ _ _ _ _ _ _ _ _ _ _ _ _ _ _ _ _ _ _ _ (c5 .loop .inv) (c4 .loop-test .taken) (c3 .word-in .ensures .0) _ refl (c1 .if1 .taken)
 
 write-fields-loop-less : (t : ℕ) → write-fields-lts.Need-loop-less (write-fields-calls t) (write-fields-at t) write-fields.Post
     write-fields-Inv-loop write-fields-μ-loop
@@ -215,9 +184,8 @@ write-fields-loop-again t c =
     let c6 = c4 .before .before in
     let c7 = c6 .before in
     let c8 = c7 .before in
-    let c16 = c8 .before .before .before .before .before .before .before .before in
-    writing-fixed _ _ _ _ _ _ _ _ _ _ _ _ _ _ _ _ _ _ _ _ (c16 .pre .1 .walk) (c8 .loop .inv) (c7 .loop-test .taken) (c6 .word-in .ensures .0) _ refl
-    (c4 .if2 .taken) _ _ (c2 .put-part2 .ensures)
+    writing-fixed _ _ _ _ _ _ _ _ _ _ _ _ _ _ _ _ _ _ _ _ (c8 .loop .inv) (c7 .loop-test .taken) (c6 .word-in .ensures .0) _ refl (c4 .if1 .taken) _ _
+    (c2 .put-part .ensures)
 
 write-fields-sub-off : (t : ℕ) → write-fields-lts.Need-sub-off (write-fields-calls t) (write-fields-at t) write-fields.Post
     write-fields-Inv-loop write-fields-μ-loop
@@ -225,12 +193,8 @@ write-fields-sub-off t c =
     let c2 = c .before .before in
     let c3 = c2 .before in
     let c4 = c3 .before in
-    let c12 = c4 .before .before .before .before .before .before .before .before in
-    omega (
-      arith,
-      writing-offset _ _ _ _ _ _ _ _ _ _ _ _ _ _ _ _ _ _ _ _ (c12 .pre .1 .walk) (c4 .loop .inv) (c3 .loop-test .taken) (c2 .word-in .ensures .0) _ refl
-          (c .if2 .left) .0,
-    )
+    omega
+    (arith, writing-offset _ _ _ _ _ _ _ _ _ _ _ _ _ _ _ _ _ _ _ _ (c4 .loop .inv) (c3 .loop-test .taken) (c2 .word-in .ensures .0) _ refl (c .if1 .left) .0)
 
 write-fields-put-four-requires : (t : ℕ) → write-fields-lts.Need-put-four-requires (write-fields-calls t) (write-fields-at t) write-fields.Post
     write-fields-Inv-loop write-fields-μ-loop
@@ -243,30 +207,55 @@ write-fields-add-p t c =
     let c6 = c4 .before .before in
     let c7 = c6 .before in
     let c8 = c7 .before in
-    let c16 = c8 .before .before .before .before .before .before .before .before in
+    let c14 = c8 .before .before .before .before .before .before in
     omega (
       arith,
-      writing-offset _ _ _ _ _ _ _ _ _ _ _ _ _ _ _ _ _ _ _ _ (c16 .pre .1 .walk) (c8 .loop .inv) (c7 .loop-test .taken) (c6 .word-in .ensures .0) _ refl
-          (c4 .if2 .left) .1,
+      writing-offset _ _ _ _ _ _ _ _ _ _ _ _ _ _ _ _ _ _ _ _ (c8 .loop .inv) (c7 .loop-test .taken) (c6 .word-in .ensures .0) _ refl (c4 .if1 .left) .1,
       c8 .loop .inv .long,
-      c16 .good,
+      c14 .good,
     )
+
+write-fields-look-in-requires : (t : ℕ) → write-fields-lts.Need-look-in-requires (write-fields-calls t) (write-fields-at t) write-fields.Post
+    write-fields-Inv-loop write-fields-μ-loop
+write-fields-look-in-requires t c κs =
+    let c6 = c .before .before .before .before .before .before in
+    let c7 = c6 .before in
+    let c8 = c7 .before in
+    row-legal _ _ _ _ _ _ _ (c8 .loop .inv .row) (c7 .loop-test .taken) (c6 .word-in .ensures .0)
+
+write-fields-put-leaf-requires : (t : ℕ) → write-fields-lts.Need-put-leaf-requires (write-fields-calls t) (write-fields-at t) write-fields.Post
+    write-fields-Inv-loop write-fields-μ-loop
+write-fields-put-leaf-requires t c κs =
+    let c1 = c .before in
+    let c3 = c1 .before .before in
+    let c6 = c3 .before .before .before in
+    let c8 = c6 .before .before in
+    let c10 = c8 .before .before in
+    let c11 = c10 .before in
+    let c12 = c11 .before in
+    let room = writing-room _ _ _ _ _ _ _ _ _ _ _ _ _ _ _ _ _ _ _ _ (c12 .loop .inv) (c11 .loop-test .taken) (c10 .word-in .ensures .0) _ refl (c8 .if1 .left)
+    _ (c6 .put-four .ensures) in
+    below-asked _ _ _ (c3 .look-in .ensures) (c1 .if2 .taken) _ _ _ _ _ _ _
+    (row-under _ _ _ _ _ _ _ (c12 .loop .inv .row) (c11 .loop-test .taken) (c10 .word-in .ensures .0)) (c8 .if1 .left)
+    (writing-upto _ _ _ _ _ _ _ _ _ _ _ _ _ _ _ _ _ _ _ _ (c12 .loop .inv) (c11 .loop-test .taken) (c10 .word-in .ensures .0)) room
 
 write-fields-write-item-requires : (t : ℕ) → write-fields-lts.Need-write-item-requires (write-fields-calls t) (write-fields-at t) write-fields.Post
     write-fields-Inv-loop write-fields-μ-loop
 write-fields-write-item-requires t c κs =
-    let c3 = c .before .before .before in
-    let c5 = c3 .before .before in
-    let c7 = c5 .before .before in
-    let c8 = c7 .before in
-    let c9 = c8 .before in
-    let c17 = c9 .before .before .before .before .before .before .before .before in (
-      omega (arith, row-below _ _ _ _ _ _ _ (c9 .loop .inv .row) (c8 .loop-test .taken) (c7 .word-in .ensures .0), c17 .pre .0),
+    let c6 = c .before .before .before .before .before .before in
+    let c8 = c6 .before .before in
+    let c10 = c8 .before .before in
+    let c11 = c10 .before in
+    let c12 = c11 .before in
+    let c18 = c12 .before .before .before .before .before .before in
+    let room = writing-room _ _ _ _ _ _ _ _ _ _ _ _ _ _ _ _ _ _ _ _ (c12 .loop .inv) (c11 .loop-test .taken) (c10 .word-in .ensures .0) _ refl (c8 .if1 .left)
+    _ (c6 .put-four .ensures) in (
+      omega (arith, row-below _ _ _ _ _ _ _ (c12 .loop .inv .row) (c11 .loop-test .taken) (c10 .word-in .ensures .0), c18 .pre .0),
       (
-        row-under _ _ _ _ _ _ _ (c9 .loop .inv .row) (c8 .loop-test .taken) (c7 .word-in .ensures .0),
-        writing-upto _ _ _ _ _ _ _ _ _ _ _ _ _ _ _ _ _ _ _ _ (c17 .pre .1 .walk) (c9 .loop .inv) (c8 .loop-test .taken) (c7 .word-in .ensures .0),
-        writing-room _ _ _ _ _ _ _ _ _ _ _ _ _ _ _ _ _ _ _ _ (c17 .pre .1 .walk) (c9 .loop .inv) (c8 .loop-test .taken) (c7 .word-in .ensures .0) _ refl
-            (c5 .if2 .left) _ (c3 .put-four .ensures),
+        row-under _ _ _ _ _ _ _ (c12 .loop .inv .row) (c11 .loop-test .taken) (c10 .word-in .ensures .0),
+        writing-upto _ _ _ _ _ _ _ _ _ _ _ _ _ _ _ _ _ _ _ _
+            (c12 .loop .inv) (c11 .loop-test .taken) (c10 .word-in .ensures .0),
+        room,
       ),
     )
 
@@ -278,24 +267,41 @@ write-fields-loop-again-2 : (t : ℕ) → write-fields-lts.Need-loop-again-2 (wr
     write-fields-Inv-loop write-fields-μ-loop
 write-fields-loop-again-2 t c =
     let c2 = c .before .before in
-    let c6 = c2 .before .before .before .before in
-    let c8 = c6 .before .before in
-    let c10 = c8 .before .before in
-    let c11 = c10 .before in
-    let c12 = c11 .before in
-    let c20 = c12 .before .before .before .before .before .before .before .before in
-    writing-next _ _ _ _ _ _ _ _ _ _ _ _ _ _ _ _ _ _ _ _ (c20 .pre .1 .walk) (c12 .loop .inv) (c11 .loop-test .taken) (c10 .word-in .ensures .0) _ refl
-    (c8 .if2 .left) _ (c6 .put-four .ensures) _ _ (c2 .write-item .ensures)
+    let c4 = c2 .before .before in
+    let c6 = c4 .before .before in
+    let c9 = c6 .before .before .before in
+    let c11 = c9 .before .before in
+    let c13 = c11 .before .before in
+    let c14 = c13 .before in
+    let c15 = c14 .before in
+    writing-next _ _ _ _ _ _ _ _ _ _ _ _ _ _ _ _ _ _ _ _ (c15 .loop .inv) (c14 .loop-test .taken) (c13 .word-in .ensures .0) _ refl (c11 .if1 .left) _
+    (c9 .put-four .ensures) _ _ (below-put _ _ _ (c6 .look-in .ensures) (c4 .if2 .taken) _ _ _ _ _ _ _ _ (c2 .put-leaf .ensures))
 
-write-fields-same-length-2 : (t : ℕ) → write-fields-lts.Need-same-length-2 (write-fields-calls t) (write-fields-at t) write-fields.Post
+write-fields-loop-less-3 : (t : ℕ) → write-fields-lts.Need-loop-less-3 (write-fields-calls t) (write-fields-at t) write-fields.Post
     write-fields-Inv-loop write-fields-μ-loop
-write-fields-same-length-2 t c =
+write-fields-loop-less-3 t c = omega arith
+
+write-fields-loop-again-3 : (t : ℕ) → write-fields-lts.Need-loop-again-3 (write-fields-calls t) (write-fields-at t) write-fields.Post
+    write-fields-Inv-loop write-fields-μ-loop
+write-fields-loop-again-3 t c =
+    let c2 = c .before .before in
+    let c9 = c2 .before .before .before .before .before .before .before in
+    let c11 = c9 .before .before in
+    let c13 = c11 .before .before in
+    let c14 = c13 .before in
+    let c15 = c14 .before in
+    writing-next _ _ _ _ _ _ _ _ _ _ _ _ _ _ _ _ _ _ _ _ (c15 .loop .inv) (c14 .loop-test .taken) (c13 .word-in .ensures .0) _ refl (c11 .if1 .left) _
+    (c9 .put-four .ensures) _ _ (c2 .write-item .ensures)
+
+write-fields-same-length : (t : ℕ) → write-fields-lts.Need-same-length (write-fields-calls t) (write-fields-at t) write-fields.Post
+    write-fields-Inv-loop write-fields-μ-loop
+write-fields-same-length t c =
     let c1 = c .before in
     c1 .loop .inv .long
 
-write-fields-returns-2 : (t : ℕ) → write-fields-lts.Need-returns-2 (write-fields-calls t) (write-fields-at t) write-fields.Post
+write-fields-returns : (t : ℕ) → write-fields-lts.Need-returns (write-fields-calls t) (write-fields-at t) write-fields.Post
     write-fields-Inv-loop write-fields-μ-loop
-write-fields-returns-2 t c =
+write-fields-returns t c =
     let c1 = c .before in
     writing-end _ _ _ _ _ _ _ _ _ _ _ _ _ _ _ _ _ _ _ (c1 .loop .inv) refl (c .loop-test .left)
 
@@ -362,13 +368,47 @@ write-item-lay-requires t c κs =
 write-item-enum-known-made : (t : ℕ) → write-item-lts.Need-enum-known-made (write-item-calls t) (write-item-at t) write-item.Post
 write-item-enum-known-made t c = search needs
 
-write-item-write-fields-requires : (t : ℕ) → write-item-lts.Need-write-fields-requires (write-item-calls t) (write-item-at t) write-item.Post
-write-item-write-fields-requires t c κs =
+write-item-copied-bytes-requires : (t : ℕ) → write-item-lts.Need-copied-bytes-requires (write-item-calls t) (write-item-at t) write-item.Post
+write-item-copied-bytes-requires t c κs =
+    let c1 = c .before in
+    let c3 = c1 .before .before in
+    let c13 = c3 .before .before .before .before .before .before .before .before .before .before in
+    laid-row _ _ _ _ _ (c3 .lay .ensures) _ (c13 .pre .1 .0) _ _ _ _ (c1 .made .given .1)
+
+write-item-put-part-requires-2 : (t : ℕ) → write-item-lts.Need-put-part-requires-2 (write-item-calls t) (write-item-at t) write-item.Post
+write-item-put-part-requires-2 t c κs =
+    let c1 = c .before in
+    let c2 = c1 .before in
+    let c4 = c2 .before .before in
+    let c6 = c4 .before .before in
+    let c16 = c6 .before .before .before .before .before .before .before .before .before .before in
+    part-need _ _ _ _ _ _ _ _
+    (row-all _ _ _ _ _ (c6 .lay .ensures) _ _ _ _ _ _ (c4 .made .given .1) _ (c16 .pre .1 .0) (c16 .pre .1 .1) _ (c1 .if3 .taken)
+    (c2 .copied-bytes .ensures (c1 .if3 .taken))) (c16 .pre .1 .2)
+
+write-item-same-length-3 : (t : ℕ) → write-item-lts.Need-same-length-3 (write-item-calls t) (write-item-at t) write-item.Post
+write-item-same-length-3 t c = search needs
+
+write-item-returns-3 : (t : ℕ) → write-item-lts.Need-returns-3 (write-item-calls t) (write-item-at t) write-item.Post
+write-item-returns-3 t c =
     let c2 = c .before .before in
     let c4 = c2 .before .before in
-    let c14 = c4 .before .before .before .before .before .before .before .before .before .before in (
-      omega (arith, c14 .pre .0),
-      row-ready _ _ _ _ _ _ _ _ _ (c4 .lay .ensures) _ _ _ _ (c2 .made .given .1) _ (c14 .pre .1 .0) (c14 .pre .1 .1) (c14 .pre .1 .2),
+    let c5 = c4 .before in
+    let c7 = c5 .before .before in
+    let c9 = c7 .before .before in
+    let c19 = c9 .before .before .before .before .before .before .before .before .before .before in
+    part-done _ _ _ _ _ _ _ _
+    (row-all _ _ _ _ _ (c9 .lay .ensures) _ _ _ _ _ _ (c7 .made .given .1) _ (c19 .pre .1 .0) (c19 .pre .1 .1) _ (c4 .if3 .taken)
+    (c5 .copied-bytes .ensures (c4 .if3 .taken))) _ _ (c2 .put-part2 .ensures)
+
+write-item-write-fields-requires : (t : ℕ) → write-item-lts.Need-write-fields-requires (write-item-calls t) (write-item-at t) write-item.Post
+write-item-write-fields-requires t c κs =
+    let c4 = c .before .before .before .before in
+    let c6 = c4 .before .before in
+    let c16 = c6 .before .before .before .before .before .before .before .before .before .before in (
+      omega (arith, c16 .pre .0),
+      row-ready _ _ _ _ _ _ _ _ _ (c6 .lay .ensures) _ _ _ _ (c4 .made .given .1) _ (c16 .pre .1 .0) (c16 .pre .1 .1)
+          (c16 .pre .1 .2),
     )
 
 write-item-enum-told : (t : ℕ) → write-item-lts.Need-enum-told (write-item-calls t) (write-item-at t) write-item.Post
@@ -404,25 +444,15 @@ write-item-write-item-requires t c κs =
 write-item-enum-told-2 : (t : ℕ) → write-item-lts.Need-enum-told-2 (write-item-calls t) (write-item-at t) write-item.Post
 write-item-enum-told-2 t c = search needs
 
-write-item-same-length-3 : (t : ℕ) → write-item-lts.Need-same-length-3 (write-item-calls t) (write-item-at t) write-item.Post
-write-item-same-length-3 t c = search needs
-
-write-item-returns-3 : (t : ℕ) → write-item-lts.Need-returns-3 (write-item-calls t) (write-item-at t) write-item.Post
-write-item-returns-3 t c =
-    let c2 = c .before .before in
-    let c5 = c2 .before .before .before in
-    let c7 = c5 .before .before in
-    row-done _ _ _ _ _ _ _ _ _ (c7 .lay .ensures) _ _ _ _ (c5 .made .given .1) _ _ (c2 .write-fields .ensures)
-
 write-item-same-length-4 : (t : ℕ) → write-item-lts.Need-same-length-4 (write-item-calls t) (write-item-at t) write-item.Post
 write-item-same-length-4 t c = search needs
 
 write-item-returns-4 : (t : ℕ) → write-item-lts.Need-returns-4 (write-item-calls t) (write-item-at t) write-item.Post
 write-item-returns-4 t c =
     let c2 = c .before .before in
-    let c4 = c2 .before .before in
-    let c6 = c4 .before .before in
-    bare-done _ _ _ _ _ _ _ _ _ (c6 .lay .ensures) (c4 .enum-told .given .1) _ _ (c2 .put-selector .ensures)
+    let c7 = c2 .before .before .before .before .before in
+    let c9 = c7 .before .before in
+    row-done _ _ _ _ _ _ _ _ _ (c9 .lay .ensures) _ _ _ _ (c7 .made .given .1) _ _ (c2 .write-fields .ensures)
 
 write-item-same-length-5 : (t : ℕ) → write-item-lts.Need-same-length-5 (write-item-calls t) (write-item-at t) write-item.Post
 write-item-same-length-5 t c = search needs
@@ -430,13 +460,23 @@ write-item-same-length-5 t c = search needs
 write-item-returns-5 : (t : ℕ) → write-item-lts.Need-returns-5 (write-item-calls t) (write-item-at t) write-item.Post
 write-item-returns-5 t c =
     let c2 = c .before .before in
+    let c4 = c2 .before .before in
+    let c6 = c4 .before .before in
+    bare-done _ _ _ _ _ _ _ _ _ (c6 .lay .ensures) (c4 .enum-told .given .1) _ _ (c2 .put-selector .ensures)
+
+write-item-same-length-6 : (t : ℕ) → write-item-lts.Need-same-length-6 (write-item-calls t) (write-item-at t) write-item.Post
+write-item-same-length-6 t c = search needs
+
+write-item-returns-6 : (t : ℕ) → write-item-lts.Need-returns-6 (write-item-calls t) (write-item-at t) write-item.Post
+write-item-returns-6 t c =
+    let c2 = c .before .before in
     let c6 = c2 .before .before .before .before in
     let c9 = c6 .before .before .before in
     let c11 = c9 .before .before in
     body-done _ _ _ _ _ _ _ _ _ (c11 .lay .ensures) _ (c9 .made2 .given .1) _ _ (c6 .put-selector2 .ensures) _ _ (c2 .write-item .ensures)
 
-write-item-returns-6 : (t : ℕ) → write-item-lts.Need-returns-6 (write-item-calls t) (write-item-at t) write-item.Post
-write-item-returns-6 t c =
+write-item-returns-7 : (t : ℕ) → write-item-lts.Need-returns-7 (write-item-calls t) (write-item-at t) write-item.Post
+write-item-returns-7 t c =
     let c2 = c .before .before in
     let c12 = c2 .before .before .before .before .before .before .before .before .before .before in
     absurd (wrong-never _ _ _ _ _ _ _ (c2 .lay .ensures) _ (c .enum-told2 .given .1) (c12 .pre .1 .1))
@@ -448,10 +488,6 @@ pub +write-fields+write-item-spec : {M : Type 1} → statement M
     write-fields-Inv-loop
     write-fields-μ-loop
     (write-fields-portion-of-requires t)
-    (write-fields-are-copied-requires t)
-    (write-fields-put-part-requires t)
-    (write-fields-same-length t)
-    (write-fields-returns t)
     (write-fields-add-q t)
     (write-fields-loop-holds t)
     (write-fields-word-in-requires t)
@@ -460,17 +496,21 @@ pub +write-fields+write-item-spec : {M : Type 1} → statement M
     (write-fields-cast-k t)
     (write-fields-add-a t)
     (write-fields-sub-left t)
-    (write-fields-put-part-requires-2 t)
+    (write-fields-put-part-requires t)
     (write-fields-loop-less t)
     (write-fields-loop-again t)
     (write-fields-sub-off t)
     (write-fields-put-four-requires t)
     (write-fields-add-p t)
+    (write-fields-look-in-requires t)
+    (write-fields-put-leaf-requires t)
     (write-fields-write-item-requires t)
     (write-fields-loop-less-2 t)
     (write-fields-loop-again-2 t)
-    (write-fields-same-length-2 t)
-    (write-fields-returns-2 t))
+    (write-fields-loop-less-3 t)
+    (write-fields-loop-again-3 t)
+    (write-fields-same-length t)
+    (write-fields-returns t))
     λ t. write-item-lts.spec (write-item-calls t)
     (write-item-at t)
     write-item.Post
@@ -486,6 +526,10 @@ pub +write-fields+write-item-spec : {M : Type 1} → statement M
     (write-item-returns-2 t)
     (write-item-lay-requires t)
     (write-item-enum-known-made t)
+    (write-item-copied-bytes-requires t)
+    (write-item-put-part-requires-2 t)
+    (write-item-same-length-3 t)
+    (write-item-returns-3 t)
     (write-item-write-fields-requires t)
     (write-item-enum-told t)
     (write-item-put-selector-requires t)
@@ -493,10 +537,10 @@ pub +write-fields+write-item-spec : {M : Type 1} → statement M
     (write-item-put-selector-requires-2 t)
     (write-item-write-item-requires t)
     (write-item-enum-told-2 t)
-    (write-item-same-length-3 t)
-    (write-item-returns-3 t)
     (write-item-same-length-4 t)
     (write-item-returns-4 t)
     (write-item-same-length-5 t)
     (write-item-returns-5 t)
+    (write-item-same-length-6 t)
     (write-item-returns-6 t)
+    (write-item-returns-7 t)
