@@ -174,7 +174,7 @@ pub record Writing (lens l : List ℕ) (t step : ℕ) (c b : List ℕ) (start ow
   pub room : e ≤ length o
   pub two : Two (partsFrom (rowOf l t a step left) c b i j) o p q start own e z
 
-module _ (lens l : List ℕ) (t step : ℕ) (c b : List ℕ) (start own e : ℕ) (w : Walked) (z o₀ o : List ℕ) (p q a left i j f : ℕ)
+module _ {lens l : List ℕ} {t step : ℕ} {c b : List ℕ} {start own e : ℕ} {w : Walked} {z o₀ o : List ℕ} {p q a left i j f : ℕ}
     (g : Writing lens l t step c b start own e w z o₀ o p q a left i j) (y : 0 < left) (v : f ≡ wordAt l a) where
   writing-parts : Two (piece (head (treeOf l f)) (writeItem (treeOf l f) c b i j) ∷ partsFrom (rowOf l t (a + step) step (left - 1)) c b
       (wordAfter (walkItem (treeOf l f) c b i j)) (byteAfter (walkItem (treeOf l f) c b i j))) o p q start own e z
@@ -207,7 +207,7 @@ module _ (lens l : List ℕ) (t step : ℕ) (c b : List ℕ) (start own e : ℕ)
       }
 
   -- A field of fixed size is body bytes, stored where its head is.
-  module _ (k : ℕ) (n : k ≡ getD lens f 0) (s : 0 < k) where
+  module _ {k : ℕ} (n : k ≡ getD lens f 0) (s : 0 < k) where
     fixed-part : PartForm (walkItem (treeOf l f) c b i j) (writeItem (treeOf l f) c b i j) b i j k
     fixed-part = rw n (item-own lens l f c b i j (row-under lens l t a step left f (g .row) y v) writing-upto (rw n at s))
 
@@ -216,16 +216,16 @@ module _ (lens l : List ℕ) (t step : ℕ) (c b : List ℕ) (start own e : ℕ)
     fixed-parts = rw (← row-fixed lens l t a step left f (g .row) y v k n (λ (h : k ≡ 0). omega arith)) at writing-parts
 
     pub writing-there : (j + k ≤ length b) × (p + k ≤ length o)
-    writing-there = part-need _ _ b i j k o p fixed-part (room-fixed _ _ o p q start own e z k fixed-parts (g .room))
+    writing-there = part-need fixed-part (room-fixed _ _ o p q start own e z k fixed-parts (g .room))
 
-    pub writing-fixed : (r : Stop) (o₂ : List ℕ) → Put o p (bytesAt b j k) (upto i (j + k)) r o₂ →
+    pub writing-fixed : {r : Stop} {o₂ : List ℕ} → Put o p (bytesAt b j k) (upto i (j + k)) r o₂ →
         Writing lens l t step c b start own e w z o₀ o₂ (r .to) q (a + step) (left - 1) i (r .byte)
-    writing-fixed r o₂ d =
-        let x = part-done _ _ b i j k o p fixed-part r o₂ d in
+    writing-fixed {r} {o₂} d =
+        let x = part-done fixed-part d in
         rw (d .word) at (writing-behind r o p o₂ refl x (r .to) q (two-fixed _ _ o p q start own e z k fixed-parts o₂ (r .to) (x .stored)))
 
   -- A field of variable size: its offset where its head is, then the item at q.
-  module _ (k : ℕ) (n : k ≡ getD lens f 0) (s : k ≤ 0) where
+  module _ {k : ℕ} (n : k ≡ getD lens f 0) (s : k ≤ 0) where
     variable-parts : Two (piece Variable (writeItem (treeOf l f) c b i j) ∷ partsFrom (rowOf l t (a + step) step (left - 1)) c b
         (wordAfter (walkItem (treeOf l f) c b i j)) (byteAfter (walkItem (treeOf l f) c b i j))) o p q start own e z
     variable-parts = rw (← row-variable lens l t a step left f (g .row) y v k n (omega arith)) at writing-parts
@@ -233,23 +233,23 @@ module _ (lens l : List ℕ) (t step : ℕ) (c b : List ℕ) (start own e : ℕ)
     pub writing-offset : (start ≤ q) × (p + 4 ≤ length o)
     writing-offset = (omega (arith, g .two .apart), room-offset _ _ o p q start own e z variable-parts (g .room))
 
-    module _ (o₁ : List ℕ) (d : o₁ ≡ sets o p (le 4 (q - start))) where
+    module _ {o₁ : List ℕ} (d : o₁ ≡ sets o p (le 4 (q - start))) where
       offset-long : length o₁ ≡ length o
       offset-long = ap length d ∙ length-sets o p (le 4 (q - start))
 
       pub writing-room : Room o₁ q (writeItem (treeOf l f) c b i j)
       writing-room = room-variable _ _ o p q start own e z variable-parts (g .room) o₁ offset-long
 
-      pub writing-next : (r : Stop) (o₂ : List ℕ) → Put o₁ q (writeItem (treeOf l f) c b i j) (walkItem (treeOf l f) c b i j) r o₂ →
+      pub writing-next : {r : Stop} {o₂ : List ℕ} → Put o₁ q (writeItem (treeOf l f) c b i j) (walkItem (treeOf l f) c b i j) r o₂ →
           Writing lens l t step c b start own e w z o₀ o₂ (p + 4) (r .to) (a + step) (left - 1) (r .word) (r .byte)
-      writing-next r o₂ x =
+      writing-next {r} {o₂} x =
           writing-behind r o₁ q o₂ offset-long x (p + 4) (r .to)
           (two-variable _ _ o p q start own e z variable-parts o₂ (r .to) (rw d at (x .stored)))
 
-pub writing-none : (lens l : List ℕ) (t a step n : ℕ) (c b : List ℕ) (i j : ℕ) (o : List ℕ) (start own : ℕ) → Fields lens l t a step n c b i j o start →
+pub writing-none : {lens l : List ℕ} {t a step n : ℕ} {c b : List ℕ} {i j : ℕ} {o : List ℕ} {start own : ℕ} → Fields lens l t a step n c b i j o start →
     own ≡ portion (headsOf l t a step n) → Writing lens l t step c b start own (start + length (join (partsFrom (rowOf l t a step n) c b i j)))
     (walkFields (rowOf l t a step n) c b i j) (sets o start (join (partsFrom (rowOf l t a step n) c b i j))) o o start (start + own) a n i j
-writing-none lens l t a step n c b i j o start own g e =
+writing-none {lens} {l} {t} {a} {step} {n} {c} {b} {i} {j} {o} {start} {own} g e =
     record {
       well = g .walk;
       long = refl;
@@ -261,16 +261,16 @@ writing-none lens l t a step n c b i j o start own g e =
           (e ∙ sym (row-portion lens l t a step n c b i j (g .row) (g .walk)));
     }
 
-pub fields-fit : (lens l : List ℕ) (t a step n : ℕ) (c b : List ℕ) (i j : ℕ) (o : List ℕ) (start own : ℕ) → Fields lens l t a step n c b i j o start →
+pub fields-fit : {lens l : List ℕ} {t a step n : ℕ} {c b : List ℕ} {i j : ℕ} {o : List ℕ} {start own : ℕ} → Fields lens l t a step n c b i j o start →
     own ≡ portion (headsOf l t a step n) → start + own ≤ length o
-fields-fit lens l t a step n c b i j o start own g e =
+fields-fit {lens} {l} {t} {a} {step} {n} {c} {b} {i} {j} {o} {start} {own} g e =
     let p = row-portion lens l t a step n c b i j (g .row) (g .walk) in
     omega (arith, g .room .room, p, length-join (partsFrom (rowOf l t a step n) c b i j))
 
-pub writing-end : (lens l : List ℕ) (t step : ℕ) (c b : List ℕ) (start own e : ℕ) (w : Walked) (x o₀ o : List ℕ) (p q a left i j : ℕ) →
+pub writing-end : {lens l : List ℕ} {t step : ℕ} {c b : List ℕ} {start own e : ℕ} {w : Walked} {x o₀ o : List ℕ} {p q a left i j : ℕ} →
     Writing lens l t step c b start own e w (sets o₀ start x) o₀ o p q a left i j → e ≡ start + length x → left ≤ 0 →
     Put o₀ start x w (record { word = i; byte = j; to = q }) o
-writing-end lens l t step c b start own e w x o₀ o p q a left i j g n h =
+writing-end {lens} {l} {t} {step} {c} {b} {start} {own} {e} {w} {x} {o₀} {o} {p} {q} {a} {left} {i} {j} g n h =
     let d = sym (none-walk l t a step left c b i j h) ∙ g .walk in
     let y = two-end o p q start own e (sets o₀ start x) (rw (none-parts l t a step left c b i j h) at (g .two)) in
     record { stored = record { list = y .0; ends = y .1 ∙ n }; word = ap wordAfter d; byte = ap byteAfter d }

@@ -134,14 +134,14 @@ module _ (n : Node) (c b : List ℕ) (i j : ℕ) (h : IsUpto (walkItem (leafOf 0
         go false e = kind-bits (eqb-false _ _ e) .1
 
 -- What storing body bytes, or a bit list, asks and gives.
-module _ (w : Walked) (x b : List ℕ) (m j n : ℕ) (o : List ℕ) (at : ℕ) where
+module _ {w : Walked} {x b : List ℕ} {m j n : ℕ} {o : List ℕ} {at : ℕ} where
   pub part-need : PartForm w x b m j n → Room o at x → (j + n ≤ length b) × (at + n ≤ length o)
   part-need f g =
       let e : length x ≡ n = ap length (f .write) ∙ length-bytesAt b j n (f .there) in
       (f .there, omega (arith, g .room))
 
-  pub part-done : PartForm w x b m j n → (r : Stop) (o′ : List ℕ) → Put o at (bytesAt b j n) (upto m (j + n)) r o′ → Put o at x w r o′
-  part-done f r o′ p = rw (f .walk, f .write) p
+  pub part-done : PartForm w x b m j n → {r : Stop} {o′ : List ℕ} → Put o at (bytesAt b j n) (upto m (j + n)) r o′ → Put o at x w r o′
+  part-done f p = rw (f .walk, f .write) p
 
   pub list-need : ListForm w x b m j n → Room o at x →
       (j + rawBytes n ≤ length b) × (getD b (j + rawBytes n - 1) 0 < 2 ^ lastBits n) × (at + (n / 8 + 1) ≤ length o)
@@ -149,5 +149,5 @@ module _ (w : Walked) (x b : List ℕ) (m j n : ℕ) (o : List ℕ) (at : ℕ) w
       let e : length x ≡ n / 8 + 1 = ap length (f .write) ∙ length-withMark b j n (f .there) in
       (f .there, f .last, omega (arith, g .room))
 
-  pub list-done : ListForm w x b m j n → (r : Stop) (o′ : List ℕ) → Put o at (withMark b j n) (upto m (j + rawBytes n)) r o′ → Put o at x w r o′
-  list-done f r o′ p = rw (f .walk, f .write) p
+  pub list-done : ListForm w x b m j n → {r : Stop} {o′ : List ℕ} → Put o at (withMark b j n) (upto m (j + rawBytes n)) r o′ → Put o at x w r o′
+  list-done f p = rw (f .walk, f .write) p

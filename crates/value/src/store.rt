@@ -200,25 +200,12 @@ pub(crate) fn write_item(
     }
     let made = lay(layout, t, n, contents, i);
     match made {
-        Laid::Fields(first, step, m, word) => {
-            let all = copied_bytes(lens, layout, t, first, step, m);
+        Laid::Fields(a, step, m, w) => {
+            let all = copied_bytes(lens, layout, t, a, step, m);
             if all > 0 {
-                return put_part(out, at, bodies, word, j, all);
+                return put_part(out, at, bodies, w, j, all);
             }
-            write_fields(
-                out,
-                at,
-                lens,
-                layout,
-                t,
-                first,
-                step,
-                m,
-                contents,
-                bodies,
-                word,
-                j,
-            )
+            write_fields(out, at, lens, layout, t, a, step, m, contents, bodies, w, j)
         }
         Laid::Bare => put_selector(out, at, contents, i, j),
         Laid::Body(o) => {

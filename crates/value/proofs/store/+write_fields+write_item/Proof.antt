@@ -17,12 +17,12 @@ use Rattle.value.proofs.Made.{own-small, laid-below, laid-row, row-read
 use Prim.Native.Nat.{ℕ, _<_}
 use borrow.Fn.Kinds.{In}
 use borrow.Fn.PlainCycle.{Measures, is, falls, and}
-use Rattle.value.proofs.store.write_fields.Reads as write-fields
-use Rattle.value.proofs.store.write_fields.Kinds as write-fields-kinds
-use Rattle.value.proofs.store.+write_fields+write_item.Lts-write_fields as write-fields-lts
-use Rattle.value.proofs.store.write_item.Reads as write-item
-use Rattle.value.proofs.store.write_item.Kinds as write-item-kinds
-use Rattle.value.proofs.store.+write_fields+write_item.Lts-write_item as write-item-lts
+use Rattle.value.proofs.store.write_fields.Reads as fields
+use Rattle.value.proofs.store.write_fields.Kinds as fields-kinds
+use Rattle.value.proofs.store.+write_fields+write_item.Lts-write_fields as fields-lts
+use Rattle.value.proofs.store.write_item.Reads as item
+use Rattle.value.proofs.store.write_item.Kinds as item-kinds
+use Rattle.value.proofs.store.+write_fields+write_item.Lts-write_item as item-lts
 use Rattle.standard.proofs.words.put_four.Reads as put-four-reads
 use Rattle.value.proofs.laid.lay.Reads as lay-reads
 use Rattle.value.proofs.store.copied_bytes.Reads as copied-bytes-reads
@@ -35,44 +35,36 @@ use Rattle.value.proofs.words.word_in.Reads as word-in-reads
 use Rattle.value.proofs.store.+write_fields+write_item.{statement}
 use Rattle.value.proofs.store.+write_fields+write_item.Tie.{close}
 
-abbrev μ-write-fields : Measures 5 write-fields-kinds.ps ℕ
-μ-write-fields κs a = 2 * a .1 .1 .1 .1 .0
+abbrev μ-fields : Measures 5 fields-kinds.ps ℕ
+μ-fields κs a = 2 * a .1 .1 .1 .1 .0
 
-abbrev μ-write-item : Measures 5 write-item-kinds.ps ℕ
-μ-write-item κs a = 2 * a .1 .1 .1 .1 .0 + 1
+abbrev μ-item : Measures 5 item-kinds.ps ℕ
+μ-item κs a = 2 * a .1 .1 .1 .1 .0 + 1
 
-abbrev write-fields-at : ℕ → In 5 write-fields-kinds.ps
-write-fields-at t =
-    and 5 write-fields-kinds.ps (is 5 write-fields-kinds.ps μ-write-fields t) write-fields.Pre
+abbrev fields-at : ℕ → In 5 fields-kinds.ps
+fields-at t = and 5 fields-kinds.ps (is 5 fields-kinds.ps μ-fields t) fields.Pre
 
-abbrev write-fields-below : ℕ → In 5 write-fields-kinds.ps
-write-fields-below t =
-    and
-    5
-    write-fields-kinds.ps
-    (falls 5 write-fields-kinds.ps _<_ μ-write-fields t)
-    write-fields.Pre
+abbrev fields-below : ℕ → In 5 fields-kinds.ps
+fields-below t = and 5 fields-kinds.ps (falls 5 fields-kinds.ps _<_ μ-fields t) fields.Pre
 
-abbrev write-item-at : ℕ → In 5 write-item-kinds.ps
-write-item-at t =
-    and 5 write-item-kinds.ps (is 5 write-item-kinds.ps μ-write-item t) write-item.Pre
+abbrev item-at : ℕ → In 5 item-kinds.ps
+item-at t = and 5 item-kinds.ps (is 5 item-kinds.ps μ-item t) item.Pre
 
-abbrev write-item-below : ℕ → In 5 write-item-kinds.ps
-write-item-below t =
-    and 5 write-item-kinds.ps (falls 5 write-item-kinds.ps _<_ μ-write-item t) write-item.Pre
+abbrev item-below : ℕ → In 5 item-kinds.ps
+item-below t = and 5 item-kinds.ps (falls 5 item-kinds.ps _<_ μ-item t) item.Pre
 
-abbrev write-fields-Inv-loop : write-fields-lts.InvT-loop
-write-fields-Inv-loop out₀ start lens layout t a0 step n contents bodies i0 j0 own p₀ q₀ a₀ left₀ i₀ j₀ out p q a left i j =
+abbrev fields-inv : fields-lts.InvT-loop
+fields-inv out₀ start lens layout t a0 step n contents bodies i0 j0 own p₀ q₀ a₀ left₀ i₀ j₀ out p q a left i j =
     Writing lens layout t step contents bodies start own (start + length (join (partsFrom (rowOf layout t a0 step n) contents bodies i0 j0)))
     (walkFields (rowOf layout t a0 step n) contents bodies i0 j0) (sets out₀ start (join (partsFrom (rowOf layout t a0 step n) contents bodies i0 j0))) out₀
     out p q a left i j
 
-abbrev write-fields-μ-loop : write-fields-lts.MeasureT-loop
-write-fields-μ-loop out₀ start lens layout t a0 step n contents bodies i0 j0 own p₀ q₀ a₀ left₀ i₀ j₀ out p q a left i j = left
+abbrev fields-μ : fields-lts.MeasureT-loop
+fields-μ out₀ start lens layout t a0 step n contents bodies i0 j0 own p₀ q₀ a₀ left₀ i₀ j₀ out p q a left i j = left
 
 -- what `write_fields` calls, at the measure t
-abbrev write-fields-calls : ℕ → write-fields-lts.Claims
-write-fields-calls t = (
+abbrev fields-calls : ℕ → fields-lts.Claims
+fields-calls t = (
   portion-of-reads.Asked,
   portion-of-reads.Learnt,
   word-in-reads.Asked,
@@ -85,13 +77,13 @@ write-fields-calls t = (
   look-in-reads.Learnt,
   put-leaf-reads.Asked,
   put-leaf-reads.Learnt,
-  write-item-below t,
-  write-item.Post,
+  item-below t,
+  item.Post,
 )
 
 -- what `write_item` calls, at the measure t
-abbrev write-item-calls : ℕ → write-item-lts.Claims
-write-item-calls t = (
+abbrev item-calls : ℕ → item-lts.Claims
+item-calls t = (
   put-part-reads.Asked,
   put-part-reads.Learnt,
   look-in-reads.Asked,
@@ -102,445 +94,353 @@ write-item-calls t = (
   lay-reads.Learnt,
   copied-bytes-reads.Asked,
   copied-bytes-reads.Learnt,
-  write-fields-below t,
-  write-fields.Post,
+  fields-below t,
+  fields.Post,
   put-selector-reads.Asked,
   put-selector-reads.Learnt,
-  write-item-below t,
-  write-item.Post,
+  item-below t,
+  item.Post,
 )
 
-write-fields-portion-of-requires : (t : ℕ) → write-fields-lts.Need-portion-of-requires (write-fields-calls t) (write-fields-at t) write-fields.Post
-    write-fields-Inv-loop write-fields-μ-loop
-write-fields-portion-of-requires t c κs =
+fields-portion-of-requires : (t : ℕ) → fields-lts.Need-portion-of-requires (fields-calls t) (fields-at t) fields.Post fields-inv fields-μ
+fields-portion-of-requires t c κs =
     let c4 = c .before .before .before .before in
-    (c4 .pre .1 .row, omega (arith, fields-fit _ _ _ _ _ _ _ _ _ _ _ _ _ (c4 .pre .1) refl, c4 .good))
+    (c4 .pre .1 .row, omega (arith, fields-fit (c4 .pre .1) refl, c4 .good))
 
-write-fields-add-q : (t : ℕ) → write-fields-lts.Need-add-q (write-fields-calls t) (write-fields-at t) write-fields.Post
-    write-fields-Inv-loop write-fields-μ-loop
-write-fields-add-q t c =
+fields-add-q : (t : ℕ) → fields-lts.Need-add-q (fields-calls t) (fields-at t) fields.Post fields-inv fields-μ
+fields-add-q t c =
     let c5 = c .before .before .before .before .before in
-    omega (arith, fields-fit _ _ _ _ _ _ _ _ _ _ _ _ _ (c5 .pre .1) (c .portion-of .ensures), c5 .good)
+    omega (arith, fields-fit (c5 .pre .1) (c .portion-of .ensures), c5 .good)
 
-write-fields-loop-holds : (t : ℕ) → write-fields-lts.Need-loop-holds (write-fields-calls t) (write-fields-at t) write-fields.Post
-    write-fields-Inv-loop write-fields-μ-loop
-write-fields-loop-holds t c =
+fields-loop-holds : (t : ℕ) → fields-lts.Need-loop-holds (fields-calls t) (fields-at t) fields.Post fields-inv fields-μ
+fields-loop-holds t c =
     let c5 = c .before .before .before .before .before in
-    writing-none _ _ _ _ _ _ _ _ _ _ _ _ _ (c5 .pre .1) (c .portion-of .ensures)
+    writing-none (c5 .pre .1) (c .portion-of .ensures)
 
-write-fields-word-in-requires : (t : ℕ) → write-fields-lts.Need-word-in-requires (write-fields-calls t) (write-fields-at t) write-fields.Post
-    write-fields-Inv-loop write-fields-μ-loop
-write-fields-word-in-requires t c κs =
-    let c1 = c .before in
-    row-there _ _ _ _ _ _ (c1 .loop .inv .row) (c .loop-test .taken)
+fields-word-in-requires : (t : ℕ) → fields-lts.Need-word-in-requires (fields-calls t) (fields-at t) fields.Post fields-inv fields-μ
+fields-word-in-requires t c κs = row-there _ _ _ _ _ _ (c .before .loop .inv .row) (c .loop-test .taken)
 
-write-fields-mul-k : (t : ℕ) → write-fields-lts.Need-mul-k (write-fields-calls t) (write-fields-at t) write-fields.Post
-    write-fields-Inv-loop write-fields-μ-loop
-write-fields-mul-k t c = omega (arith, c .word-in .ensures .1)
+fields-mul-k : (t : ℕ) → fields-lts.Need-mul-k (fields-calls t) (fields-at t) fields.Post fields-inv fields-μ
+fields-mul-k t c = omega (arith, c .word-in .ensures .1)
 
-write-fields-element-copy-out-k : (t : ℕ) → write-fields-lts.Need-element-copy-out-k (write-fields-calls t) (write-fields-at t) write-fields.Post
-    write-fields-Inv-loop write-fields-μ-loop
-write-fields-element-copy-out-k t c =
-    let c1 = c .before in
-    let c2 = c1 .before in
-    row-few _ _ _ _ _ _ _ (c2 .loop .inv .row) (c1 .loop-test .taken) (c .word-in .ensures .0)
+fields-element-copy-out-k : (t : ℕ) → fields-lts.Need-element-copy-out-k (fields-calls t) (fields-at t) fields.Post fields-inv fields-μ
+fields-element-copy-out-k t c = row-few _ _ _ _ _ _ _ (c .before .before .loop .inv .row) (c .before .loop-test .taken) (c .word-in .ensures .0)
 
-write-fields-cast-k : (t : ℕ) → write-fields-lts.Need-cast-k (write-fields-calls t) (write-fields-at t) write-fields.Post
-    write-fields-Inv-loop write-fields-μ-loop
-write-fields-cast-k t c =
-    let c1 = c .before in
-    let c2 = c1 .before in
-    let c3 = c2 .before in
-    omega (arith, row-small _ _ _ _ _ _ _ (c3 .loop .inv .row) (c2 .loop-test .taken) (c1 .word-in .ensures .0))
+fields-cast-k : (t : ℕ) → fields-lts.Need-cast-k (fields-calls t) (fields-at t) fields.Post fields-inv fields-μ
+fields-cast-k t c =
+    omega (arith, row-small _ _ _ _ _ _ _ (c .before .before .before .loop .inv .row) (c .before .before .loop-test .taken) (c .before .word-in .ensures .0))
 
-write-fields-add-a : (t : ℕ) → write-fields-lts.Need-add-a (write-fields-calls t) (write-fields-at t) write-fields.Post
-    write-fields-Inv-loop write-fields-μ-loop
-write-fields-add-a t c =
-    let c3 = c .before .before .before in
-    omega (arith, c3 .loop .inv .row .near, c3 .loop .inv .row .steps)
+fields-add-a : (t : ℕ) → fields-lts.Need-add-a (fields-calls t) (fields-at t) fields.Post fields-inv fields-μ
+fields-add-a t c = omega (arith, c .before .before .before .loop .inv .row .near, c .before .before .before .loop .inv .row .steps)
 
-write-fields-sub-left : (t : ℕ) → write-fields-lts.Need-sub-left (write-fields-calls t) (write-fields-at t) write-fields.Post
-    write-fields-Inv-loop write-fields-μ-loop
-write-fields-sub-left t c = omega arith
+fields-sub-left : (t : ℕ) → fields-lts.Need-sub-left (fields-calls t) (fields-at t) fields.Post fields-inv fields-μ
+fields-sub-left t c = omega arith
 
-write-fields-put-part-requires : (t : ℕ) → write-fields-lts.Need-put-part-requires (write-fields-calls t) (write-fields-at t) write-fields.Post
-    write-fields-Inv-loop write-fields-μ-loop
-write-fields-put-part-requires t c κs =
-    let c1 = c .before in
-    let c3 = c1 .before .before in
-    let c4 = c3 .before in
-    let c5 = c4 .before in
-    writing-there _ _ _ _ _ _ _ _ _ _ _ _ _ _ _ _ _ _ _ _ (c5 .loop .inv) (c4 .loop-test .taken) (c3 .word-in .ensures .0) _ refl (c1 .if1 .taken)
+fields-put-part-requires : (t : ℕ) → fields-lts.Need-put-part-requires (fields-calls t) (fields-at t) fields.Post fields-inv fields-μ
+fields-put-part-requires t c κs =
+    let c4 = c .before .before .before .before in
+    writing-there (c4 .before .loop .inv) (c4 .loop-test .taken) (c .before .before .before .word-in .ensures .0) refl (c .before .if1 .taken)
 
-write-fields-loop-less : (t : ℕ) → write-fields-lts.Need-loop-less (write-fields-calls t) (write-fields-at t) write-fields.Post
-    write-fields-Inv-loop write-fields-μ-loop
-write-fields-loop-less t c = omega arith
+fields-loop-less : (t : ℕ) → fields-lts.Need-loop-less (fields-calls t) (fields-at t) fields.Post fields-inv fields-μ
+fields-loop-less t c = omega arith
 
-write-fields-loop-again : (t : ℕ) → write-fields-lts.Need-loop-again (write-fields-calls t) (write-fields-at t) write-fields.Post
-    write-fields-Inv-loop write-fields-μ-loop
-write-fields-loop-again t c =
-    let c2 = c .before .before in
-    let c4 = c2 .before .before in
-    let c6 = c4 .before .before in
-    let c7 = c6 .before in
-    let c8 = c7 .before in
-    writing-fixed _ _ _ _ _ _ _ _ _ _ _ _ _ _ _ _ _ _ _ _ (c8 .loop .inv) (c7 .loop-test .taken) (c6 .word-in .ensures .0) _ refl (c4 .if1 .taken) _ _
-    (c2 .put-part .ensures)
+fields-loop-again : (t : ℕ) → fields-lts.Need-loop-again (fields-calls t) (fields-at t) fields.Post fields-inv fields-μ
+fields-loop-again t c =
+    let c4 = c .before .before .before .before in
+    let c8 = c4 .before .before .before .before in
+    writing-fixed (c8 .loop .inv) (c4 .before .before .before .loop-test .taken) (c4 .before .before .word-in .ensures .0) refl (c4 .if1 .taken)
+    (c .before .before .put-part .ensures)
 
-write-fields-sub-off : (t : ℕ) → write-fields-lts.Need-sub-off (write-fields-calls t) (write-fields-at t) write-fields.Post
-    write-fields-Inv-loop write-fields-μ-loop
-write-fields-sub-off t c =
-    let c2 = c .before .before in
-    let c3 = c2 .before in
-    let c4 = c3 .before in
+fields-sub-off : (t : ℕ) → fields-lts.Need-sub-off (fields-calls t) (fields-at t) fields.Post fields-inv fields-μ
+fields-sub-off t c =
+    let c4 = c .before .before .before .before in
     omega
-    (arith, writing-offset _ _ _ _ _ _ _ _ _ _ _ _ _ _ _ _ _ _ _ _ (c4 .loop .inv) (c3 .loop-test .taken) (c2 .word-in .ensures .0) _ refl (c .if1 .left) .0)
+    (arith, writing-offset (c4 .loop .inv) (c .before .before .before .loop-test .taken) (c .before .before .word-in .ensures .0) refl (c .if1 .left) .0)
 
-write-fields-put-four-requires : (t : ℕ) → write-fields-lts.Need-put-four-requires (write-fields-calls t) (write-fields-at t) write-fields.Post
-    write-fields-Inv-loop write-fields-μ-loop
-write-fields-put-four-requires t c κs = search needs
+fields-put-four-requires : (t : ℕ) → fields-lts.Need-put-four-requires (fields-calls t) (fields-at t) fields.Post fields-inv fields-μ
+fields-put-four-requires t c κs = search needs
 
-write-fields-add-p : (t : ℕ) → write-fields-lts.Need-add-p (write-fields-calls t) (write-fields-at t) write-fields.Post
-    write-fields-Inv-loop write-fields-μ-loop
-write-fields-add-p t c =
+fields-add-p : (t : ℕ) → fields-lts.Need-add-p (fields-calls t) (fields-at t) fields.Post fields-inv fields-μ
+fields-add-p t c =
     let c4 = c .before .before .before .before in
-    let c6 = c4 .before .before in
-    let c7 = c6 .before in
-    let c8 = c7 .before in
+    let c8 = c4 .before .before .before .before in
     let c14 = c8 .before .before .before .before .before .before in
     omega (
       arith,
-      writing-offset _ _ _ _ _ _ _ _ _ _ _ _ _ _ _ _ _ _ _ _ (c8 .loop .inv) (c7 .loop-test .taken) (c6 .word-in .ensures .0) _ refl (c4 .if1 .left) .1,
+      writing-offset (c8 .loop .inv) (c4 .before .before .before .loop-test .taken) (c4 .before .before .word-in .ensures .0) refl (c4 .if1 .left) .1,
       c8 .loop .inv .long,
       c14 .good,
     )
 
-write-fields-look-in-requires : (t : ℕ) → write-fields-lts.Need-look-in-requires (write-fields-calls t) (write-fields-at t) write-fields.Post
-    write-fields-Inv-loop write-fields-μ-loop
-write-fields-look-in-requires t c κs =
+fields-look-in-requires : (t : ℕ) → fields-lts.Need-look-in-requires (fields-calls t) (fields-at t) fields.Post fields-inv fields-μ
+fields-look-in-requires t c κs =
     let c6 = c .before .before .before .before .before .before in
-    let c7 = c6 .before in
-    let c8 = c7 .before in
-    row-legal _ _ _ _ _ _ _ (c8 .loop .inv .row) (c7 .loop-test .taken) (c6 .word-in .ensures .0)
+    row-legal _ _ _ _ _ _ _ (c6 .before .before .loop .inv .row) (c6 .before .loop-test .taken) (c6 .word-in .ensures .0)
 
-write-fields-put-leaf-requires : (t : ℕ) → write-fields-lts.Need-put-leaf-requires (write-fields-calls t) (write-fields-at t) write-fields.Post
-    write-fields-Inv-loop write-fields-μ-loop
-write-fields-put-leaf-requires t c κs =
-    let c1 = c .before in
-    let c3 = c1 .before .before in
-    let c6 = c3 .before .before .before in
-    let c8 = c6 .before .before in
-    let c10 = c8 .before .before in
-    let c11 = c10 .before in
-    let c12 = c11 .before in
-    let room = writing-room _ _ _ _ _ _ _ _ _ _ _ _ _ _ _ _ _ _ _ _ (c12 .loop .inv) (c11 .loop-test .taken) (c10 .word-in .ensures .0) _ refl (c8 .if1 .left)
-    _ (c6 .put-four .ensures) in
-    below-asked _ _ _ (c3 .look-in .ensures) (c1 .if2 .taken) _ _ _ _ _ _ _
-    (row-under _ _ _ _ _ _ _ (c12 .loop .inv .row) (c11 .loop-test .taken) (c10 .word-in .ensures .0)) (c8 .if1 .left)
-    (writing-upto _ _ _ _ _ _ _ _ _ _ _ _ _ _ _ _ _ _ _ _ (c12 .loop .inv) (c11 .loop-test .taken) (c10 .word-in .ensures .0)) room
-
-write-fields-write-item-requires : (t : ℕ) → write-fields-lts.Need-write-item-requires (write-fields-calls t) (write-fields-at t) write-fields.Post
-    write-fields-Inv-loop write-fields-μ-loop
-write-fields-write-item-requires t c κs =
+fields-put-leaf-requires : (t : ℕ) → fields-lts.Need-put-leaf-requires (fields-calls t) (fields-at t) fields.Post fields-inv fields-μ
+fields-put-leaf-requires t c κs =
     let c6 = c .before .before .before .before .before .before in
-    let c8 = c6 .before .before in
-    let c10 = c8 .before .before in
-    let c11 = c10 .before in
-    let c12 = c11 .before in
-    let c18 = c12 .before .before .before .before .before .before in
-    let room = writing-room _ _ _ _ _ _ _ _ _ _ _ _ _ _ _ _ _ _ _ _ (c12 .loop .inv) (c11 .loop-test .taken) (c10 .word-in .ensures .0) _ refl (c8 .if1 .left)
-    _ (c6 .put-four .ensures) in (
-      omega (arith, row-below _ _ _ _ _ _ _ (c12 .loop .inv .row) (c11 .loop-test .taken) (c10 .word-in .ensures .0), c18 .pre .0),
+    let c10 = c6 .before .before .before .before in
+    let room = writing-room (c10 .before .before .loop .inv) (c10 .before .loop-test .taken) (c10 .word-in .ensures .0) refl (c6 .before .before .if1 .left)
+    (c6 .put-four .ensures) in
+    below-asked _ _ _ (c .before .before .before .look-in .ensures) (c .before .if2 .taken) _ _ _ _ _ _ _
+    (row-under _ _ _ _ _ _ _ (c10 .before .before .loop .inv .row) (c10 .before .loop-test .taken) (c10 .word-in .ensures .0)) (c6 .before .before .if1 .left)
+    (writing-upto (c10 .before .before .loop .inv) (c10 .before .loop-test .taken) (c10 .word-in .ensures .0)) room
+
+fields-write-item-requires : (t : ℕ) → fields-lts.Need-write-item-requires (fields-calls t) (fields-at t) fields.Post fields-inv fields-μ
+fields-write-item-requires t c κs =
+    let c6 = c .before .before .before .before .before .before in
+    let c10 = c6 .before .before .before .before in
+    let c18 = c10 .before .before .before .before .before .before .before .before in
+    let room = writing-room (c10 .before .before .loop .inv) (c10 .before .loop-test .taken) (c10 .word-in .ensures .0) refl (c6 .before .before .if1 .left)
+    (c6 .put-four .ensures) in (
+      omega (arith, row-below _ _ _ _ _ _ _ (c10 .before .before .loop .inv .row) (c10 .before .loop-test .taken) (c10 .word-in .ensures .0), c18 .pre .0),
       (
-        row-under _ _ _ _ _ _ _ (c12 .loop .inv .row) (c11 .loop-test .taken) (c10 .word-in .ensures .0),
-        writing-upto _ _ _ _ _ _ _ _ _ _ _ _ _ _ _ _ _ _ _ _
-            (c12 .loop .inv) (c11 .loop-test .taken) (c10 .word-in .ensures .0),
+        row-under _ _ _ _ _ _ _ (c10 .before .before .loop .inv .row) (c10 .before .loop-test .taken) (c10 .word-in .ensures .0),
+        writing-upto
+            (c10 .before .before .loop .inv) (c10 .before .loop-test .taken) (c10 .word-in .ensures .0),
         room,
       ),
     )
 
-write-fields-loop-less-2 : (t : ℕ) → write-fields-lts.Need-loop-less-2 (write-fields-calls t) (write-fields-at t) write-fields.Post
-    write-fields-Inv-loop write-fields-μ-loop
-write-fields-loop-less-2 t c = omega arith
+fields-loop-less-2 : (t : ℕ) → fields-lts.Need-loop-less-2 (fields-calls t) (fields-at t) fields.Post fields-inv fields-μ
+fields-loop-less-2 t c = omega arith
 
-write-fields-loop-again-2 : (t : ℕ) → write-fields-lts.Need-loop-again-2 (write-fields-calls t) (write-fields-at t) write-fields.Post
-    write-fields-Inv-loop write-fields-μ-loop
-write-fields-loop-again-2 t c =
-    let c2 = c .before .before in
-    let c4 = c2 .before .before in
-    let c6 = c4 .before .before in
-    let c9 = c6 .before .before .before in
-    let c11 = c9 .before .before in
-    let c13 = c11 .before .before in
-    let c14 = c13 .before in
-    let c15 = c14 .before in
-    writing-next _ _ _ _ _ _ _ _ _ _ _ _ _ _ _ _ _ _ _ _ (c15 .loop .inv) (c14 .loop-test .taken) (c13 .word-in .ensures .0) _ refl (c11 .if1 .left) _
-    (c9 .put-four .ensures) _ _ (below-put _ _ _ (c6 .look-in .ensures) (c4 .if2 .taken) _ _ _ _ _ _ _ _ (c2 .put-leaf .ensures))
+fields-loop-again-2 : (t : ℕ) → fields-lts.Need-loop-again-2 (fields-calls t) (fields-at t) fields.Post fields-inv fields-μ
+fields-loop-again-2 t c =
+    let c4 = c .before .before .before .before in
+    let c9 = c4 .before .before .before .before .before in
+    let c13 = c9 .before .before .before .before in
+    writing-next (c13 .before .before .loop .inv) (c13 .before .loop-test .taken) (c13 .word-in .ensures .0) refl (c9 .before .before .if1 .left)
+    (c9 .put-four .ensures) (below-put _ _ _ (c4 .before .before .look-in .ensures) (c4 .if2 .taken) _ _ _ _ _ _ _ _ (c .before .before .put-leaf .ensures))
 
-write-fields-loop-less-3 : (t : ℕ) → write-fields-lts.Need-loop-less-3 (write-fields-calls t) (write-fields-at t) write-fields.Post
-    write-fields-Inv-loop write-fields-μ-loop
-write-fields-loop-less-3 t c = omega arith
+fields-loop-less-3 : (t : ℕ) → fields-lts.Need-loop-less-3 (fields-calls t) (fields-at t) fields.Post fields-inv fields-μ
+fields-loop-less-3 t c = omega arith
 
-write-fields-loop-again-3 : (t : ℕ) → write-fields-lts.Need-loop-again-3 (write-fields-calls t) (write-fields-at t) write-fields.Post
-    write-fields-Inv-loop write-fields-μ-loop
-write-fields-loop-again-3 t c =
-    let c2 = c .before .before in
-    let c9 = c2 .before .before .before .before .before .before .before in
-    let c11 = c9 .before .before in
-    let c13 = c11 .before .before in
-    let c14 = c13 .before in
-    let c15 = c14 .before in
-    writing-next _ _ _ _ _ _ _ _ _ _ _ _ _ _ _ _ _ _ _ _ (c15 .loop .inv) (c14 .loop-test .taken) (c13 .word-in .ensures .0) _ refl (c11 .if1 .left) _
-    (c9 .put-four .ensures) _ _ (c2 .write-item .ensures)
+fields-loop-again-3 : (t : ℕ) → fields-lts.Need-loop-again-3 (fields-calls t) (fields-at t) fields.Post fields-inv fields-μ
+fields-loop-again-3 t c =
+    let c9 = c .before .before .before .before .before .before .before .before .before in
+    let c13 = c9 .before .before .before .before in
+    writing-next (c13 .before .before .loop .inv) (c13 .before .loop-test .taken) (c13 .word-in .ensures .0) refl (c9 .before .before .if1 .left)
+    (c9 .put-four .ensures) (c .before .before .write-item .ensures)
 
-write-fields-same-length : (t : ℕ) → write-fields-lts.Need-same-length (write-fields-calls t) (write-fields-at t) write-fields.Post
-    write-fields-Inv-loop write-fields-μ-loop
-write-fields-same-length t c =
-    let c1 = c .before in
-    c1 .loop .inv .long
+fields-same-length : (t : ℕ) → fields-lts.Need-same-length (fields-calls t) (fields-at t) fields.Post fields-inv fields-μ
+fields-same-length t c = c .before .loop .inv .long
 
-write-fields-returns : (t : ℕ) → write-fields-lts.Need-returns (write-fields-calls t) (write-fields-at t) write-fields.Post
-    write-fields-Inv-loop write-fields-μ-loop
-write-fields-returns t c =
-    let c1 = c .before in
-    writing-end _ _ _ _ _ _ _ _ _ _ _ _ _ _ _ _ _ _ _ (c1 .loop .inv) refl (c .loop-test .left)
+fields-returns : (t : ℕ) → fields-lts.Need-returns (fields-calls t) (fields-at t) fields.Post fields-inv fields-μ
+fields-returns t c = writing-end (c .before .loop .inv) refl (c .loop-test .left)
 
-write-item-mul-own : (t : ℕ) → write-item-lts.Need-mul-own (write-item-calls t) (write-item-at t) write-item.Post
-write-item-mul-own t c =
+item-mul-own : (t : ℕ) → item-lts.Need-mul-own (item-calls t) (item-at t) item.Post
+item-mul-own t c =
     let c4 = c .before .before .before .before in
     omega (arith, c4 .pre .1 .0 .few)
 
-write-item-element-copy-out-own : (t : ℕ) → write-item-lts.Need-element-copy-out-own (write-item-calls t) (write-item-at t) write-item.Post
-write-item-element-copy-out-own t c =
+item-element-copy-out-own : (t : ℕ) → item-lts.Need-element-copy-out-own (item-calls t) (item-at t) item.Post
+item-element-copy-out-own t c =
     let c4 = c .before .before .before .before in
     omega (arith, c4 .pre .1 .0 .few)
 
-write-item-cast-own : (t : ℕ) → write-item-lts.Need-cast-own (write-item-calls t) (write-item-at t) write-item.Post
-write-item-cast-own t c =
+item-cast-own : (t : ℕ) → item-lts.Need-cast-own (item-calls t) (item-at t) item.Post
+item-cast-own t c =
     let c5 = c .before .before .before .before .before in
     omega (arith, own-small _ _ _ (c5 .pre .1 .0))
 
-write-item-put-part-requires : (t : ℕ) → write-item-lts.Need-put-part-requires (write-item-calls t) (write-item-at t) write-item.Post
-write-item-put-part-requires t c κs =
-    let c1 = c .before in
-    let c7 = c1 .before .before .before .before .before .before in
-    part-need _ _ _ _ _ _ _ _ (item-own _ _ _ _ _ _ _ (c7 .pre .1 .0) (c7 .pre .1 .1) (c1 .if1 .taken)) (c7 .pre .1 .2)
+item-put-part-requires : (t : ℕ) → item-lts.Need-put-part-requires (item-calls t) (item-at t) item.Post
+item-put-part-requires t c κs =
+    let c7 = c .before .before .before .before .before .before .before in
+    part-need (item-own _ _ _ _ _ _ _ (c7 .pre .1 .0) (c7 .pre .1 .1) (c .before .if1 .taken)) (c7 .pre .1 .2)
 
-write-item-same-length : (t : ℕ) → write-item-lts.Need-same-length (write-item-calls t) (write-item-at t) write-item.Post
-write-item-same-length t c = search needs
+item-same-length : (t : ℕ) → item-lts.Need-same-length (item-calls t) (item-at t) item.Post
+item-same-length t c = search needs
 
-write-item-returns : (t : ℕ) → write-item-lts.Need-returns (write-item-calls t) (write-item-at t) write-item.Post
-write-item-returns t c =
-    let c2 = c .before .before in
-    let c4 = c2 .before .before in
+item-returns : (t : ℕ) → item-lts.Need-returns (item-calls t) (item-at t) item.Post
+item-returns t c =
+    let c4 = c .before .before .before .before in
     let c10 = c4 .before .before .before .before .before .before in
-    part-done _ _ _ _ _ _ _ _ (item-own _ _ _ _ _ _ _ (c10 .pre .1 .0) (c10 .pre .1 .1) (c4 .if1 .taken)) _ _ (c2 .put-part .ensures)
+    part-done (item-own _ _ _ _ _ _ _ (c10 .pre .1 .0) (c10 .pre .1 .1) (c4 .if1 .taken)) (c .before .before .put-part .ensures)
 
-write-item-look-in-requires : (t : ℕ) → write-item-lts.Need-look-in-requires (write-item-calls t) (write-item-at t) write-item.Post
-write-item-look-in-requires t c κs =
+item-look-in-requires : (t : ℕ) → item-lts.Need-look-in-requires (item-calls t) (item-at t) item.Post
+item-look-in-requires t c κs =
     let c6 = c .before .before .before .before .before .before in
     c6 .pre .1 .0 .legal
 
-write-item-put-leaf-requires : (t : ℕ) → write-item-lts.Need-put-leaf-requires (write-item-calls t) (write-item-at t) write-item.Post
-write-item-put-leaf-requires t c κs =
-    let c1 = c .before in
-    let c3 = c1 .before .before in
-    let c4 = c3 .before in
-    let c10 = c4 .before .before .before .before .before .before in
-    below-asked _ _ _ (c3 .look-in .ensures) (c1 .if2 .taken) _ _ _ _ _ _ _ (c10 .pre .1 .0) (c4 .if1 .left) (c10 .pre .1 .1) (c10 .pre .1 .2)
-
-write-item-same-length-2 : (t : ℕ) → write-item-lts.Need-same-length-2 (write-item-calls t) (write-item-at t) write-item.Post
-write-item-same-length-2 t c = search needs
-
-write-item-returns-2 : (t : ℕ) → write-item-lts.Need-returns-2 (write-item-calls t) (write-item-at t) write-item.Post
-write-item-returns-2 t c =
-    let c2 = c .before .before in
-    let c4 = c2 .before .before in
-    let c6 = c4 .before .before in
-    below-put _ _ _ (c6 .look-in .ensures) (c4 .if2 .taken) _ _ _ _ _ _ _ _ (c2 .put-leaf .ensures)
-
-write-item-lay-requires : (t : ℕ) → write-item-lts.Need-lay-requires (write-item-calls t) (write-item-at t) write-item.Post
-write-item-lay-requires t c κs =
-    let c2 = c .before .before in
-    let c9 = c2 .before .before .before .before .before .before .before in
-    (c9 .pre .1 .0 .legal, omega (arith, c9 .pre .1 .0 .few), c2 .look-in .ensures, c .if2 .left)
-
-write-item-enum-known-made : (t : ℕ) → write-item-lts.Need-enum-known-made (write-item-calls t) (write-item-at t) write-item.Post
-write-item-enum-known-made t c = search needs
-
-write-item-copied-bytes-requires : (t : ℕ) → write-item-lts.Need-copied-bytes-requires (write-item-calls t) (write-item-at t) write-item.Post
-write-item-copied-bytes-requires t c κs =
-    let c1 = c .before in
-    let c3 = c1 .before .before in
-    let c13 = c3 .before .before .before .before .before .before .before .before .before .before in
-    laid-row _ _ _ _ _ (c3 .lay .ensures) _ (c13 .pre .1 .0) _ _ _ _ (c1 .made .given .1)
-
-write-item-put-part-requires-2 : (t : ℕ) → write-item-lts.Need-put-part-requires-2 (write-item-calls t) (write-item-at t) write-item.Post
-write-item-put-part-requires-2 t c κs =
-    let c1 = c .before in
-    let c2 = c1 .before in
-    let c4 = c2 .before .before in
-    let c6 = c4 .before .before in
-    let c16 = c6 .before .before .before .before .before .before .before .before .before .before in
-    part-need _ _ _ _ _ _ _ _
-    (row-all _ _ _ _ _ (c6 .lay .ensures) _ _ _ _ _ _ (c4 .made .given .1) _ (c16 .pre .1 .0) (c16 .pre .1 .1) _ (c1 .if3 .taken)
-    (c2 .copied-bytes .ensures (c1 .if3 .taken))) (c16 .pre .1 .2)
-
-write-item-same-length-3 : (t : ℕ) → write-item-lts.Need-same-length-3 (write-item-calls t) (write-item-at t) write-item.Post
-write-item-same-length-3 t c = search needs
-
-write-item-returns-3 : (t : ℕ) → write-item-lts.Need-returns-3 (write-item-calls t) (write-item-at t) write-item.Post
-write-item-returns-3 t c =
-    let c2 = c .before .before in
-    let c4 = c2 .before .before in
-    let c5 = c4 .before in
-    let c7 = c5 .before .before in
-    let c9 = c7 .before .before in
-    let c19 = c9 .before .before .before .before .before .before .before .before .before .before in
-    part-done _ _ _ _ _ _ _ _
-    (row-all _ _ _ _ _ (c9 .lay .ensures) _ _ _ _ _ _ (c7 .made .given .1) _ (c19 .pre .1 .0) (c19 .pre .1 .1) _ (c4 .if3 .taken)
-    (c5 .copied-bytes .ensures (c4 .if3 .taken))) _ _ (c2 .put-part2 .ensures)
-
-write-item-write-fields-requires : (t : ℕ) → write-item-lts.Need-write-fields-requires (write-item-calls t) (write-item-at t) write-item.Post
-write-item-write-fields-requires t c κs =
+item-put-leaf-requires : (t : ℕ) → item-lts.Need-put-leaf-requires (item-calls t) (item-at t) item.Post
+item-put-leaf-requires t c κs =
     let c4 = c .before .before .before .before in
-    let c6 = c4 .before .before in
-    let c16 = c6 .before .before .before .before .before .before .before .before .before .before in (
+    let c10 = c4 .before .before .before .before .before .before in
+    below-asked _ _ _ (c .before .before .before .look-in .ensures) (c .before .if2 .taken) _ _ _ _ _ _ _ (c10 .pre .1 .0) (c4 .if1 .left) (c10 .pre .1 .1)
+    (c10 .pre .1 .2)
+
+item-same-length-2 : (t : ℕ) → item-lts.Need-same-length-2 (item-calls t) (item-at t) item.Post
+item-same-length-2 t c = search needs
+
+item-returns-2 : (t : ℕ) → item-lts.Need-returns-2 (item-calls t) (item-at t) item.Post
+item-returns-2 t c =
+    let c4 = c .before .before .before .before in
+    below-put _ _ _ (c4 .before .before .look-in .ensures) (c4 .if2 .taken) _ _ _ _ _ _ _ _ (c .before .before .put-leaf .ensures)
+
+item-lay-requires : (t : ℕ) → item-lts.Need-lay-requires (item-calls t) (item-at t) item.Post
+item-lay-requires t c κs =
+    let c9 = c .before .before .before .before .before .before .before .before .before in
+    (c9 .pre .1 .0 .legal, omega (arith, c9 .pre .1 .0 .few), c .before .before .look-in .ensures, c .if2 .left)
+
+item-enum-known-made : (t : ℕ) → item-lts.Need-enum-known-made (item-calls t) (item-at t) item.Post
+item-enum-known-made t c = search needs
+
+item-copied-bytes-requires : (t : ℕ) → item-lts.Need-copied-bytes-requires (item-calls t) (item-at t) item.Post
+item-copied-bytes-requires t c κs =
+    let c13 = c .before .before .before .before .before .before .before .before .before .before .before .before .before in
+    laid-row _ _ _ _ _ (c .before .before .before .lay .ensures) _ (c13 .pre .1 .0) _ _ _ _ (c .before .made .given .1)
+
+item-put-part-requires-2 : (t : ℕ) → item-lts.Need-put-part-requires-2 (item-calls t) (item-at t) item.Post
+item-put-part-requires-2 t c κs =
+    let c4 = c .before .before .before .before in
+    let c16 = c4 .before .before .before .before .before .before .before .before .before .before .before .before in
+    part-need
+    (row-all _ _ _ _ _ (c4 .before .before .lay .ensures) _ _ _ _ _ _ (c4 .made .given .1) _ (c16 .pre .1 .0) (c16 .pre .1 .1) _ (c .before .if3 .taken)
+    (c .before .before .copied-bytes .ensures (c .before .if3 .taken))) (c16 .pre .1 .2)
+
+item-same-length-3 : (t : ℕ) → item-lts.Need-same-length-3 (item-calls t) (item-at t) item.Post
+item-same-length-3 t c = search needs
+
+item-returns-3 : (t : ℕ) → item-lts.Need-returns-3 (item-calls t) (item-at t) item.Post
+item-returns-3 t c =
+    let c4 = c .before .before .before .before in
+    let c9 = c4 .before .before .before .before .before in
+    let c19 = c9 .before .before .before .before .before .before .before .before .before .before in
+    part-done
+    (row-all _ _ _ _ _ (c9 .lay .ensures) _ _ _ _ _ _ (c4 .before .before .before .made .given .1) _ (c19 .pre .1 .0) (c19 .pre .1 .1) _ (c4 .if3 .taken)
+    (c4 .before .copied-bytes .ensures (c4 .if3 .taken))) (c .before .before .put-part2 .ensures)
+
+item-write-fields-requires : (t : ℕ) → item-lts.Need-write-fields-requires (item-calls t) (item-at t) item.Post
+item-write-fields-requires t c κs =
+    let c4 = c .before .before .before .before in
+    let c16 = c4 .before .before .before .before .before .before .before .before .before .before .before .before in (
       omega (arith, c16 .pre .0),
-      row-ready _ _ _ _ _ _ _ _ _ (c6 .lay .ensures) _ _ _ _ (c4 .made .given .1) _ (c16 .pre .1 .0) (c16 .pre .1 .1)
-          (c16 .pre .1 .2),
+      row-ready _ _ _ _ _ _ _ _ _ (c4 .before .before .lay .ensures) _ _ _ _ (c4 .made .given .1) _ (c16 .pre .1 .0)
+          (c16 .pre .1 .1) (c16 .pre .1 .2),
     )
 
-write-item-enum-told : (t : ℕ) → write-item-lts.Need-enum-told (write-item-calls t) (write-item-at t) write-item.Post
-write-item-enum-told t c = search needs
+item-enum-told : (t : ℕ) → item-lts.Need-enum-told (item-calls t) (item-at t) item.Post
+item-enum-told t c = search needs
 
-write-item-put-selector-requires : (t : ℕ) → write-item-lts.Need-put-selector-requires (write-item-calls t) (write-item-at t) write-item.Post
-write-item-put-selector-requires t c κs =
-    let c1 = c .before in
-    let c3 = c1 .before .before in
-    let c13 = c3 .before .before .before .before .before .before .before .before .before .before in
-    bare-need _ _ _ _ _ _ _ _ _ (c3 .lay .ensures) (c1 .enum-told .given .1) (c13 .pre .1 .2)
+item-put-selector-requires : (t : ℕ) → item-lts.Need-put-selector-requires (item-calls t) (item-at t) item.Post
+item-put-selector-requires t c κs =
+    let c13 = c .before .before .before .before .before .before .before .before .before .before .before .before .before in
+    bare-need _ _ _ _ _ _ _ _ _ (c .before .before .before .lay .ensures) (c .before .enum-told .given .1) (c13 .pre .1 .2)
 
-write-item-enum-known-made-2 : (t : ℕ) → write-item-lts.Need-enum-known-made-2 (write-item-calls t) (write-item-at t) write-item.Post
-write-item-enum-known-made-2 t c = search needs
+item-enum-known-made-2 : (t : ℕ) → item-lts.Need-enum-known-made-2 (item-calls t) (item-at t) item.Post
+item-enum-known-made-2 t c = search needs
 
-write-item-put-selector-requires-2 : (t : ℕ) → write-item-lts.Need-put-selector-requires-2 (write-item-calls t) (write-item-at t) write-item.Post
-write-item-put-selector-requires-2 t c κs =
-    let c2 = c .before .before in
-    let c4 = c2 .before .before in
+item-put-selector-requires-2 : (t : ℕ) → item-lts.Need-put-selector-requires-2 (item-calls t) (item-at t) item.Post
+item-put-selector-requires-2 t c κs =
+    let c4 = c .before .before .before .before in
     let c14 = c4 .before .before .before .before .before .before .before .before .before .before in
-    body-need _ _ _ _ _ _ _ _ _ (c4 .lay .ensures) _ (c2 .made2 .given .1) (c14 .pre .1 .2)
+    body-need _ _ _ _ _ _ _ _ _ (c4 .lay .ensures) _ (c .before .before .made2 .given .1) (c14 .pre .1 .2)
 
-write-item-write-item-requires : (t : ℕ) → write-item-lts.Need-write-item-requires (write-item-calls t) (write-item-at t) write-item.Post
-write-item-write-item-requires t c κs =
-    let c3 = c .before .before .before in
-    let c6 = c3 .before .before .before in
-    let c8 = c6 .before .before in
-    let c18 = c8 .before .before .before .before .before .before .before .before .before .before in
-    let below = laid-below _ _ _ _ _ (c8 .lay .ensures) _ (c6 .made2 .given .1) in
-    let ready = body-ready _ _ _ _ _ _ _ _ _ (c8 .lay .ensures) _ (c6 .made2 .given .1) _ _ (c3 .put-selector2 .ensures) (c18 .pre .1 .1) (c18 .pre .1 .2) in
+item-write-item-requires : (t : ℕ) → item-lts.Need-write-item-requires (item-calls t) (item-at t) item.Post
+item-write-item-requires t c κs =
+    let c6 = c .before .before .before .before .before .before in
+    let c18 = c6 .before .before .before .before .before .before .before .before .before .before .before .before in
+    let below = laid-below _ _ _ _ _ (c6 .before .before .lay .ensures) _ (c6 .made2 .given .1) in
+    let ready = body-ready _ _ _ _ _ _ _ _ _ (c6 .before .before .lay .ensures) _ (c6 .made2 .given .1) _ _
+    (c .before .before .before .put-selector2 .ensures) (c18 .pre .1 .1) (c18 .pre .1 .2) in
     (omega (arith, c18 .pre .0, below), (under-below _ _ _ _ (omega (arith, below)) (c18 .pre .1 .0), ready .0, ready .1))
 
-write-item-enum-told-2 : (t : ℕ) → write-item-lts.Need-enum-told-2 (write-item-calls t) (write-item-at t) write-item.Post
-write-item-enum-told-2 t c = search needs
+item-enum-told-2 : (t : ℕ) → item-lts.Need-enum-told-2 (item-calls t) (item-at t) item.Post
+item-enum-told-2 t c = search needs
 
-write-item-same-length-4 : (t : ℕ) → write-item-lts.Need-same-length-4 (write-item-calls t) (write-item-at t) write-item.Post
-write-item-same-length-4 t c = search needs
+item-same-length-4 : (t : ℕ) → item-lts.Need-same-length-4 (item-calls t) (item-at t) item.Post
+item-same-length-4 t c = search needs
 
-write-item-returns-4 : (t : ℕ) → write-item-lts.Need-returns-4 (write-item-calls t) (write-item-at t) write-item.Post
-write-item-returns-4 t c =
-    let c2 = c .before .before in
-    let c7 = c2 .before .before .before .before .before in
-    let c9 = c7 .before .before in
-    row-done _ _ _ _ _ _ _ _ _ (c9 .lay .ensures) _ _ _ _ (c7 .made .given .1) _ _ (c2 .write-fields .ensures)
+item-returns-4 : (t : ℕ) → item-lts.Need-returns-4 (item-calls t) (item-at t) item.Post
+item-returns-4 t c =
+    let c7 = c .before .before .before .before .before .before .before in
+    row-done _ _ _ _ _ _ _ _ _ (c7 .before .before .lay .ensures) _ _ _ _ (c7 .made .given .1) _ _ (c .before .before .write-fields .ensures)
 
-write-item-same-length-5 : (t : ℕ) → write-item-lts.Need-same-length-5 (write-item-calls t) (write-item-at t) write-item.Post
-write-item-same-length-5 t c = search needs
+item-same-length-5 : (t : ℕ) → item-lts.Need-same-length-5 (item-calls t) (item-at t) item.Post
+item-same-length-5 t c = search needs
 
-write-item-returns-5 : (t : ℕ) → write-item-lts.Need-returns-5 (write-item-calls t) (write-item-at t) write-item.Post
-write-item-returns-5 t c =
-    let c2 = c .before .before in
-    let c4 = c2 .before .before in
-    let c6 = c4 .before .before in
-    bare-done _ _ _ _ _ _ _ _ _ (c6 .lay .ensures) (c4 .enum-told .given .1) _ _ (c2 .put-selector .ensures)
+item-returns-5 : (t : ℕ) → item-lts.Need-returns-5 (item-calls t) (item-at t) item.Post
+item-returns-5 t c =
+    let c4 = c .before .before .before .before in
+    bare-done _ _ _ _ _ _ _ _ _ (c4 .before .before .lay .ensures) (c4 .enum-told .given .1) _ _ (c .before .before .put-selector .ensures)
 
-write-item-same-length-6 : (t : ℕ) → write-item-lts.Need-same-length-6 (write-item-calls t) (write-item-at t) write-item.Post
-write-item-same-length-6 t c = search needs
+item-same-length-6 : (t : ℕ) → item-lts.Need-same-length-6 (item-calls t) (item-at t) item.Post
+item-same-length-6 t c = search needs
 
-write-item-returns-6 : (t : ℕ) → write-item-lts.Need-returns-6 (write-item-calls t) (write-item-at t) write-item.Post
-write-item-returns-6 t c =
-    let c2 = c .before .before in
-    let c6 = c2 .before .before .before .before in
-    let c9 = c6 .before .before .before in
-    let c11 = c9 .before .before in
-    body-done _ _ _ _ _ _ _ _ _ (c11 .lay .ensures) _ (c9 .made2 .given .1) _ _ (c6 .put-selector2 .ensures) _ _ (c2 .write-item .ensures)
+item-returns-6 : (t : ℕ) → item-lts.Need-returns-6 (item-calls t) (item-at t) item.Post
+item-returns-6 t c =
+    let c6 = c .before .before .before .before .before .before in
+    let c11 = c6 .before .before .before .before .before in
+    body-done _ _ _ _ _ _ _ _ _ (c11 .lay .ensures) _ (c6 .before .before .before .made2 .given .1) _ _ (c6 .put-selector2 .ensures) _ _
+    (c .before .before .write-item .ensures)
 
-write-item-returns-7 : (t : ℕ) → write-item-lts.Need-returns-7 (write-item-calls t) (write-item-at t) write-item.Post
-write-item-returns-7 t c =
-    let c2 = c .before .before in
-    let c12 = c2 .before .before .before .before .before .before .before .before .before .before in
-    absurd (wrong-never _ _ _ _ _ _ _ (c2 .lay .ensures) _ (c .enum-told2 .given .1) (c12 .pre .1 .1))
+item-returns-7 : (t : ℕ) → item-lts.Need-returns-7 (item-calls t) (item-at t) item.Post
+item-returns-7 t c =
+    let c12 = c .before .before .before .before .before .before .before .before .before .before .before .before in
+    absurd (wrong-never _ _ _ _ _ _ _ (c .before .before .lay .ensures) _ (c .enum-told2 .given .1) (c12 .pre .1 .1))
 
 pub +write-fields+write-item-spec : {M : Type 1} → statement M
-+write-fields+write-item-spec = close μ-write-fields μ-write-item (λ t. write-fields-lts.spec (write-fields-calls t)
-    (write-fields-at t)
-    write-fields.Post
-    write-fields-Inv-loop
-    write-fields-μ-loop
-    (write-fields-portion-of-requires t)
-    (write-fields-add-q t)
-    (write-fields-loop-holds t)
-    (write-fields-word-in-requires t)
-    (write-fields-mul-k t)
-    (write-fields-element-copy-out-k t)
-    (write-fields-cast-k t)
-    (write-fields-add-a t)
-    (write-fields-sub-left t)
-    (write-fields-put-part-requires t)
-    (write-fields-loop-less t)
-    (write-fields-loop-again t)
-    (write-fields-sub-off t)
-    (write-fields-put-four-requires t)
-    (write-fields-add-p t)
-    (write-fields-look-in-requires t)
-    (write-fields-put-leaf-requires t)
-    (write-fields-write-item-requires t)
-    (write-fields-loop-less-2 t)
-    (write-fields-loop-again-2 t)
-    (write-fields-loop-less-3 t)
-    (write-fields-loop-again-3 t)
-    (write-fields-same-length t)
-    (write-fields-returns t))
-    λ t. write-item-lts.spec (write-item-calls t)
-    (write-item-at t)
-    write-item.Post
-    (write-item-mul-own t)
-    (write-item-element-copy-out-own t)
-    (write-item-cast-own t)
-    (write-item-put-part-requires t)
-    (write-item-same-length t)
-    (write-item-returns t)
-    (write-item-look-in-requires t)
-    (write-item-put-leaf-requires t)
-    (write-item-same-length-2 t)
-    (write-item-returns-2 t)
-    (write-item-lay-requires t)
-    (write-item-enum-known-made t)
-    (write-item-copied-bytes-requires t)
-    (write-item-put-part-requires-2 t)
-    (write-item-same-length-3 t)
-    (write-item-returns-3 t)
-    (write-item-write-fields-requires t)
-    (write-item-enum-told t)
-    (write-item-put-selector-requires t)
-    (write-item-enum-known-made-2 t)
-    (write-item-put-selector-requires-2 t)
-    (write-item-write-item-requires t)
-    (write-item-enum-told-2 t)
-    (write-item-same-length-4 t)
-    (write-item-returns-4 t)
-    (write-item-same-length-5 t)
-    (write-item-returns-5 t)
-    (write-item-same-length-6 t)
-    (write-item-returns-6 t)
-    (write-item-returns-7 t)
++write-fields+write-item-spec = close μ-fields μ-item (λ t. fields-lts.spec (fields-calls t)
+    (fields-at t)
+    fields.Post
+    fields-inv
+    fields-μ
+    (fields-portion-of-requires t)
+    (fields-add-q t)
+    (fields-loop-holds t)
+    (fields-word-in-requires t)
+    (fields-mul-k t)
+    (fields-element-copy-out-k t)
+    (fields-cast-k t)
+    (fields-add-a t)
+    (fields-sub-left t)
+    (fields-put-part-requires t)
+    (fields-loop-less t)
+    (fields-loop-again t)
+    (fields-sub-off t)
+    (fields-put-four-requires t)
+    (fields-add-p t)
+    (fields-look-in-requires t)
+    (fields-put-leaf-requires t)
+    (fields-write-item-requires t)
+    (fields-loop-less-2 t)
+    (fields-loop-again-2 t)
+    (fields-loop-less-3 t)
+    (fields-loop-again-3 t)
+    (fields-same-length t)
+    (fields-returns t))
+    λ t. item-lts.spec (item-calls t)
+    (item-at t)
+    item.Post
+    (item-mul-own t)
+    (item-element-copy-out-own t)
+    (item-cast-own t)
+    (item-put-part-requires t)
+    (item-same-length t)
+    (item-returns t)
+    (item-look-in-requires t)
+    (item-put-leaf-requires t)
+    (item-same-length-2 t)
+    (item-returns-2 t)
+    (item-lay-requires t)
+    (item-enum-known-made t)
+    (item-copied-bytes-requires t)
+    (item-put-part-requires-2 t)
+    (item-same-length-3 t)
+    (item-returns-3 t)
+    (item-write-fields-requires t)
+    (item-enum-told t)
+    (item-put-selector-requires t)
+    (item-enum-known-made-2 t)
+    (item-put-selector-requires-2 t)
+    (item-write-item-requires t)
+    (item-enum-told-2 t)
+    (item-same-length-4 t)
+    (item-returns-4 t)
+    (item-same-length-5 t)
+    (item-returns-5 t)
+    (item-same-length-6 t)
+    (item-returns-6 t)
+    (item-returns-7 t)

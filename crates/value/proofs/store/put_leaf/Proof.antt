@@ -29,7 +29,7 @@ add-next c =
 put-part-requires : tie.Need-put-part-requires
 put-part-requires c κs =
     let p = c .before .before .before .before .before .before .before .pre in
-    part-need _ _ _ _ _ _ _ _ (kind-free _ _ _ _ _ (p .1) (c .before .if1 .taken) .0) (p .2)
+    part-need (kind-free _ _ _ _ _ (p .1) (c .before .if1 .taken) .0) (p .2)
 
 same-length : tie.Need-same-length
 same-length c = search needs
@@ -39,12 +39,12 @@ returns c =
     let c2 = c .before .before in
     let c4 = c2 .before .before in
     let p = c4 .before .before .before .before .before .before .pre in
-    part-done _ _ _ _ _ _ _ _ (kind-free _ _ _ _ _ (p .1) (c4 .if1 .taken) .0) _ _ (c2 .put-part .ensures)
+    part-done (kind-free _ _ _ _ _ (p .1) (c4 .if1 .taken) .0) (c2 .put-part .ensures)
 
 put-list-requires : tie.Need-put-list-requires
 put-list-requires c κs =
     let p = c .before .before .before .before .before .before .before .pre in
-    list-need _ _ _ _ _ _ _ _ (kind-bits _ _ _ _ _ (p .1) (p .0) (c .before .if1 .left) .0) (p .2)
+    list-need (kind-bits _ _ _ _ _ (p .1) (p .0) (c .before .if1 .left) .0) (p .2)
 
 same-length-2 : tie.Need-same-length-2
 same-length-2 c = search needs
@@ -54,7 +54,7 @@ returns-2 c =
     let c2 = c .before .before in
     let c4 = c2 .before .before in
     let p = c4 .before .before .before .before .before .before .pre in
-    list-done _ _ _ _ _ _ _ _ (kind-bits _ _ _ _ _ (p .1) (p .0) (c4 .if1 .left) .0) _ _ (c2 .put-list .ensures)
+    list-done (kind-bits _ _ _ _ _ (p .1) (p .0) (c4 .if1 .left) .0) (c2 .put-list .ensures)
 
 pub put-leaf-spec : {M : Type 1} → statement M
 put-leaf-spec =
