@@ -8,9 +8,7 @@ use Rattle.value.proofs.laid.lay.Statement.{statement}
 use Rattle.value.proofs.laid.lay.Tie as tie
 
 add-third : tie.Need-add-third
-add-third c =
-    let c3 = c .before .before .before in
-    omega (arith, legal-node _ _ _ (c3 .pre .2) (c3 .pre .0) .near)
+add-third c = omega (arith, legal-node _ _ _ (c .before .before .before .pre .2) (c .before .before .before .pre .0) .near)
 
 returns : tie.Need-returns
 returns c =
@@ -25,15 +23,13 @@ select-requires c κs =
 
 returns-2 : tie.Need-returns-2
 returns-2 c =
-    let c1 = c .before in
-    let c8 = c1 .before .before .before .before .before .before .before in
-    laid-union _ _ _ (c8 .pre .2) (c1 .if2 .taken) (c8 .pre .0) _ _ _ (c .select .ensures)
+    let c8 = c .before .before .before .before .before .before .before .before in
+    laid-union _ _ _ (c8 .pre .2) (c .before .if2 .taken) (c8 .pre .0) _ _ _ (c .select .ensures)
 
 word-in-requires : tie.Need-word-in-requires
 word-in-requires c κs =
-    let c2 = c .before .before in
-    let c7 = c2 .before .before .before .before .before in
-    legal-node _ _ _ (c7 .pre .2) (c7 .pre .0) .third (omega (arith, c7 .pre .3, c2 .if1 .left, c .if2 .left))
+    let c7 = c .before .before .before .before .before .before .before in
+    legal-node _ _ _ (c7 .pre .2) (c7 .pre .0) .third (omega (arith, c7 .pre .3, c .before .before .if1 .left, c .if2 .left))
 
 add-element : tie.Need-add-element
 add-element c =
@@ -42,22 +38,18 @@ add-element c =
 
 returns-3 : tie.Need-returns-3
 returns-3 c =
-    let c3 = c .before .before .before in
-    let c4 = c3 .before in
-    let c6 = c4 .before .before in
-    let c11 = c6 .before .before .before .before .before in
-    laid-vector _ _ (c11 .pre .0) (c11 .pre .1) _ (c11 .pre .2) _ _ (omega (arith, c11 .pre .3, c6 .if1 .left, c4 .if2 .left)) _ (c3 .word-in .ensures .0)
-    (c .if3 .taken) (c3 .word-in .ensures .1)
+    let c4 = c .before .before .before .before in
+    let c11 = c4 .before .before .before .before .before .before .before in
+    laid-vector _ _ (c11 .pre .0) (c11 .pre .1) _ (c11 .pre .2) _ _ (omega (arith, c11 .pre .3, c4 .before .before .if1 .left, c4 .if2 .left)) _
+    (c .before .before .before .word-in .ensures .0) (c .if3 .taken) (c .before .before .before .word-in .ensures .1)
 
 returns-4 : tie.Need-returns-4
 returns-4 c =
-    let c1 = c .before in
-    let c4 = c1 .before .before .before in
-    let c5 = c4 .before in
-    let c7 = c5 .before .before in
-    let c12 = c7 .before .before .before .before .before in
-    laid-missing _ _ (c12 .pre .0) (c12 .pre .1) _ (c12 .pre .2) _ _ (omega (arith, c12 .pre .3, c7 .if1 .left, c5 .if2 .left)) _ (c4 .word-in .ensures .0)
-    (c1 .if3 .left) (c .if4 .taken)
+    let c4 = c .before .before .before .before in
+    let c12 = c4 .before .before .before .before .before .before .before .before in
+    laid-missing _ _ (c12 .pre .0) (c12 .pre .1) _ (c12 .pre .2) _ _
+    (omega (arith, c12 .pre .3, c4 .before .before .before .if1 .left, c4 .before .if2 .left)) _ (c4 .word-in .ensures .0) (c .before .if3 .left)
+    (c .if4 .taken)
 
 mul-m : tie.Need-mul-m
 mul-m c = search needs
@@ -72,29 +64,21 @@ cast-m c =
 
 returns-5 : tie.Need-returns-5
 returns-5 c =
-    let c2 = c .before .before in
-    let c3 = c2 .before in
-    let c6 = c3 .before .before .before in
-    let c7 = c6 .before in
-    let c9 = c7 .before .before in
-    let c14 = c9 .before .before .before .before .before in
-    laid-over _ _ (c14 .pre .0) (c14 .pre .1) _ (c14 .pre .2) _ _ (omega (arith, c14 .pre .3, c9 .if1 .left, c7 .if2 .left)) _ (c6 .word-in .ensures .0)
-    (c3 .if3 .left) (c2 .if4 .left) (c .if5 .taken)
+    let c6 = c .before .before .before .before .before .before in
+    let c14 = c6 .before .before .before .before .before .before .before .before in
+    laid-over _ _ (c14 .pre .0) (c14 .pre .1) _ (c14 .pre .2) _ _ (omega (arith, c14 .pre .3, c6 .before .before .before .if1 .left, c6 .before .if2 .left)) _
+    (c6 .word-in .ensures .0) (c .before .before .before .if3 .left) (c .before .before .if4 .left) (c .if5 .taken)
 
 add-word : tie.Need-add-word
 add-word c = search needs
 
 returns-6 : tie.Need-returns-6
 returns-6 c =
-    let c1 = c .before in
-    let c2 = c1 .before in
-    let c3 = c2 .before in
-    let c6 = c3 .before .before .before in
-    let c7 = c6 .before in
-    let c9 = c7 .before .before in
-    let c14 = c9 .before .before .before .before .before in
-    laid-list _ _ (c14 .pre .0) (c14 .pre .1) _ (c14 .pre .2) _ _ (omega (arith, c14 .pre .3, c9 .if1 .left, c7 .if2 .left)) _ (c6 .word-in .ensures .0)
-    (c3 .if3 .left) (c2 .if4 .left) (c .if5 .left) (omega (arith, c1 .shared-slice-known3 .given (c14 .args .i)))
+    let c6 = c .before .before .before .before .before .before in
+    let c14 = c6 .before .before .before .before .before .before .before .before in
+    laid-list _ _ (c14 .pre .0) (c14 .pre .1) _ (c14 .pre .2) _ _ (omega (arith, c14 .pre .3, c6 .before .before .before .if1 .left, c6 .before .if2 .left)) _
+    (c6 .word-in .ensures .0) (c .before .before .before .if3 .left) (c .before .before .if4 .left) (c .if5 .left)
+    (omega (arith, c .before .shared-slice-known3 .given (c14 .args .i)))
 
 pub lay-spec : {M : Type 1} → statement M
 lay-spec =

@@ -16,41 +16,36 @@ returns-2 : tie.Need-returns-2
 returns-2 c = λ (h : 0 < 0). absurd (omega arith)
 
 word-in-requires : tie.Need-word-in-requires
-word-in-requires c κs =
-    let c3 = c .before .before .before in
-    row-there _ _ _ _ _ _ (c3 .pre .0) (omega (arith, c .if2 .left))
+word-in-requires c κs = row-there _ _ _ _ _ _ (c .before .before .before .pre .0) (omega (arith, c .if2 .left))
 
 mul-result : tie.Need-mul-result
 mul-result c = search needs
 
 element-copy-out-result : tie.Need-element-copy-out-result
 element-copy-out-result c =
-    let c1 = c .before in
-    let c4 = c1 .before .before .before in
-    row-few _ _ _ _ _ _ _ (c4 .pre .0) (omega (arith, c1 .if2 .left)) (c .word-in .ensures .0)
+    let c4 = c .before .before .before .before in
+    row-few _ _ _ _ _ _ _ (c4 .pre .0) (omega (arith, c .before .if2 .left)) (c .word-in .ensures .0)
 
 cast-result : tie.Need-cast-result
 cast-result c =
-    let c1 = c .before in
-    let c2 = c1 .before in
-    let c5 = c2 .before .before .before in
-    omega (arith, row-small _ _ _ _ _ _ _ (c5 .pre .0) (omega (arith, c2 .if2 .left)) (c1 .word-in .ensures .0))
+    let c5 = c .before .before .before .before .before in
+    omega (arith, row-small _ _ _ _ _ _ _ (c5 .pre .0) (omega (arith, c .before .before .if2 .left)) (c .before .word-in .ensures .0))
 
 mul-result-2 : tie.Need-mul-result-2
 mul-result-2 c =
-    let c1 = c .before in
-    let c2 = c1 .before in
-    let c5 = c2 .before .before .before in
-    omega (arith, product-small _ _ (c5 .pre .1) (row-small _ _ _ _ _ _ _ (c5 .pre .0) (omega (arith, c2 .if2 .left)) (c1 .word-in .ensures .0)))
+    let c5 = c .before .before .before .before .before in
+    omega (
+      arith,
+      product-small _ _ (c5 .pre .1)
+          (row-small _ _ _ _ _ _ _ (c5 .pre .0) (omega (arith, c .before .before .if2 .left)) (c .before .word-in .ensures .0)),
+    )
 
 returns-3 : tie.Need-returns-3
 returns-3 c =
-    let c1 = c .before in
-    let c2 = c1 .before in
-    let c3 = c2 .before in
-    let c5 = c3 .before .before in
-    let step : c5 .args .step ≡ 0 = omega (arith, c3 .if1 .left) in
-    λ h. rw step (elements-fixed _ _ _ _ _ _ _ (rw step at (c5 .pre .0)) (omega (arith, c2 .if2 .left)) (c1 .word-in .ensures .0) refl h)
+    let c5 = c .before .before .before .before .before in
+    let step : c5 .args .step ≡ 0 = omega (arith, c .before .before .before .if1 .left) in
+    λ h. rw step
+    (elements-fixed _ _ _ _ _ _ _ (rw step at (c5 .pre .0)) (omega (arith, c .before .before .if2 .left)) (c .before .word-in .ensures .0) refl h)
 
 pub copied-bytes-spec : {M : Type 1} → statement M
 copied-bytes-spec =
