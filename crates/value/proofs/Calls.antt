@@ -1,19 +1,18 @@
 -- The call: what its tests give is what the definition says. Assumes nothing.
-use mathlib.Core.Path.{_≡_, refl, sym, ap, _∙_}
+use mathlib.Core.Path.{_≡_}
 use mathlib.Core.List.{List}
 use mathlib.Core.Bool.{false}
-use Prim.Native.Nat.{ℕ, _+_, _≤_, _<_}
+use Prim.Native.Nat.{ℕ, _≤_, _<_}
 use native.Mathlib.Omega.{arith}
 use borrow.Author.Tests.{lt-ltb, le-ltb}
 use lib.ListN.{length}
-use lib.Seq.{sets}
 use lib.Dec.{ltb}
 use Rattle.standard.specs.Bytes.{Room}
 use Rattle.standard.specs.Types.{Ty}
 use Rattle.standard.specs.declared.Refusal.{Refusal}
 use Rattle.standard.specs.declared.Refusal.the-variants.{TooLarge, NoRoom, BadValue}
-use Rattle.value.specs.Walk.{Walked, upto, wrong, walkItem}
-use Rattle.value.specs.Write.{writeItem, whole, walkAll, writtenOf, storedOf}
+use Rattle.value.specs.Walk.{upto, walkItem}
+use Rattle.value.specs.Write.{writeItem, walkAll, writtenOf, storedOf}
 use Rattle.value.specs.Steps.{cap, measured, IsUpto}
 use Rattle.value.specs.Stores.{Put}
 use Rattle.value.specs.declared.measure.Mark.{Mark}

@@ -1,7 +1,7 @@
 -- Bytes stored one after another, and fields stored at two places: heads in the fixed portion, bodies behind it. Assumes nothing.
 use mathlib.Core.Path.{_≡_, refl, sym, ap, _∙_}
 use mathlib.Core.List.{List, [], _∷_, _++_}
-use Prim.Native.Nat.{ℕ, zero, suc, _+_, _-_, _*_, _/_, _%_, _≤_, _<_, _^_}
+use Prim.Native.Nat.{ℕ, suc, _+_, _-_, _*_, _/_, _%_, _≤_, _<_, _^_}
 use native.Mathlib.Nat.{zero-add, div-eq-of-lt}
 use native.Mathlib.Omega.{arith}
 use lib.ListN.{length, getD, take, drop, set, length-append}
@@ -24,7 +24,7 @@ use Rattle.layout.proofs.Trees.{legal-tree}
 use Rattle.message.specs.Read.{rawBytes}
 use Rattle.message.specs.Steps.{Under, Row, rowOf, headsOf}
 use Rattle.message.proofs.Rows.{len-head, row-under, row-next, row-head, row-heads, row-fixed, row-variable, heads-none}
-use Rattle.value.specs.Walk.{Walked, upto, wrong, lastBits, walkItem, walkFields}
+use Rattle.value.specs.Walk.{Walked, upto, lastBits, walkItem, walkFields}
 use Rattle.value.specs.Write.{wordAfter, byteAfter, bytesAt, withMark, writeItem, partsFrom}
 use Rattle.value.specs.Steps.{IsUpto}
 use Rattle.value.specs.Stores.{Put, Fields}

@@ -7,14 +7,14 @@ use native.Mathlib.Omega.{arith}
 use lib.ListN.{length, drop}
 use lib.Seq.{take-add, drop-drop}
 use Rattle.standard.specs.Bytes.{wordAt}
-use Rattle.standard.specs.Types.{Ty, Tys, number, boolean, fixedBytes, freeBytes, bitVector, bitList, container, union, list, vector, end, field, head, headAll, heads, joined, times, portion, LegalTy, LegalAll}
-use Rattle.standard.specs.Parts.{Part, piece, fixedLengths, fronts, backs, join, partHeads}
+use Rattle.standard.specs.Types.{Ty, Tys, number, boolean, fixedBytes, freeBytes, bitVector, bitList, container, union, list, vector}
+use Rattle.standard.specs.Types.{end, field, head, headAll, heads, joined, times, portion, LegalTy, LegalAll}
+use Rattle.standard.specs.Parts.{fixedLengths, fronts, backs, join, partHeads}
 use Rattle.standard.specs.declared.Head.{Head}
 use Rattle.standard.specs.declared.Head.the-variants.{Fixed, Variable}
 use Rattle.standard.proofs.Join.{Size, Sized, fixed-portion}
 use Rattle.standard.proofs.Elements.{All, copies, all-copies}
 use Rattle.standard.proofs.Laws.{joined-fixed, fixed-injective, legal-copies}
-use Rattle.layout.specs.Tree.{trees}
 use Rattle.layout.specs.Legal.{Legal}
 use Rattle.layout.proofs.Facts.{trees-get}
 use Rattle.layout.proofs.Trees.{legal-tree}

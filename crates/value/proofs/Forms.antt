@@ -3,11 +3,11 @@ use mathlib.Core.Path.{_≡_, refl, sym, ap, ap₂, _∙_}
 use mathlib.Core.Logic.{inl, inr}
 use mathlib.Core.List.{List, [], _∷_, _++_, append-assoc, append-nil}
 use mathlib.Core.Bool.{Bool, true, false}
-use Prim.Native.Nat.{ℕ, zero, suc, _+_, _-_, _*_, _/_, _%_, _≤_, _<_, _^_}
+use Prim.Native.Nat.{ℕ, suc, _+_, _-_, _*_, _/_, _%_, _≤_, _<_, _^_}
 use native.Mathlib.Nat.{add-zero, zero-add, mul-add}
 use native.Mathlib.Omega.{arith}
 use borrow.Author.Tests.{le-leb, lt-ltb, le-ltb, eq-eqb, ne-eqb, eqb-true, eqb-false}
-use lib.Dec.{eqb, ltb, leb}
+use lib.Dec.{eqb}
 use lib.Pow.{pow-add}
 use lib.ListN.{length, getD, take, drop, length-append, length-take, length-drop, take-append-drop, List·getD-append}
 use lib.Seq.{sets, take-at, drop-at, drop-drop, getD-drop, drop-cons, drop-length, take-append-le}
@@ -17,10 +17,9 @@ use Rattle.standard.specs.Bits.{bit, packs, pack, marked, bitNum}
 use Rattle.standard.specs.Types.{Ty, Tys, Opts, number, boolean, fixedBytes, freeBytes, bitVector, bitList, container, union, list, vector, end, field, over, bare, body, head, Rising, LegalTy, LegalAll, LegalOptions}
 use Rattle.standard.specs.Parts.{Part, piece, join}
 use Rattle.standard.specs.Serialize.{Val, Vals, Option, Ok, OkAll, OkOption, serialize, parts, selected}
-use Rattle.standard.specs.declared.Refusal.the-variants.{BadValue}
 use Rattle.standard.proofs.Bytes.{length-le, le-num, bytes-take, bytes-append}
 use Rattle.standard.proofs.Bits.{bit-bound, length-packs, bytes-packs, num-packs, packs-le, pow-bytes, bitNum-bound, bitNum-marked, num-append}
-use Rattle.standard.proofs.Elements.{All, copies, all-copies, asList, length-asList, by-copies, alike-copies, ok-copies}
+use Rattle.standard.proofs.Elements.{All, copies, all-copies, length-asList, by-copies, alike-copies, ok-copies}
 use Rattle.standard.proofs.Laws.{legal-copies}
 use Rattle.bitfield.proofs.Bodies.{cut-below}
 use Rattle.layout.specs.Table.{tableOf}
@@ -30,8 +29,8 @@ use Rattle.message.specs.Check.{messageType}
 use Rattle.message.specs.Form.{rawBits, contents, contentsAll, contentsOption, bodies, bodiesAll, bodiesOption}
 use Rattle.message.proofs.Theorem.{message-legal}
 use Rattle.message.proofs.Copies.{contents-copies, bodies-copies}
-use Rattle.value.specs.Walk.{Walked, upto, wrong, onward, lastBits, walkBits, walkItem, walkFields, walkOption}
-use Rattle.value.specs.Write.{wordAfter, byteAfter, bytesAt, withMark, writeItem, partsFrom, writeOption, walkAll, writeMessage, writtenBytes}
+use Rattle.value.specs.Walk.{upto, lastBits, walkBits, walkItem, walkFields, walkOption}
+use Rattle.value.specs.Write.{bytesAt, withMark, writeItem, partsFrom, writeOption, walkAll, writeMessage, writtenBytes}
 use Rattle.value.specs.declared.Written.the-variants.{Length}
 use Rattle.value.proofs.Copies.{walk-copies, parts-copies}
 

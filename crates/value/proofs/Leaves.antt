@@ -1,15 +1,15 @@
 -- What a walk without fault says, leaf by leaf. Assumes nothing.
-use mathlib.Core.Path.{_≡_, refl, sym, ap, _∙_}
-use mathlib.Core.List.{List, [], _∷_, _++_}
+use mathlib.Core.Path.{_≡_, refl, ap, _∙_}
+use mathlib.Core.List.{List}
 use mathlib.Core.Bool.{Bool, true, false}
-use Prim.Native.Nat.{ℕ, zero, suc, _+_, _-_, _*_, _/_, _%_, _≤_, _<_, _^_}
+use Prim.Native.Nat.{ℕ, _+_, _-_, _/_, _≤_, _<_, _^_}
 use native.Mathlib.Omega.{arith}
 use borrow.Author.Tests.{leb-true, ltb-true, eqb-true, eqb-false, ne-eqb}
 use lib.ListN.{length, getD}
 use lib.Dec.{eqb, ltb, leb}
 use Rattle.standard.specs.Choice.{pick}
-use Rattle.standard.specs.Bytes.{Stored, Room}
-use Rattle.standard.specs.Types.{Ty, number, boolean, fixedBytes, freeBytes, bitVector, bitList, head}
+use Rattle.standard.specs.Bytes.{Room}
+use Rattle.standard.specs.Types.{number, boolean, fixedBytes, freeBytes, bitVector, bitList, head}
 use Rattle.standard.specs.declared.Head.the-variants.{Variable}
 use Rattle.standard.specs.declared.Refusal.{Refusal}
 use Rattle.standard.specs.declared.Refusal.the-variants.{BadValue}
@@ -63,11 +63,13 @@ module _ (t : ℕ) (c b : List ℕ) (i j : ℕ) where
   unfolding walkItem writeItem
   number-form w h = let p = body-upto b j w (upto i (j + w)) h in record { walk = p .1; write = refl; there = p .0 }
 
-  pub fixed-form : (n : ℕ) → IsUpto (walkItem (fixedBytes t n) c b i j) → PartForm (walkItem (fixedBytes t n) c b i j) (writeItem (fixedBytes t n) c b i j) b i j n
+  pub fixed-form : (n : ℕ) → IsUpto (walkItem (fixedBytes t n) c b i j) →
+      PartForm (walkItem (fixedBytes t n) c b i j) (writeItem (fixedBytes t n) c b i j) b i j n
   unfolding walkItem writeItem
   fixed-form n h = let p = body-upto b j n (upto i (j + n)) h in record { walk = p .1; write = refl; there = p .0 }
 
-  pub boolean-form : IsUpto (walkItem (boolean t) c b i j) → PartForm (walkItem (boolean t) c b i j) (writeItem (boolean t) c b i j) b i j 1 × (getD b j 0 < 2)
+  pub boolean-form : IsUpto (walkItem (boolean t) c b i j) →
+      PartForm (walkItem (boolean t) c b i j) (writeItem (boolean t) c b i j) b i j 1 × (getD b j 0 < 2)
   unfolding walkItem writeItem
   boolean-form h =
       let p = body-upto b j 1 (pick (ltb (getD b j 0) 2) (upto i (j + 1)) (wrong (BadValue 1 j))) h in

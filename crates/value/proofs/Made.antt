@@ -1,5 +1,5 @@
 -- An item of a type with lower types, by what it is made of: what storing it asks and gives, and what is measured of it. Assumes nothing.
-use mathlib.Core.Path.{_≡_, refl, _∙_}
+use mathlib.Core.Path.{_≡_, _∙_}
 use mathlib.Core.List.{List, [], _∷_}
 use Prim.Native.Nat.{ℕ, _+_, _<_, _^_}
 use native.Mathlib.Omega.{arith}
@@ -13,7 +13,7 @@ use Rattle.standard.proofs.Store.{stored-then, room-then}
 use Rattle.layout.specs.Tree.{treeOf}
 use Rattle.message.specs.Steps.{Under, Row, rowOf}
 use Rattle.message.proofs.Rows.{under-small}
-use Rattle.value.specs.Walk.{Walked, upto, wrong, withBody, walkItem, walkFields}
+use Rattle.value.specs.Walk.{Walked, upto, withBody, walkItem, walkFields}
 use Rattle.value.specs.Write.{writeItem, partsFrom}
 use Rattle.value.specs.Steps.{measured, selected, IsUpto, AsRow, AsOption, LaidAs, AllPlain}
 use Rattle.value.specs.Stores.{Put, Fields}

@@ -20,7 +20,7 @@ use Rattle.layout.specs.declared.Node.{Node}
 use Rattle.layout.proofs.Facts.{as-leaf}
 use Rattle.message.specs.Steps.{Under, Row, rowOf, isPlain}
 use Rattle.message.proofs.Rows.{under-head, row-below, row-head}
-use Rattle.value.specs.Walk.{Walked, upto, wrong, withBody, walkItem, walkFields}
+use Rattle.value.specs.Walk.{upto, wrong, withBody, walkItem, walkFields}
 use Rattle.value.specs.Write.{bytesAt, writeItem, partsFrom}
 use Rattle.value.specs.Steps.{cap, measured, IsUpto}
 use Rattle.value.specs.Stores.{Put}

@@ -1,6 +1,6 @@
 -- A list or vector in a legal table is walked and written as a row of fields that share one word, and a container as a row of fields
 -- with a word each. Assumes nothing.
-use mathlib.Core.Path.{_≡_, refl, sym, ap, _∙_}
+use mathlib.Core.Path.{_≡_, sym, ap, _∙_}
 use mathlib.Core.List.{List}
 use Prim.Native.Nat.{ℕ, zero, suc, _+_, _*_, _<_, _≤_, _^_}
 use native.Mathlib.Omega.{arith}
@@ -8,7 +8,7 @@ use borrow.Author.Tests.{lt-ltb, le-ltb, le-leb, lt-leb}
 use lib.ListN.{length, getD}
 use lib.Dec.{leb}
 use Rattle.standard.specs.Bytes.{wordAt}
-use Rattle.standard.specs.Types.{Ty, list, vector, headAll}
+use Rattle.standard.specs.Types.{list, vector, headAll}
 use Rattle.standard.specs.Parts.{join}
 use Rattle.standard.specs.declared.Head.the-variants.{Fixed}
 use Rattle.standard.specs.declared.Refusal.the-variants.{BadValue}

@@ -1,21 +1,20 @@
 -- Unions and leaves of the tree: what the table's words say of a walk. Assumes nothing.
-use mathlib.Core.Path.{_≡_, refl, sym, ap, _∙_}
+use mathlib.Core.Path.{_≡_, refl, _∙_}
 use mathlib.Core.List.{List, [], _∷_}
 use mathlib.Core.Bool.{Bool, true, false}
 use Prim.Native.Nat.{ℕ, zero, suc, _+_, _-_, _≤_, _<_}
 use native.Mathlib.Omega.{arith}
-use borrow.Author.Tests.{eqb-true, eqb-false, ltb-true, ltb-false, lt-ltb, le-ltb, eq-eqb, ne-eqb}
+use borrow.Author.Tests.{eqb-true, eqb-false, ltb-true, lt-ltb, le-ltb, eq-eqb, ne-eqb}
 use lib.ListN.{length, getD}
 use lib.Dec.{eqb, ltb}
 use Rattle.standard.specs.Choice.{pick}
 use Rattle.standard.specs.Bytes.{wordAt}
-use Rattle.standard.specs.Types.{Ty, Tys, Opts, number, boolean, fixedBytes, freeBytes, bitVector, bitList, over, bare, body, head}
-use Rattle.standard.specs.declared.Refusal.{Refusal}
+use Rattle.standard.specs.Types.{Ty, Opts, number, boolean, fixedBytes, freeBytes, bitVector, bitList, over, bare, body, head}
 use Rattle.standard.specs.declared.Refusal.the-variants.{BadValue}
 use Rattle.layout.specs.Tree.{nodeOf, leafOf, options, trees, treeOf}
 use Rattle.layout.specs.Legal.{LowerOrBare, LegalNode, Legal}
 use Rattle.layout.specs.declared.Node.{Node}
-use Rattle.layout.proofs.Facts.{trees-get, as-union, as-leaf, legal-node}
+use Rattle.layout.proofs.Facts.{trees-get, as-union, legal-node}
 use Rattle.value.specs.Walk.{Walked, upto, wrong, walkItem, walkOption}
 use Rattle.value.specs.Write.{writeItem, writeOption}
 use Rattle.value.specs.Steps.{choose, LaidAs}

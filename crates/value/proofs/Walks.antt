@@ -1,12 +1,12 @@
 -- Walks and what is measured of them, leaf by leaf. Assumes nothing.
 use mathlib.Core.Path.{_≡_, refl, sym, ap, _∙_}
-use mathlib.Core.List.{List, [], _∷_, _++_}
+use mathlib.Core.List.{List, _∷_}
 use mathlib.Core.Bool.{Bool, true, false}
-use Prim.Native.Nat.{ℕ, zero, suc, _+_, _-_, _*_, _/_, _%_, _≤_, _<_, _^_}
+use Prim.Native.Nat.{ℕ, suc, _+_, _-_, _/_, _≤_, _<_, _^_}
 use native.Mathlib.Omega.{arith}
-use borrow.Author.Tests.{leb-true, leb-false, ltb-true, ltb-false, eqb-true, eqb-false, le-leb, lt-leb}
-use lib.ListN.{length, getD, take, drop, length-take, length-drop, length-append}
-use lib.Dec.{eqb, ltb, leb}
+use borrow.Author.Tests.{leb-true, le-leb, lt-leb}
+use lib.ListN.{length, getD, length-take, length-drop, length-append}
+use lib.Dec.{ltb, leb}
 use Rattle.standard.specs.Choice.{pick}
 use Rattle.standard.specs.Types.{number, boolean, fixedBytes, freeBytes, bitVector, bitList}
 use Rattle.standard.specs.declared.Refusal.{Refusal}

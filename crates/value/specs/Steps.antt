@@ -2,7 +2,6 @@
 use Prim.Native.Nat.{ℕ, _+_, _<_, _^_, min}
 use mathlib.Core.Path.{_≡_}
 use mathlib.Core.List.{List, _∷_, []}
-use mathlib.Core.Bool.{true, false}
 use lib.ListN.{length, getD}
 use lib.Dec.{eqb, ltb}
 use Rattle.standard.specs.Choice.{pick}

@@ -1,5 +1,5 @@
 -- As the table goes. Assumes nothing.
-use mathlib.Core.Path.{_≡_, refl, sym, ap, _∙_}
+use mathlib.Core.Path.{sym, _∙_}
 use Rattle.standard.proofs.Bytes.{bytes-known}
 use Rattle.layout.proofs.Tables.{table-known}
 use Rattle.message.proofs.Rows.{under-table}

@@ -1,5 +1,5 @@
 -- By the tests, in the order of the definition. Assumes nothing.
-use mathlib.Core.Path.{_≡_, refl, sym, ap, _∙_}
+use mathlib.Core.Path.{_≡_, sym, _∙_}
 use native.Mathlib.Omega.{arith}
 use Prim.Native.Nat.{_+_, _-_}
 use Rattle.value.proofs.Calls.{call-wrong, call-words, call-bodies, call-large, call-room, call-ready, call-done}

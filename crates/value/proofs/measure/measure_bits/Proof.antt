@@ -2,10 +2,9 @@
 use Prim.Native.Nat.{_+_, _-_}
 use lib.ListN.{length}
 use borrow.Author.Tests.{leb-true, lt-ltb, le-ltb, not-true, not-false}
-use mathlib.Core.Path.{_≡_, refl, sym, ap, _∙_}
+use mathlib.Core.Path.{sym, _∙_}
 use native.Mathlib.Omega.{arith}
 use Prim.Native.Nat.{_+_}
-use Rattle.message.specs.Read.{rawBytes}
 use borrow.Author.Tests.{leb-true, lt-ltb, le-ltb}
 use Rattle.bitfield.proofs.Bodies.{small-shifted, shifted-small}
 use borrow.Author.Needs.{needs}

@@ -1,7 +1,6 @@
 -- By the length, then by the byte. Assumes nothing.
 use Prim.Native.Nat.{_+_}
 use lib.ListN.{length}
-use mathlib.Core.Path.{_≡_, refl, sym, ap, _∙_}
 use native.Mathlib.Omega.{arith}
 use borrow.Author.Tests.{le-leb, lt-leb, lt-ltb, le-ltb}
 use borrow.Author.Needs.{needs}

@@ -1,5 +1,5 @@
 -- By the kind. Assumes nothing.
-use mathlib.Core.Path.{_≡_, refl, sym, ap, _∙_}
+use mathlib.Core.Path.{_∙_}
 use borrow.Author.Tests.{ne-eqb}
 use Rattle.layout.specs.Tree.{leafOf}
 use Rattle.value.proofs.Walks.{leaf-number, leaf-boolean, leaf-fixed, leaf-free, leaf-vector, leaf-list}

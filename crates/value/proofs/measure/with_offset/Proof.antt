@@ -1,5 +1,4 @@
 -- By whether there is an offset. Assumes nothing.
-use mathlib.Core.Path.{_≡_, refl, sym, ap, _∙_}
 use borrow.Author.Tests.{ne-eqb}
 use native.Mathlib.Nat.{zero-add}
 use borrow.Author.Needs.{needs}

@@ -1,6 +1,4 @@
 -- As the body goes. Assumes nothing.
-use mathlib.Core.Path.{_≡_, refl, sym, ap, _∙_}
-use native.Mathlib.Omega.{arith}
 use borrow.Author.Needs.{needs}
 use Rattle.value.proofs.measure.with_selector.Statement.{statement}
 use Rattle.value.proofs.measure.with_selector.Tie as tie

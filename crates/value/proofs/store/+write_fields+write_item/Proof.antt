@@ -11,9 +11,11 @@ use Rattle.message.proofs.Rows.{row-there, row-legal, row-below, row-under, row
 use Rattle.value.specs.Walk.{walkFields}
 use Rattle.value.specs.Write.{partsFrom}
 use Rattle.value.proofs.Leaves.{part-need, part-done}
-use Rattle.value.proofs.Fills.{Writing, item-own, writing-none, writing-upto, writing-there, writing-fixed, writing-offset, writing-room, writing-next, writing-end, fields-fit}
+use Rattle.value.proofs.Fills.{Writing, item-own, writing-none, writing-upto, writing-there, writing-fixed}
+use Rattle.value.proofs.Fills.{writing-offset, writing-room, writing-next, writing-end, fields-fit}
 use Rattle.value.proofs.Plain.{below-asked, below-put}
-use Rattle.value.proofs.Made.{own-small, laid-below, laid-row, row-ready, row-done, row-all, bare-need, bare-done, body-need, body-ready, body-done, wrong-never}
+use Rattle.value.proofs.Made.{own-small, laid-below, laid-row, row-ready, row-done, row-all}
+use Rattle.value.proofs.Made.{bare-need, bare-done, body-need, body-ready, body-done, wrong-never}
 use Prim.Native.Nat.{ℕ, _<_}
 use borrow.Fn.Kinds.{In}
 use borrow.Fn.PlainCycle.{Measures, is, falls, and}

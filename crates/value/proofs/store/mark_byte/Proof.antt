@@ -1,5 +1,4 @@
 -- By whether the mark has a byte of its own. Assumes nothing.
-use mathlib.Core.Path.{_≡_, refl, sym, ap, _∙_}
 use borrow.Author.Tests.{ne-eqb}
 use Rattle.value.proofs.Fills.{mark-set}
 use borrow.Author.Needs.{needs}

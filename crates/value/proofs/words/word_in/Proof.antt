@@ -1,6 +1,5 @@
 -- The word's four bytes, taken as a part. Assumes nothing.
-use mathlib.Core.Path.{_≡_, _∙_}
-use native.Mathlib.Omega.{arith}
+use mathlib.Core.Path.{_∙_}
 use borrow.Author.Needs.{needs}
 use Rattle.standard.proofs.Bytes.{word-part}
 use Rattle.layout.specs.Table.{count}
