@@ -1,13 +1,11 @@
 -- An item of a type with lower types, by what it is made of: what storing it asks and gives, and what is measured of it. Assumes nothing.
 use mathlib.Core.Path.{_≡_, _∙_}
 use mathlib.Core.List.{List, [], _∷_}
-use Prim.Native.Nat.{ℕ, _+_, _<_, _^_}
+use Prim.Native.Nat.{ℕ, _+_, _≤_, _<_, _^_}
 use native.Mathlib.Omega.{arith}
 use lib.ListN.{length, getD}
 use Rattle.standard.specs.Bytes.{Room}
-use Rattle.standard.specs.Types.{headAll}
 use Rattle.standard.specs.Parts.{join}
-use Rattle.standard.specs.declared.Head.the-variants.{Fixed}
 use Rattle.standard.specs.declared.Refusal.{Refusal}
 use Rattle.standard.proofs.Store.{stored-then, room-then}
 use Rattle.layout.specs.Tree.{treeOf}
@@ -16,7 +14,7 @@ use Rattle.message.proofs.Rows.{under-small}
 use Rattle.value.specs.Walk.{Walked, upto, withBody, walkItem, walkFields}
 use Rattle.value.specs.Write.{writeItem, partsFrom}
 use Rattle.value.specs.Steps.{measured, selected, IsUpto, AsRow, AsOption, LaidAs, AllPlain}
-use Rattle.value.specs.Stores.{Put, Fields}
+use Rattle.value.specs.Stores.{Put, Together, Fields}
 use Rattle.value.specs.declared.laid.Laid.{Laid}
 use Rattle.value.specs.declared.measure.Measured.{Measured}
 use Rattle.value.specs.declared.store.Stop.{Stop}
@@ -45,9 +43,9 @@ module _ (l : List ℕ) (t : ℕ) (c : List ℕ) (i : ℕ) (b : List ℕ) (j : �
     row-as : AsRow l t c i a step n p
     row-as = rw e at d
 
-    pub row-ready : (lens : List ℕ) → Under lens l (t + 1) → IsUpto (walkItem (treeOf l t) c b i j) → Room o at (writeItem (treeOf l t) c b i j) →
-        Fields lens l t a step n c b p j o at
-    row-ready lens u h m = record { row = row-as .row lens u; walk = rw (row-as .walk b j) at h; room = rw (row-as .write b j) at m }
+    pub row-ready : (lens : List ℕ) → Under lens l (t + 1) → (k : ℕ) → Together (rowOf l t a step n) step n k → k ≤ 0 →
+        IsUpto (walkItem (treeOf l t) c b i j) → Room o at (writeItem (treeOf l t) c b i j) → Fields lens l t a step n c b p j o at
+    row-ready lens u k f z h m = record { row = row-as .row lens u; offsets = f .offsets z; walk = rw (row-as .walk b j) at h; room = rw (row-as .write b j) at m }
 
     pub row-done : (r : Stop) (o′ : List ℕ) →
         Put o at (join (partsFrom (rowOf l t a step n) c b p j)) (walkFields (rowOf l t a step n) c b p j) r o′ → Done r o′
@@ -128,9 +126,9 @@ module _ (l : List ℕ) (t : ℕ) (c : List ℕ) (i : ℕ) (made : Laid) (d : La
 
   -- A row whose fields are all of fixed size is its body bytes.
   pub row-all : (b : List ℕ) (j a step n p : ℕ) → made ≡ Laid.Fields a step n p → (lens : List ℕ) → Under lens l (t + 1) →
-      IsUpto (walkItem (treeOf l t) c b i j) → (k : ℕ) → 0 < k → headAll (rowOf l t a step n) ≡ Fixed k →
+      IsUpto (walkItem (treeOf l t) c b i j) → (k : ℕ) → 0 < k → Together (rowOf l t a step n) step n k →
       PartForm (walkItem (treeOf l t) c b i j) (writeItem (treeOf l t) c b i j) b p j k
   row-all b j a step n p e lens u h k z f =
       let g : AsRow l t c i a step n p = rw e at d in
-      let x = row-part (rowOf l t a step n) c b p j k (legal-row lens l t a step n (g .row lens u)) f z (rw (g .walk b j) at h) in
+      let x = row-part (rowOf l t a step n) c b p j k (legal-row lens l t a step n (g .row lens u)) (f .fixed z) z (rw (g .walk b j) at h) in
       record { walk = g .walk b j ∙ x .walk; write = g .write b j ∙ x .write; there = x .there }

@@ -1,6 +1,6 @@
 -- A list or vector in a legal table is walked and written as a row of fields that share one word, and a container as a row of fields
 -- with a word each. Assumes nothing.
-use mathlib.Core.Path.{_≡_, sym, ap, _∙_}
+use mathlib.Core.Path.{_≡_, refl, sym, ap, _∙_}
 use mathlib.Core.List.{List}
 use Prim.Native.Nat.{ℕ, zero, suc, _+_, _*_, _<_, _≤_, _^_}
 use native.Mathlib.Omega.{arith}
@@ -8,21 +8,23 @@ use borrow.Author.Tests.{lt-ltb, le-ltb, le-leb, lt-leb}
 use lib.ListN.{length, getD}
 use lib.Dec.{leb}
 use Rattle.standard.specs.Bytes.{wordAt}
-use Rattle.standard.specs.Types.{list, vector, headAll}
+use Rattle.standard.specs.Types.{list, vector, head, headAll, width, portion}
 use Rattle.standard.specs.Parts.{join}
-use Rattle.standard.specs.declared.Head.the-variants.{Fixed}
+use Rattle.standard.specs.declared.Head.{Head}
 use Rattle.standard.specs.declared.Refusal.the-variants.{BadValue}
+use Rattle.standard.proofs.Elements.{portion-copies}
 use Rattle.layout.specs.Tree.{nodeOf, treeOf, filled}
 use Rattle.layout.specs.Legal.{Legal}
 use Rattle.layout.specs.declared.Node.{Node}
 use Rattle.layout.proofs.Facts.{as-list, as-vector, legal-node, filled-get, length-filled}
 use Rattle.message.specs.Steps.{Under, Row, rowOf}
-use Rattle.message.proofs.Rows.{row-below, row-fixed}
+use Rattle.message.proofs.Rows.{row-below, row-fixed, row-variable, heads-none}
 use Rattle.message.proofs.Bodies.{container-row}
-use Rattle.message.proofs.Repeats.{else-list, element-below, element-copies, element-row, shared-copies}
+use Rattle.message.proofs.Repeats.{else-list, element-below, element-copies, element-row, shared-copies, shared-heads}
 use Rattle.value.specs.Walk.{withWord, walkItem, walkFields}
 use Rattle.value.specs.Write.{writeItem, partsFrom}
 use Rattle.value.specs.Steps.{LaidAs}
+use Rattle.value.specs.Stores.{Together}
 use Rattle.value.specs.declared.laid.Laid.{Laid}
 use Rattle.value.proofs.Copies.{walk-copies, parts-copies}
 use Rattle.value.proofs.Fixed.{copies-fixed}
@@ -107,14 +109,37 @@ module _ (l : List ℕ) (t : ℕ) (g : Legal l (t + 1)) (f : t < 64) (n : Node) 
                 write = λ b j. list-write (filled l (t + 1)) l t n e under k c b i j kind-list;
               }
 
--- Elements of fixed size are of their length together.
+-- Elements of fixed size are of their length together, others have an offset each.
 some-factor : (n k : ℕ) → 0 < n * k → 0 < k
 some-factor n zero h = absurd (omega arith)
 some-factor n (suc k) h = omega arith
 
-pub elements-fixed : (lens l : List ℕ) (t a n f k : ℕ) → Row lens l t a 0 n → 0 < n → f ≡ wordAt l a → k ≡ getD lens f 0 → 0 < n * k →
-    headAll (rowOf l t a 0 n) ≡ Fixed (n * k)
-elements-fixed lens l t a n f k g z e q s =
-    let x = row-fixed lens l t a 0 n f g z e k q (λ (h : k ≡ 0). omega (arith, some-factor n k s)) in
-    let y = shared-copies l t a f e (row-below lens l t a 0 n f g z e) n in
-    ap headAll y ∙ copies-fixed (treeOf l f) k n (sym x)
+none-factor : (n k : ℕ) → 0 < n → n * k ≤ 0 → k ≡ 0
+none-factor n zero z h = refl
+none-factor n (suc k) z h = absurd (omega arith)
+
+pub elements-together : (lens l : List ℕ) (t a n f k : ℕ) → Row lens l t a 0 n → 0 < n → f ≡ wordAt l a → k ≡ getD lens f 0 →
+    Together (rowOf l t a 0 n) 0 n (n * k)
+unfolding width
+elements-together lens l t a n f k g z e q =
+    let below = row-below lens l t a 0 n f g z e in
+    record {
+      fixed = λ s.
+          let x = row-fixed lens l t a 0 n f g z e k q (λ (h : k ≡ 0). omega (arith, some-factor n k s)) in
+          ap headAll (shared-copies l t a f e below n) ∙ copies-fixed (treeOf l f) k n (sym x);
+      offsets = λ s h.
+          let x = row-variable lens l t a 0 n f g z e k q (none-factor n k z s) in
+          ap portion (shared-heads l t a f e below n) ∙ portion-copies n (head (treeOf l f)) ∙ ap (λ (v : Head). n * width v) (sym x) ∙ omega arith;
+    }
+
+pub no-elements : (l : List ℕ) (t a step n : ℕ) → n ≤ 0 → Together (rowOf l t a step n) step n 0
+unfolding portion
+no-elements l t a step n h =
+    record {
+      fixed = λ (s : 0 < 0). absurd (omega arith);
+      offsets = λ s d. let e : 0 ≡ 4 * n = omega arith in rw (heads-none l t a step n h) e;
+    }
+
+pub no-sharing : (l : List ℕ) (t a step n : ℕ) → 0 < step → Together (rowOf l t a step n) step n 0
+no-sharing l t a step n h =
+    record { fixed = λ (s : 0 < 0). absurd (omega arith); offsets = λ (s : 0 ≤ 0) (d : step ≡ 0). absurd (omega arith) }

@@ -1,22 +1,21 @@
 -- The fields of a container or the elements of a list, one by one: their walks and their parts. Assumes nothing.
-use mathlib.Core.Path.{_≡_, sym, ap, _∙_}
+use mathlib.Core.Path.{_≡_, ap, _∙_}
 use mathlib.Core.List.{List, [], _∷_}
-use Prim.Native.Nat.{ℕ, zero, suc, _+_, _-_, _*_, _≤_, _<_}
-use native.Mathlib.Nat.{add-zero, zero-add}
+use Prim.Native.Nat.{ℕ, _+_, _-_, _≤_, _<_}
+use native.Mathlib.Nat.{zero-add}
 use native.Mathlib.Omega.{arith}
 use lib.ListN.{length, getD, length-append}
 use Rattle.standard.specs.Bytes.{wordAt}
-use Rattle.standard.specs.Types.{boolean, head, heads, width, portion}
+use Rattle.standard.specs.Types.{head}
 use Rattle.standard.specs.Parts.{Part, piece, fixedLengths, fronts, backs, join}
 use Rattle.standard.specs.declared.Head.{Head}
 use Rattle.standard.specs.declared.Head.the-variants.{Fixed, Variable}
 use Rattle.standard.specs.declared.Refusal.{Refusal}
 use Rattle.standard.proofs.Join.{length-join}
-use Rattle.layout.specs.Tree.{nodeOf, treeOf, trees, headOf}
+use Rattle.layout.specs.Tree.{nodeOf, treeOf, headOf}
 use Rattle.layout.specs.declared.Node.{Node}
-use Rattle.layout.proofs.Facts.{trees-get}
-use Rattle.message.specs.Steps.{Row, rowOf, headsOf}
-use Rattle.message.proofs.Rows.{row-none, row-first, row-next, row-head, named-first, container-tree}
+use Rattle.message.specs.Steps.{Row, rowOf}
+use Rattle.message.proofs.Rows.{row-none, row-first, row-next, row-head, container-tree}
 use Rattle.value.specs.Walk.{upto, onward, walkItem, walkFields}
 use Rattle.value.specs.Write.{wordAfter, byteAfter, writeItem, partsFrom}
 use Rattle.value.specs.Steps.{cap, measured, extra}
@@ -49,23 +48,6 @@ none-walk l t a step left c b i j h = rw (row-none l t a step left h)
 pub none-parts : (l : List ℕ) (t a step left : ℕ) (c b : List ℕ) (i j : ℕ) → left ≤ 0 → partsFrom (rowOf l t a step left) c b i j ≡ []
 unfolding writeItem
 none-parts l t a step left c b i j h = rw (row-none l t a step left h)
-
--- Elements that share a word take the same width of the fixed portion, each of them.
-shared-heads : (l : List ℕ) (t a n : ℕ) → portion (headsOf l t a 0 n) ≡ n * width (head (getD (trees l t) (wordAt l a) (boolean 0)))
-unfolding rowOf heads portion
-shared-heads l t a zero = omega arith
-shared-heads l t a (suc n) =
-    let w = width (head (getD (trees l t) (wordAt l a) (boolean 0))) in
-    let e : suc n * w ≡ w + n * w = omega arith in
-    rw (add-zero a, shared-heads l t a n, e)
-
-pub shared-portion : (lens l : List ℕ) (t a n f k : ℕ) → Row lens l t a 0 n → 0 < n → f ≡ wordAt l a → k ≡ width (headOf (getD lens f 0)) →
-    n * k ≡ portion (headsOf l t a 0 n)
-shared-portion lens l t a n f k g z e q =
-    let d = row-head lens l t a 0 n f g z e in
-    let s : head (treeOf l f) ≡ head (getD (trees l t) (wordAt l a) (boolean 0)) =
-    rw e (ap head (sym (trees-get l t (wordAt l a) (boolean 0) (named-first l t a 0 n (g .named) z .1)))) in
-    sym (shared-heads l t a n ∙ ap (λ (h : Head). n * width h) (sym (d ∙ s)) ∙ ap (λ (v : ℕ). n * v) (sym q))
 
 -- The loop of `measure_fields`: what is measured, and what is left to measure, give the whole.
 pub record Measuring (lens l : List ℕ) (t a₀ step n : ℕ) (c b : List ℕ) (i₀ j₀ : ℕ) (sum a left i j : ℕ) : Type 0 where

@@ -68,8 +68,8 @@ fn select(layout: &[u8], a: usize, n: usize, contents: &[u32], i: usize) -> Laid
     }
 }
 
-// What the item of the type t is made of, whose words are n. Fields are named by a word each, elements share one. A vector's count is in
-// the table, a list's is the contents word before its elements.
+// What the item of the type t is made of, whose words are n: t only says whose. Fields are named by a word each, elements share one. A
+// vector's count is in the table, a list's is the contents word before its elements.
 pub(crate) fn lay(layout: &[u8], t: usize, n: Node, contents: &[u32], i: usize) -> Laid
     requires { ⌜ Legal (now layout) (t + 1) × (t < 64) × (n ≡ nodeOf (now layout) t) × (6 ≤ n .kind) ⌝ }
     ensures { λ r. ⌜ LaidAs (now (layout .entry)) t (now (contents .entry)) i r ⌝ }

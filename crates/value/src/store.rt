@@ -8,22 +8,22 @@ use layout::Node;
 use standard::words::put_four;
 ghost use mathlib.Core.Path.{_≡_};
 ghost use mathlib.Core.List.{[], _∷_};
-ghost use Prim.Native.Nat.{_+_, _-_, _/_, _≤_, _<_, _^_};
+ghost use Prim.Native.Nat.{_+_, _-_, _*_, _/_, _≤_, _<_, _^_};
 ghost use lib.ListN.{length, getD};
 ghost use lib.Seq.{sets};
 ghost use lib.Dec.{eqb};
 ghost use Rattle.standard.specs.Choice.{pick};
 ghost use Rattle.standard.specs.Bytes.{Room};
-ghost use Rattle.standard.specs.Types.{head, headAll, width, portion};
+ghost use Rattle.standard.specs.Types.{head, width, portion};
 ghost use Rattle.standard.specs.Parts.{join};
-ghost use Rattle.standard.specs.declared.Head.the-variants.{Fixed, Variable};
+ghost use Rattle.standard.specs.declared.Head.the-variants.{Variable};
 ghost use Rattle.layout.specs.Tree.{leafOf, treeOf, headOf};
 ghost use Rattle.message.specs.Read.{rawBytes};
 ghost use Rattle.message.specs.Steps.{Under, Row, rowOf, headsOf};
 ghost use Rattle.value.specs.Walk.{upto, lastBits, walkItem, walkFields};
 ghost use Rattle.value.specs.Write.{bytesAt, withMark, writeItem, partsFrom};
 ghost use Rattle.value.specs.Steps.{IsUpto};
-ghost use Rattle.value.specs.Stores.{Put, Fields};
+ghost use Rattle.value.specs.Stores.{Put, Together, Fields};
 
 // How far the contents and the bodies are used, and where what was written ends.
 pub(crate) struct Stop {
@@ -119,26 +119,14 @@ fn put_selector(out: &mut [u8], at: usize, contents: &[u32], i: usize, j: usize)
     Stop { word, byte: j, to }
 }
 
-// The fixed portion of n elements of type t, which share the word a: there may be very many, so they are not added up one by one.
-fn shared_portion(lens: &[u32; 64], layout: &[u8], t: usize, a: usize, n: usize) -> usize
-    requires { ⌜ Row (now lens) (now layout) t a 0 n × (portion (headsOf (now layout) t a 0 n) < 2 ^ 64) ⌝ }
-    ensures { λ r. ⌜ r ≡ portion (headsOf (now (layout .entry)) t a 0 n) ⌝ }
-{
-    if n == 0 {
-        return 0;
-    }
-    let f = word_in(layout, a);
-    let k = width_of(lens[f] as usize);
-    n * k
-}
-
-// The fixed portion of the n fields of type t that the words from a0 on name, step words apart.
+// The fixed portion of the n fields of type t that the words from a0 on name, step words apart. Elements have an offset each: there may be
+// very many, so they are not added up one by one.
 fn portion_of(lens: &[u32; 64], layout: &[u8], t: usize, a0: usize, step: usize, n: usize) -> usize
-    requires { ⌜ Row (now lens) (now layout) t a0 step n × (portion (headsOf (now layout) t a0 step n) < 2 ^ 64) ⌝ }
+    requires { ⌜ Row (now lens) (now layout) t a0 step n × (portion (headsOf (now layout) t a0 step n) < 2 ^ 64) × (step ≡ 0 → portion (headsOf (now layout) t a0 step n) ≡ 4 * n) ⌝ }
     ensures { λ r. ⌜ r ≡ portion (headsOf (now (layout .entry)) t a0 step n) ⌝ }
 {
     if step == 0 {
-        return shared_portion(lens, layout, t, a0, n);
+        return 4 * n;
     }
     let mut a = a0;
     let mut left = n;
@@ -163,7 +151,7 @@ fn width_of(len: usize) -> usize
 // How many bytes n elements are, if each is of fixed size: those are copied at once. 0 stands for other elements, and for fields.
 fn copied_bytes(lens: &[u32; 64], layout: &[u8], t: usize, a: usize, step: usize, n: usize) -> usize
     requires { ⌜ Row (now lens) (now layout) t a step n × (n < 2 ^ 32) ⌝ }
-    ensures { λ r. ⌜ (0 < r → headAll (rowOf (now (layout .entry)) t a step n) ≡ Fixed r) ⌝ }
+    ensures { λ r. ⌜ Together (rowOf (now (layout .entry)) t a step n) step n r ⌝ }
 {
     if step > 0 {
         return 0;

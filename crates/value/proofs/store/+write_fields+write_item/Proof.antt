@@ -107,7 +107,7 @@ item-calls t = (
 fields-portion-of-requires : (t : ℕ) → fields-lts.Need-portion-of-requires (fields-calls t) (fields-at t) fields.Post fields-inv fields-μ
 fields-portion-of-requires t c κs =
     let c4 = c .before .before .before .before in
-    (c4 .pre .1 .row, omega (arith, fields-fit (c4 .pre .1) refl, c4 .good))
+    (c4 .pre .1 .row, omega (arith, fields-fit (c4 .pre .1) refl, c4 .good), c4 .pre .1 .offsets)
 
 fields-add-q : (t : ℕ) → fields-lts.Need-add-q (fields-calls t) (fields-at t) fields.Post fields-inv fields-μ
 fields-add-q t c =
@@ -300,7 +300,7 @@ item-put-part-requires-2 t c κs =
     let c16 = c4 .before .before .before .before .before .before .before .before .before .before .before .before in
     part-need
     (row-all _ _ _ _ _ (c4 .before .before .lay .ensures) _ _ _ _ _ _ (c4 .made .given .1) _ (c16 .pre .1 .0) (c16 .pre .1 .1) _ (c .before .if3 .taken)
-    (c .before .before .copied-bytes .ensures (c .before .if3 .taken))) (c16 .pre .1 .2)
+    (c .before .before .copied-bytes .ensures)) (c16 .pre .1 .2)
 
 item-same-length-3 : (t : ℕ) → item-lts.Need-same-length-3 (item-calls t) (item-at t) item.Post
 item-same-length-3 t c = search needs
@@ -312,15 +312,15 @@ item-returns-3 t c =
     let c19 = c9 .before .before .before .before .before .before .before .before .before .before in
     part-done
     (row-all _ _ _ _ _ (c9 .lay .ensures) _ _ _ _ _ _ (c4 .before .before .before .made .given .1) _ (c19 .pre .1 .0) (c19 .pre .1 .1) _ (c4 .if3 .taken)
-    (c4 .before .copied-bytes .ensures (c4 .if3 .taken))) (c .before .before .put-part2 .ensures)
+    (c4 .before .copied-bytes .ensures)) (c .before .before .put-part2 .ensures)
 
 item-write-fields-requires : (t : ℕ) → item-lts.Need-write-fields-requires (item-calls t) (item-at t) item.Post
 item-write-fields-requires t c κs =
     let c4 = c .before .before .before .before in
     let c16 = c4 .before .before .before .before .before .before .before .before .before .before .before .before in (
       omega (arith, c16 .pre .0),
-      row-ready _ _ _ _ _ _ _ _ _ (c4 .before .before .lay .ensures) _ _ _ _ (c4 .made .given .1) _ (c16 .pre .1 .0)
-          (c16 .pre .1 .1) (c16 .pre .1 .2),
+      row-ready _ _ _ _ _ _ _ _ _ (c4 .before .before .lay .ensures) _ _ _ _ (c4 .made .given .1) _ (c16 .pre .1 .0) _
+          (c .before .before .copied-bytes .ensures) (c .before .if3 .left) (c16 .pre .1 .1) (c16 .pre .1 .2),
     )
 
 item-enum-told : (t : ℕ) → item-lts.Need-enum-told (item-calls t) (item-at t) item.Post

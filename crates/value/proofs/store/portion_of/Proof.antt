@@ -1,4 +1,5 @@
 -- The loop keeps `Adding`. Assumes nothing.
+use mathlib.Core.Path.{sym}
 use native.Mathlib.Omega.{arith}
 use borrow.Author.Needs.{needs}
 use Rattle.message.proofs.Rows.{row-there, row-small, row-few}
@@ -12,15 +13,13 @@ Inv-loop lens layout t a0 step n a₀ left₀ sum₀ a left sum = Adding lens la
 abbrev μ-loop : tie.MeasureT-loop
 μ-loop lens layout t a0 step n a₀ left₀ sum₀ a left sum = left
 
-shared-portion-requires : tie.Need-shared-portion-requires Inv-loop μ-loop
-shared-portion-requires c κs =
+mul-result : tie.Need-mul-result Inv-loop μ-loop
+mul-result c =
     let p = c .before .before .pre in
-    (rw (c .if1 .taken) at (p .0), rw (c .if1 .taken) at (p .1))
+    omega (arith, p .1, p .2 (c .if1 .taken))
 
 returns : tie.Need-returns Inv-loop μ-loop
-returns c =
-    let c1 = c .before in
-    rw (c1 .if1 .taken) (c .shared-portion .ensures)
+returns c = sym (c .before .before .pre .2 (c .if1 .taken))
 
 loop-holds : tie.Need-loop-holds Inv-loop μ-loop
 loop-holds c = adding-none _ _ _ _ _ _ (c .before .before .pre .0)
@@ -86,7 +85,7 @@ portion-of-spec =
     (tie.spec
     Inv-loop
     μ-loop
-    shared-portion-requires
+    mul-result
     returns
     loop-holds
     word-in-requires
