@@ -337,6 +337,7 @@ fn inside_of(lens: &[u32; 64], layout: &[u8], n: Node, t: usize, b: &[u8]) -> In
 }
 
 // Checks the item b of the type t, which starts at start. Only here are fields read, whatever holds them: the loop over them is then no call.
+// The table is handed on as a part of itself, here and wherever items are gone through: handed on as it came, it is copied first.
 pub(crate) fn item_check(
     lens: &[u32; 64],
     layout: &[u8],
@@ -362,7 +363,7 @@ pub(crate) fn item_check(
             Choice::Bare => leaf(1, 0),
             Choice::Body(o) => {
                 let inside = start + 1;
-                let r = item_check(lens, layout, o, &b[1..], inside);
+                let r = item_check(lens, &layout[..], o, &b[1..], inside);
                 with_selector(r)
             }
             Choice::Wrong(r) => Answer::Refused(r, t, start),
@@ -431,7 +432,7 @@ fn field_check(
             }
             continue;
         }
-        match item_check(lens, layout, f, &b[from..to], at) {
+        match item_check(lens, &layout[..], f, &b[from..to], at) {
             Answer::Accepted(c) => sum = add(sum, c),
             Answer::Refused(x, u, v) => return Answer::Refused(x, u, v),
         }

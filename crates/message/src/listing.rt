@@ -50,7 +50,7 @@ pub(crate) fn list_item(
             Choice::Bare => next,
             Choice::Body(o) => {
                 let inside = start + 1;
-                list_item(out, next, lens, layout, o, &b[1..], inside)
+                list_item(out, next, lens, &layout[..], o, &b[1..], inside)
             }
             Choice::Wrong(_) => next,
         }
@@ -107,7 +107,7 @@ fn list_fields(
             at += 12;
             continue;
         }
-        at = list_item(out, at, lens, layout, f, &b[from..to], place);
+        at = list_item(out, at, lens, &layout[..], f, &b[from..to], place);
     }
     at
 }

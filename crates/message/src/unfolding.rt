@@ -240,7 +240,7 @@ pub(crate) fn unfold_item(
             Choice::Bare => put_selector(contents, at, b),
             Choice::Body(o) => {
                 let inside = put_selector(contents, at, b);
-                unfold_item(contents, bodies, inside, lens, layout, o, &b[1..])
+                unfold_item(contents, bodies, inside, lens, &layout[..], o, &b[1..])
             }
             Choice::Wrong(_) => at,
         }
@@ -304,7 +304,7 @@ fn unfold_fields(
         at = if n.kind < 6 {
             unfold_leaf(contents, bodies, at, n, f, &b[from..to])
         } else {
-            unfold_item(contents, bodies, at, lens, layout, f, &b[from..to])
+            unfold_item(contents, bodies, at, lens, &layout[..], f, &b[from..to])
         };
     }
     at

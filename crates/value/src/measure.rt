@@ -278,7 +278,7 @@ pub(crate) fn measure_item(
         }
         Laid::Body(o) => {
             let word = i + 1;
-            let r = measure_item(lens, layout, o, contents, bodies, word, j);
+            let r = measure_item(lens, &layout[..], o, contents, bodies, word, j);
             with_selector(r)
         }
         Laid::Wrong(x) => Measured::Wrong(x),
@@ -325,7 +325,7 @@ fn measure_fields(
         let r = if n.kind < 6 {
             measure_leaf(n, contents, bodies, i, j)
         } else {
-            measure_item(lens, layout, f, contents, bodies, i, j)
+            measure_item(lens, &layout[..], f, contents, bodies, i, j)
         };
         match r {
             Measured::Upto(m) => {

@@ -198,7 +198,17 @@ pub(crate) fn write_item(
         Laid::Bare => put_selector(out, at, contents, i, j),
         Laid::Body(o) => {
             let s = put_selector(out, at, contents, i, j);
-            write_item(out, s.to, lens, layout, o, contents, bodies, s.word, s.byte)
+            write_item(
+                out,
+                s.to,
+                lens,
+                &layout[..],
+                o,
+                contents,
+                bodies,
+                s.word,
+                s.byte,
+            )
         }
         Laid::Wrong(_) => Stop {
             word: i,
@@ -253,7 +263,7 @@ fn write_fields(
         let s = if n.kind < 6 {
             put_leaf(out, q, n, contents, bodies, i, j)
         } else {
-            write_item(out, q, lens, layout, f, contents, bodies, i, j)
+            write_item(out, q, lens, &layout[..], f, contents, bodies, i, j)
         };
         q = s.to;
         i = s.word;
