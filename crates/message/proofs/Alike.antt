@@ -29,7 +29,7 @@ use Rattle.message.specs.declared.Answer.the-variants.{Accepted, Refused
 use Rattle.message.proofs.Answers.{single, then-accepts}
 use Rattle.message.proofs.Rows.{under-head}
 use Rattle.message.proofs.Copies.{Laid, laid-fixed, vector-laid, elements-laid}
-use Rattle.message.proofs.Repeats.{else-list, shared-copies, shared-heads, node-legal, element-below, element-word, element-head, element-heads}
+use Rattle.message.proofs.Repeats.{else-list, shared-copies, shared-heads, element-below, element-word, element-head, element-heads}
 use Rattle.message.proofs.Repeats.{element-some, element-row, list-read, vector-read}
 use Rattle.message.proofs.Bodies.{plain-type, exact-read}
 

@@ -25,9 +25,9 @@ use Rattle.decode.specs.Unions.{selectorOf, splitUnion}
 use Rattle.decode.specs.declared.union_selector.UnionSelector.{UnionSelector}
 use Rattle.decode.specs.declared.union_selector.SelectorResult.{SelectorResult}
 use Rattle.layout.specs.Tree.{nodeOf, leafOf, options, trees, treeOf, lenOf}
-use Rattle.layout.specs.Legal.{LowerOrBare, LegalNode, Legal}
+use Rattle.layout.specs.Legal.{LowerOrBare, Legal}
 use Rattle.layout.specs.declared.Node.{Node}
-use Rattle.layout.proofs.Facts.{trees-get, as-union, as-leaf, legal-node}
+use Rattle.layout.proofs.Facts.{trees-get, as-union, as-leaf}
 use Rattle.message.specs.Read.{one, plus, andThen, built, readExact, readItem, readFields, readOption}
 use Rattle.message.specs.Steps.{Under, Row, rowOf, headsOf, placed, optionAt, choiceOf, choose, isPlain, Small}
 use Rattle.message.specs.declared.Counts.{Counts}
@@ -38,7 +38,7 @@ use Rattle.message.specs.declared.items.LeafTold.{LeafTold}
 use Rattle.message.proofs.Answers.{then-assoc}
 use Rattle.message.proofs.Bounds.{counts-small}
 use Rattle.message.proofs.Sums.{Summed, spread, spread-small, summed-own, summed-small, summed-item}
-use Rattle.message.proofs.Rows.{Lies, under-below, row-none, row-first, row-below, row-under, row-next, row-heads, container-tree, container-named, first-ranges, first-fits, span-ok, span-lies}
+use Rattle.message.proofs.Rows.{Lies, node-legal, under-below, row-none, row-first, row-below, row-under, row-next, row-heads, container-tree, container-named, first-ranges, first-fits, span-ok, span-lies}
 
 plus-zero : (a : Counts) → plus a (record { records = 0; words = 0; bytes = 0 }) ≡ a
 plus-zero a = simp add-zero
@@ -56,9 +56,9 @@ pub reading-new : (lens l : List ℕ) (t a₀ step n own : ℕ) (b : List ℕ) (
 reading-new lens l t a₀ step n own b s g h r i =
     record { row = g; ranges = r; summed = summed-own own i _; short = spread-small _ b r (omega arith); same = refl }
 
-pub reading-small : (lens l : List ℕ) (t a₀ step n own : ℕ) (b : List ℕ) (s : ℕ) (sum : Counts) (a left p : ℕ) →
+pub reading-small : {lens l : List ℕ} {t a₀ step n own : ℕ} {b : List ℕ} {s : ℕ} {sum : Counts} {a left p : ℕ} →
     Reading lens l t a₀ step n own b s sum a left p → Small sum (2 ^ 50)
-reading-small lens l t a₀ step n own b s sum a left p g = summed-small sum _ _ (g .summed) (g .short)
+reading-small g = summed-small _ _ _ (g .summed) (g .short)
 
 -- What an item counts.
 pub item-small : (lens l : List ℕ) (f : ℕ) (b : List ℕ) (s : ℕ) (c : Counts) → Under lens l (f + 1) → length b < 2 ^ 32 →
@@ -125,8 +125,8 @@ module _ (lens l : List ℕ) (t a step left f : ℕ) (b : List ℕ) (p : ℕ) (g
   unfolding readItem
   fields-read = rw (row-first l t a step left (g .named) z, q, e)
 
-module _ (lens l : List ℕ) (t a₀ step n own : ℕ) (b : List ℕ) (s : ℕ) (sum : Counts) (a left p f : ℕ) (g : Reading lens l t a₀ step n own b s sum a left p)
-    (z : 0 < left) (e : f ≡ wordAt l a) (w : Span) (q : w ≡ spanOf (head (treeOf l f)) (headsOf l t (a + step) step (left - 1)) b p) where
+module _ {lens l : List ℕ} {t a₀ step n own : ℕ} {b : List ℕ} {s : ℕ} {sum : Counts} {a left p f : ℕ} (g : Reading lens l t a₀ step n own b s sum a left p)
+    (z : 0 < left) (e : f ≡ wordAt l a) {w : Span} (q : w ≡ spanOf (head (treeOf l f)) (headsOf l t (a + step) step (left - 1)) b p) where
   reading-first : andThen (Accepted sum) (andThen (readItem (treeOf l f) (part b w) (s + w .from))
       (readFields (rowOf l t (a + step) step (left - 1)) b (w .next) s)) ≡ andThen (one own 0) (readFields (rowOf l t a₀ step n) b 0 s)
   reading-first = rw (fields-read lens l t a step left f b p (g .row) z e w q s) at (g .same)
@@ -163,7 +163,7 @@ module _ (lens l : List ℕ) (t a₀ step n own : ℕ) (b : List ℕ) (s : ℕ) 
   reading-stop r u v h = rw (← h) at reading-first
 
   -- Free bytes: of them only the length is asked.
-  module _ (d : Node) (i : d ≡ nodeOf l f) (k : d .kind ≡ 3) where
+  module _ {d : Node} (i : d ≡ nodeOf l f) (k : d .kind ≡ 3) where
     free-read : readItem (treeOf l f) (part b w) (s + w .from) ≡
         pick (leb (w .to - w .from) (d .second)) (one 1 (w .to - w .from)) (Refused (OverLimit (w .to - w .from) (d .second)) f (s + w .from))
     unfolding readItem
@@ -174,8 +174,8 @@ module _ (lens l : List ℕ) (t a₀ step n own : ℕ) (b : List ℕ) (s : ℕ) 
     free-next h m = reading-next _ m (rw (le-leb _ _ h) at (sym free-read))
 
 -- A plain field: its length stands in the table, and of its bytes nothing else is asked.
-module _ (lens l : List ℕ) (t a₀ step n own : ℕ) (b : List ℕ) (s : ℕ) (sum : Counts) (a left p f : ℕ) (g : Reading lens l t a₀ step n own b s sum a left p)
-    (z : 0 < left) (e : f ≡ wordAt l a) (d : Node) (i : d ≡ nodeOf l f) (h : isPlain (d .kind) ≡ true) (k : ℕ) (q : k ≡ getD lens f 0) where
+module _ {lens l : List ℕ} {t a₀ step n own : ℕ} {b : List ℕ} {s : ℕ} {sum : Counts} {a left p f : ℕ} (g : Reading lens l t a₀ step n own b s sum a left p)
+    (z : 0 < left) (e : f ≡ wordAt l a) {d : Node} (i : d ≡ nodeOf l f) (h : isPlain (d .kind) ≡ true) {k : ℕ} (q : k ≡ getD lens f 0) where
   plain-length : k ≡ d .second
   plain-length = q ∙ g .row .under .found f (row-below lens l t a step left f (g .row) z e) ∙ ap lenOf (plain-type l f d i h .0)
 
@@ -190,24 +190,21 @@ module _ (lens l : List ℕ) (t a₀ step n own : ℕ) (b : List ℕ) (s : ℕ) 
   plain-next m =
       let w : Span = record { from = p; to = p + k; next = p + k } in
       let v : w ≡ spanOf (head (treeOf l f)) (headsOf l t (a + step) step (left - 1)) b p = rw (← plain-head) in
-      let y : length (part b w) ≡ k = reading-span lens l t a₀ step n own b s sum a left p f g z e w v .2 ∙ omega arith in
+      let y : length (part b w) ≡ k = reading-span g z e v .2 ∙ omega arith in
       let x : one 0 k ≡ readItem (treeOf l f) (part b w) (s + p) =
       exact-read (d .second) f (part b w) (s + p) k y plain-length ∙ sym (plain-type l f d i h .1 (part b w) (s + p)) in
-      reading-next lens l t a₀ step n own b s sum a left p f g z e w v (record { records = 1; words = 0; bytes = k }) m x
+      reading-next g z e v (record { records = 1; words = 0; bytes = k }) m x
 
-pub reading-end : (lens l : List ℕ) (t a₀ step n own : ℕ) (b : List ℕ) (s : ℕ) (sum : Counts) (a left p : ℕ) → Reading lens l t a₀ step n own b s sum a left p →
+pub reading-end : {lens l : List ℕ} {t a₀ step n own : ℕ} {b : List ℕ} {s : ℕ} {sum : Counts} {a left p : ℕ} → Reading lens l t a₀ step n own b s sum a left p →
     left ≤ 0 → Accepted sum ≡ andThen (one own 0) (readFields (rowOf l t a₀ step n) b 0 s)
 unfolding readItem
-reading-end lens l t a₀ step n own b s sum a left p g h = sym (ap Accepted (plus-zero sum)) ∙ rw (row-none l t a step left h) at (g .same)
+reading-end g h = sym (ap Accepted (plus-zero _)) ∙ rw (row-none _ _ _ _ _ h) at (g .same)
 
 -- A container.
 module _ (lens l : List ℕ) (t : ℕ) (n : Node) (e : n ≡ nodeOf l t) (g : Under lens l (t + 1)) where
-  pub node-ok : LegalNode l t n
-  node-ok = legal-node l t n e (g .legal)
-
   pub container-row : n .kind ≡ 6 → Row lens l t (n .at + 2) 1 (n .second)
   container-row k =
-      let m = node-ok in
+      let m = node-legal lens l t n e g in
       record {
         under = under-below lens l (t + 1) t (omega arith) g;
         near = omega (arith, m .near, m .few k);
@@ -403,7 +400,7 @@ module _ (lens l : List ℕ) (t : ℕ) (n : Node) (e : n ≡ nodeOf l t) (g : Un
     unfolding LowerOrBare
     body-below =
         let p = body-says l (n .at + 2) (n .second) b o (sym q) in
-        let m = node-ok lens l t n e g in
+        let m = node-legal lens l t n e g in
         (rw (p .1) (m .optional k (getD b 0 0) (p .0) (p .2)), p .3)
 
     pub body-read : (s : ℕ) → andThen (one 1 0) (readItem (treeOf l o) (take (length b - 1) (drop 1 b)) (s + 1)) ≡ readItem (treeOf l t) b s

@@ -17,9 +17,8 @@ use Rattle.standard.proofs.Elements.{copies, heads-copies}
 use Rattle.standard.proofs.Laws.{fixed-some}
 use Rattle.layout.specs.Tree.{nodeOf, trees, treeOf, headOf}
 use Rattle.layout.specs.Table.{count}
-use Rattle.layout.specs.Legal.{LegalNode}
 use Rattle.layout.specs.declared.Node.{Node}
-use Rattle.layout.proofs.Facts.{trees-get, as-list, as-vector, legal-node}
+use Rattle.layout.proofs.Facts.{trees-get, as-list, as-vector}
 use Rattle.layout.proofs.Trees.{legal-tree}
 use Rattle.message.specs.Read.{one, andThen, built, ofElements, elements, manyOf, vectorTold, readItem, readFields}
 use Rattle.message.specs.Listing.{entry, listItem, listFields}
@@ -28,7 +27,7 @@ use Rattle.message.specs.Steps.{Under, Row, Named, rowOf, headsOf}
 use Rattle.message.specs.declared.elements.Elements.{Elements}
 use Rattle.message.specs.declared.elements.Elements.the-variants.{Many}
 use Rattle.message.specs.declared.Answer.{Answer}
-use Rattle.message.proofs.Rows.{under-below, under-head, under-small}
+use Rattle.message.proofs.Rows.{node-legal, under-below, under-head, under-small}
 use Rattle.message.proofs.Copies.{Some, read-copies, list-copies, words-copies, bytes-copies}
 
 -- Fields that share the word at, which names the type e
@@ -55,18 +54,15 @@ elements-same (Elements.Refused r) t s x y f = refl
 elements-same (Many m) t s x y f = f m
 
 module _ (lens l : List ℕ) (t : ℕ) (n : Node) (e : n ≡ nodeOf l t) (g : Under lens l (t + 1)) (k : 8 ≤ n .kind) where
-  pub node-legal : LegalNode l t n
-  node-legal = legal-node l t n e (g .legal)
-
   -- what is not a vector is a list
   pub else-list : (n .kind ≡ 9 → ⊥) → n .kind ≡ 8
-  else-list z = omega (arith, z, node-legal .known)
+  else-list z = omega (arith, z, node-legal lens l t n e g .known)
 
   pub element-below : n .second < t
-  element-below = node-legal .element k
+  element-below = node-legal lens l t n e g .element k
 
   pub third-there : n .at + 2 < count l
-  third-there = node-legal .third k
+  third-there = node-legal lens l t n e g .third k
 
   -- the type of an element, and the word that names it
   abbrev elementType : Ty
@@ -101,7 +97,7 @@ module _ (lens l : List ℕ) (t : ℕ) (n : Node) (e : n ≡ nodeOf l t) (g : Un
   element-row m h =
       record {
         under = under-elements;
-        near = omega (arith, node-legal .near);
+        near = omega (arith, node-legal lens l t n e g .near);
         steps = omega arith;
         named = shared-named l t (n .at + 1) m (omega (arith, third-there)) (rw (← element-word) element-below);
       }
@@ -142,7 +138,7 @@ module _ (lens l : List ℕ) (t : ℕ) (n : Node) (e : n ≡ nodeOf l t) (g : Un
     vector-tree = as-vector l t n e q element-below
 
     pub vector-narrow : wordAt l (n .at + 2) * width (head elementType) < 2 ^ 32
-    vector-narrow = node-legal .narrow q
+    vector-narrow = node-legal lens l t n e g .narrow q
 
     pub vector-read : (b : List ℕ) (s : ℕ) → readItem (treeOf l t) b s ≡
         built (vectorTold (head elementType) (wordAt l (n .at + 2)) b) t s

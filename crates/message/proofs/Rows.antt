@@ -24,9 +24,9 @@ use Rattle.decode.proofs.Register.{step-within, beyond}
 use Rattle.layout.specs.Tree.{nodeOf, treeOf, fields, trees, lenOf, headOf}
 use Rattle.layout.specs.declared.Node.{Node}
 use Rattle.layout.specs.Table.{count}
-use Rattle.layout.specs.Legal.{Lower, Legal}
+use Rattle.layout.specs.Legal.{Lower, LegalNode, Legal}
 use Rattle.layout.specs.Steps.{Known}
-use Rattle.layout.proofs.Facts.{trees-get, as-container, lower-here, lower-rest, head-len, legal-below}
+use Rattle.layout.proofs.Facts.{trees-get, as-container, lower-here, lower-rest, head-len, legal-below, legal-node}
 use Rattle.layout.proofs.Tables.{known-len, known-length}
 use Rattle.layout.proofs.Trees.{legal-tree, len-small}
 use Rattle.message.specs.Steps.{Under, Row, Named, rowOf, headsOf}
@@ -34,6 +34,10 @@ use Rattle.message.specs.Steps.{Under, Row, Named, rowOf, headsOf}
 -- The lengths that the table check found.
 pub under-table : (lens l : List ℕ) (k : ℕ) → Known lens l k → Under lens l k
 under-table lens l k g = record { legal = g .legal; few = g .few; room = known-length lens l k g; found = λ f h. known-len lens l k g f h }
+
+-- What a table that is legal so far says of a type
+pub node-legal : (lens l : List ℕ) (t : ℕ) (n : Node) → n ≡ nodeOf l t → Under lens l (t + 1) → LegalNode l t n
+node-legal lens l t n e g = legal-node l t n e (g .legal)
 
 pub under-below : (lens l : List ℕ) (t f : ℕ) → f ≤ t → Under lens l t → Under lens l f
 under-below lens l t f h g =

@@ -20,8 +20,8 @@ use Rattle.message.specs.Unfold.{unfoldWords, wordsFields, unfoldBytes, 
 use Rattle.message.specs.Steps.{Under, Named, rowOf, manyIn, IsAccepted}
 use Rattle.message.specs.Series.{MadeOf, countWord}
 use Rattle.message.specs.declared.parts.Series.{Series}
-use Rattle.message.proofs.Rows.{under-below, container-tree}
-use Rattle.message.proofs.Bodies.{node-ok, container-row}
+use Rattle.message.proofs.Rows.{node-legal, under-below, container-tree}
+use Rattle.message.proofs.Bodies.{container-row}
 use Rattle.message.proofs.Entries.{accepted-start, container-accepted, list-container, list-leaf}
 use Rattle.message.proofs.Repeats.{else-list, element-head, element-copies, list-words, vector-words}
 use Rattle.message.proofs.Copies.{laid-fixed}
@@ -59,7 +59,7 @@ module _ (lens l : List ℕ) (t : ℕ) (n : Node) (e : n ≡ nodeOf l t) (g : Un
     fields-made =
         record {
           row = container-row lens l t n e g k;
-          few = node-ok lens l t n e g .small;
+          few = node-legal lens l t n e g .small;
           ranges = container-accepted lens l t n e g b 0 h k .0;
           accepted = λ s. container-accepted lens l t n e g b s (accepted-at s) k .1;
           listed = λ s. list-container l t n e b s k;

@@ -107,7 +107,8 @@ fields-len-μ-loop lens₀ known layout t a0 n a₀ left₀ portion₀ fixed₀ 
 fields-len-loop-holds : (t : ℕ) → fields-len-lts.Need-loop-holds (fields-len-calls t) (fields-len-at t) fields-len.Post fields-len-Inv-loop fields-len-μ-loop
 fields-len-loop-holds t c = taking-start _ _ _ _ _ _ (c .before .pre .1 .0 .found)
 
-fields-len-word-in-requires : (t : ℕ) → fields-len-lts.Need-word-in-requires (fields-len-calls t) (fields-len-at t) fields-len.Post fields-len-Inv-loop fields-len-μ-loop
+fields-len-word-in-requires : (t : ℕ) → fields-len-lts.Need-word-in-requires (fields-len-calls t) (fields-len-at t) fields-len.Post
+    fields-len-Inv-loop fields-len-μ-loop
 fields-len-word-in-requires t c κs =
     let loop = c .before in
     let start = loop .before .before in
@@ -121,10 +122,12 @@ fields-len-there t c =
     let start = loop .before .before in
     omega (arith, loop .loop .inv .adding .place, c .before .loop-test .taken, start .pre .1 .4)
 
-fields-len-may-name-requires : (t : ℕ) → fields-len-lts.Need-may-name-requires (fields-len-calls t) (fields-len-at t) fields-len.Post fields-len-Inv-loop fields-len-μ-loop
+fields-len-may-name-requires : (t : ℕ) → fields-len-lts.Need-may-name-requires (fields-len-calls t) (fields-len-at t) fields-len.Post
+    fields-len-Inv-loop fields-len-μ-loop
 fields-len-may-name-requires t c κs = search needs
 
-fields-len-no-fields-requires : (t : ℕ) → fields-len-lts.Need-no-fields-requires (fields-len-calls t) (fields-len-at t) fields-len.Post fields-len-Inv-loop fields-len-μ-loop
+fields-len-no-fields-requires : (t : ℕ) → fields-len-lts.Need-no-fields-requires (fields-len-calls t) (fields-len-at t) fields-len.Post
+    fields-len-Inv-loop fields-len-μ-loop
 fields-len-no-fields-requires t c κs = search needs
 
 fields-len-returns : (t : ℕ) → fields-len-lts.Need-returns (fields-len-calls t) (fields-len-at t) fields-len.Post fields-len-Inv-loop fields-len-μ-loop
@@ -138,7 +141,8 @@ fields-len-returns t c =
     (fields-len-there t word) _ (named .may-name .ensures) (not-true _ (c .before .if1 .taken)) in
     (c .no-fields .ensures ∙ no-sizes _ _ _ bad, loop .loop .inv .found ∙ sym (start .pre .1 .0 .found))
 
-fields-len-fixed-len-requires : (t : ℕ) → fields-len-lts.Need-fixed-len-requires (fields-len-calls t) (fields-len-at t) fields-len.Post fields-len-Inv-loop fields-len-μ-loop
+fields-len-fixed-len-requires : (t : ℕ) → fields-len-lts.Need-fixed-len-requires (fields-len-calls t) (fields-len-at t) fields-len.Post
+    fields-len-Inv-loop fields-len-μ-loop
 fields-len-fixed-len-requires t c κs =
     let named = c .before .before in
     let word = named .before in
@@ -156,7 +160,8 @@ fields-len-fixed-len-requires t c κs =
       ),
     )
 
-fields-len-width-of-requires : (t : ℕ) → fields-len-lts.Need-width-of-requires (fields-len-calls t) (fields-len-at t) fields-len.Post fields-len-Inv-loop fields-len-μ-loop
+fields-len-width-of-requires : (t : ℕ) → fields-len-lts.Need-width-of-requires (fields-len-calls t) (fields-len-at t) fields-len.Post
+    fields-len-Inv-loop fields-len-μ-loop
 fields-len-width-of-requires t c κs = search needs
 
 fields-len-add-portion : (t : ℕ) → fields-len-lts.Need-add-portion (fields-len-calls t) (fields-len-at t) fields-len.Post fields-len-Inv-loop fields-len-μ-loop
@@ -368,7 +373,8 @@ work-out-fields-len-requires t c κs =
     let c6 = c2 .before .before .before .before in
     let start = c6 .before .before in
     let g = legal-node _ _ _ (c6 .look .ensures) (start .pre .1 .1) in
-    (rw (← start .pre .0) (omega arith), (start .pre .1 .0, omega arith, g .few (c2 .if2 .left), omega (arith, g .near), g .within (omega (arith, c2 .if2 .left)) (omega (arith, c2 .if2 .left))))
+    let within = g .within (omega (arith, c2 .if2 .left)) (omega (arith, c2 .if2 .left)) in
+    (rw (← start .pre .0) (omega arith), (start .pre .1 .0, omega arith, g .few (c2 .if2 .left), omega (arith, g .near), within))
 
 work-out-cast-lens-3 : (t : ℕ) → work-out-lts.Need-cast-lens-3 (work-out-calls t) (work-out-at t) work-out.Post
 work-out-cast-lens-3 t c =

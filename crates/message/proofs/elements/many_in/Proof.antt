@@ -4,16 +4,16 @@ use native.Mathlib.Omega.{arith}
 use borrow.Author.Needs.{needs}
 use borrow.Author.Tests.{eq-eqb}
 use Rattle.standard.specs.Bytes.{wordAt}
+use Rattle.message.proofs.Rows.{node-legal}
 use Rattle.message.proofs.Repeats.{element-below, element-head, element-small, third-there}
 use Rattle.message.proofs.Manys.{many-elements}
-use Rattle.message.proofs.Bodies.{node-ok}
 use Rattle.message.proofs.elements.many_in.Statement.{statement}
 use Rattle.message.proofs.elements.many_in.Tie as tie
 
 add-word-in : tie.Need-add-word-in
 add-word-in c =
     let c5 = c .before .before .before .before .before in
-    omega (arith, node-ok _ _ _ _ (c5 .pre .1) (c5 .pre .0) .near)
+    omega (arith, node-legal _ _ _ _ (c5 .pre .1) (c5 .pre .0) .near)
 
 word-in-requires : tie.Need-word-in-requires
 word-in-requires c κs =

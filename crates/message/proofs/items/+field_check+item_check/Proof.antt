@@ -6,10 +6,10 @@ use borrow.Author.Needs.{needs}
 use Prim.Native.Nat.{_+_, _-_, _*_}
 use lib.ListN.{length-take, length-drop}
 use Rattle.message.specs.Read.{one, andThen}
-use Rattle.message.proofs.Rows.{Lies, row-there, row-below, row-few, row-small, row-under, row-legal, under-below}
+use Rattle.message.proofs.Rows.{node-legal, Lies, row-there, row-below, row-few, row-small, row-under, row-legal, under-below}
 use Rattle.message.proofs.Bodies.{Reading, reading-new, reading-small, reading-span, reading-item, reading-next, reading-stop, reading-end}
 use Rattle.message.proofs.Bodies.{plain-fits, plain-next, free-next, within-says}
-use Rattle.message.proofs.Bodies.{item-small, small-more, node-ok, leaf-told}
+use Rattle.message.proofs.Bodies.{item-small, small-more, leaf-told}
 use Rattle.message.proofs.Bodies.{bare-read, wrong-read, body-below, body-read}
 use Prim.Native.Nat.{ℕ, _<_}
 use borrow.Fn.Kinds.{In}
@@ -111,7 +111,8 @@ item-check-calls t = (
 )
 
 -- where the field lies that was located
-field-check-lies : (t : ℕ) (c : field-check-lts.After-locate (field-check-calls t) (field-check-at t) field-check.Post field-check-Inv-loop field-check-μ-loop) →
+field-check-lies : (t : ℕ) (c : field-check-lts.After-locate (field-check-calls t) (field-check-at t) field-check.Post
+    field-check-Inv-loop field-check-μ-loop) →
     Lies (c .before .before .before .before .before .before .before .before .before .before .args .b .now) (c .locate .result)
 field-check-lies t at =
     let word = at .before .before .before .before in
@@ -120,20 +121,24 @@ field-check-lies t at =
     let start = loop .before .before .before .before in
     let rest : loop .loop .left - 1 + 1 - 1 ≡ loop .loop .left - 1 = omega arith in
     let span = rw rest at (at .locate .ensures) in
-    reading-span _ _ _ _ _ _ _ _ _ _ _ _ _ _ (loop .loop .inv) (test .loop-test .taken) (word .word-in .ensures .0) _ span
+    reading-span (loop .loop .inv) (test .loop-test .taken) (word .word-in .ensures .0) span
 
-field-check-own-record-requires : (t : ℕ) → field-check-lts.Need-own-record-requires (field-check-calls t) (field-check-at t) field-check.Post field-check-Inv-loop field-check-μ-loop
+field-check-own-record-requires : (t : ℕ) → field-check-lts.Need-own-record-requires (field-check-calls t) (field-check-at t) field-check.Post
+    field-check-Inv-loop field-check-μ-loop
 field-check-own-record-requires t c κs = search needs
 
-field-check-loop-holds : (t : ℕ) → field-check-lts.Need-loop-holds (field-check-calls t) (field-check-at t) field-check.Post field-check-Inv-loop field-check-μ-loop
+field-check-loop-holds : (t : ℕ) → field-check-lts.Need-loop-holds (field-check-calls t) (field-check-at t) field-check.Post
+    field-check-Inv-loop field-check-μ-loop
 field-check-loop-holds t c =
     let start = c .before .before .before in
     rw (c .own-record .ensures) (reading-new _ _ _ _ _ _ _ _ _ (start .pre .1 .0) (start .pre .1 .1) (start .pre .1 .2) (start .pre .1 .3))
 
-field-check-word-in-requires : (t : ℕ) → field-check-lts.Need-word-in-requires (field-check-calls t) (field-check-at t) field-check.Post field-check-Inv-loop field-check-μ-loop
+field-check-word-in-requires : (t : ℕ) → field-check-lts.Need-word-in-requires (field-check-calls t) (field-check-at t) field-check.Post
+    field-check-Inv-loop field-check-μ-loop
 field-check-word-in-requires t c κs = row-there _ _ _ _ _ _ (c .before .loop .inv .row) (c .loop-test .taken)
 
-field-check-look-in-requires : (t : ℕ) → field-check-lts.Need-look-in-requires (field-check-calls t) (field-check-at t) field-check.Post field-check-Inv-loop field-check-μ-loop
+field-check-look-in-requires : (t : ℕ) → field-check-lts.Need-look-in-requires (field-check-calls t) (field-check-at t) field-check.Post
+    field-check-Inv-loop field-check-μ-loop
 field-check-look-in-requires t c κs =
     let test = c .before in
     row-legal _ _ _ _ _ _ _ (test .before .loop .inv .row) (test .loop-test .taken) (c .word-in .ensures .0)
@@ -146,13 +151,15 @@ field-check-add-a t c =
 field-check-sub-left : (t : ℕ) → field-check-lts.Need-sub-left (field-check-calls t) (field-check-at t) field-check.Post field-check-Inv-loop field-check-μ-loop
 field-check-sub-left t c = omega arith
 
-field-check-is-plain-requires : (t : ℕ) → field-check-lts.Need-is-plain-requires (field-check-calls t) (field-check-at t) field-check.Post field-check-Inv-loop field-check-μ-loop
+field-check-is-plain-requires : (t : ℕ) → field-check-lts.Need-is-plain-requires (field-check-calls t) (field-check-at t) field-check.Post
+    field-check-Inv-loop field-check-μ-loop
 field-check-is-plain-requires t c κs = search needs
 
 field-check-mul-k : (t : ℕ) → field-check-lts.Need-mul-k (field-check-calls t) (field-check-at t) field-check.Post field-check-Inv-loop field-check-μ-loop
 field-check-mul-k t c = omega (arith, c .before .before .before .word-in .ensures .1)
 
-field-check-element-copy-out-k : (t : ℕ) → field-check-lts.Need-element-copy-out-k (field-check-calls t) (field-check-at t) field-check.Post field-check-Inv-loop field-check-μ-loop
+field-check-element-copy-out-k : (t : ℕ) → field-check-lts.Need-element-copy-out-k (field-check-calls t) (field-check-at t) field-check.Post
+    field-check-Inv-loop field-check-μ-loop
 field-check-element-copy-out-k t c =
     let word = c .before .before .before in
     let test = word .before in
@@ -166,12 +173,14 @@ field-check-cast-k t c =
     let loop = test .before in
     omega (arith, row-small _ _ _ _ _ _ _ (loop .loop .inv .row) (test .loop-test .taken) (word .word-in .ensures .0))
 
-field-check-one-more-requires : (t : ℕ) → field-check-lts.Need-one-more-requires (field-check-calls t) (field-check-at t) field-check.Post field-check-Inv-loop field-check-μ-loop
+field-check-one-more-requires : (t : ℕ) → field-check-lts.Need-one-more-requires (field-check-calls t) (field-check-at t) field-check.Post
+    field-check-Inv-loop field-check-μ-loop
 field-check-one-more-requires t c κs =
     let word = c .before .before .before .before in
     let test = word .before in
     let loop = test .before in
-    (reading-small _ _ _ _ _ _ _ _ _ _ _ _ _ (loop .loop .inv), omega arith, omega (arith, row-small _ _ _ _ _ _ _ (loop .loop .inv .row) (test .loop-test .taken) (word .word-in .ensures .0)))
+    let small = row-small _ _ _ _ _ _ _ (loop .loop .inv .row) (test .loop-test .taken) (word .word-in .ensures .0) in
+    (reading-small (loop .loop .inv), omega arith, omega (arith, small))
 
 field-check-add-p : (t : ℕ) → field-check-lts.Need-add-p (field-check-calls t) (field-check-at t) field-check.Post field-check-Inv-loop field-check-μ-loop
 field-check-add-p t c =
@@ -182,14 +191,16 @@ field-check-add-p t c =
     let test = word .before in
     let loop = test .before in
     let start = loop .before .before .before .before in
-    let fits = plain-fits _ _ _ _ _ _ _ _ _ _ _ _ _ _ (loop .loop .inv) (test .loop-test .taken) (word .word-in .ensures .0) _ (look .look-in .ensures)
-    (sym (plain .is-plain .ensures) ∙ then .if1 .taken) _ refl in
+    let fits = plain-fits (loop .loop .inv) (test .loop-test .taken) (word .word-in .ensures .0) (look .look-in .ensures)
+    (sym (plain .is-plain .ensures) ∙ then .if1 .taken) refl in
     omega (arith, fits, start .pre .1 .1)
 
-field-check-loop-less : (t : ℕ) → field-check-lts.Need-loop-less (field-check-calls t) (field-check-at t) field-check.Post field-check-Inv-loop field-check-μ-loop
+field-check-loop-less : (t : ℕ) → field-check-lts.Need-loop-less (field-check-calls t) (field-check-at t) field-check.Post
+    field-check-Inv-loop field-check-μ-loop
 field-check-loop-less t c = omega arith
 
-field-check-loop-again : (t : ℕ) → field-check-lts.Need-loop-again (field-check-calls t) (field-check-at t) field-check.Post field-check-Inv-loop field-check-μ-loop
+field-check-loop-again : (t : ℕ) → field-check-lts.Need-loop-again (field-check-calls t) (field-check-at t) field-check.Post
+    field-check-Inv-loop field-check-μ-loop
 field-check-loop-again t c =
     let then = c .before .before in
     let plain = then .before in
@@ -198,13 +209,15 @@ field-check-loop-again t c =
     let test = word .before in
     let loop = test .before in
     let start = loop .before .before .before .before in
-    rw (c .one-more .ensures) (plain-next _ _ _ _ _ _ _ _ _ _ _ _ _ _ (loop .loop .inv) (test .loop-test .taken) (word .word-in .ensures .0) _ (look .look-in .ensures)
-    (sym (plain .is-plain .ensures) ∙ then .if1 .taken) _ refl (start .pre .1 .1))
+    rw (c .one-more .ensures) (plain-next (loop .loop .inv) (test .loop-test .taken) (word .word-in .ensures .0) (look .look-in .ensures)
+    (sym (plain .is-plain .ensures) ∙ then .if1 .taken) refl (start .pre .1 .1))
 
-field-check-add-locate : (t : ℕ) → field-check-lts.Need-add-locate (field-check-calls t) (field-check-at t) field-check.Post field-check-Inv-loop field-check-μ-loop
+field-check-add-locate : (t : ℕ) → field-check-lts.Need-add-locate (field-check-calls t) (field-check-at t) field-check.Post
+    field-check-Inv-loop field-check-μ-loop
 field-check-add-locate t c = omega arith
 
-field-check-locate-requires : (t : ℕ) → field-check-lts.Need-locate-requires (field-check-calls t) (field-check-at t) field-check.Post field-check-Inv-loop field-check-μ-loop
+field-check-locate-requires : (t : ℕ) → field-check-lts.Need-locate-requires (field-check-calls t) (field-check-at t) field-check.Post
+    field-check-Inv-loop field-check-μ-loop
 field-check-locate-requires t c κs =
     let word = c .before .before .before in
     let test = word .before in
@@ -215,25 +228,31 @@ field-check-locate-requires t c κs =
 field-check-add-at : (t : ℕ) → field-check-lts.Need-add-at (field-check-calls t) (field-check-at t) field-check.Post field-check-Inv-loop field-check-μ-loop
 field-check-add-at t c = omega (arith, field-check-lies t c, c .before .before .before .before .before .before .before .before .before .before .pre .1 .1)
 
-field-check-sub-is-within : (t : ℕ) → field-check-lts.Need-sub-is-within (field-check-calls t) (field-check-at t) field-check.Post field-check-Inv-loop field-check-μ-loop
+field-check-sub-is-within : (t : ℕ) → field-check-lts.Need-sub-is-within (field-check-calls t) (field-check-at t) field-check.Post
+    field-check-Inv-loop field-check-μ-loop
 field-check-sub-is-within t c = field-check-lies t c .0
 
-field-check-is-within-requires : (t : ℕ) → field-check-lts.Need-is-within-requires (field-check-calls t) (field-check-at t) field-check.Post field-check-Inv-loop field-check-μ-loop
+field-check-is-within-requires : (t : ℕ) → field-check-lts.Need-is-within-requires (field-check-calls t) (field-check-at t) field-check.Post
+    field-check-Inv-loop field-check-μ-loop
 field-check-is-within-requires t c κs = search needs
 
-field-check-sub-one-more : (t : ℕ) → field-check-lts.Need-sub-one-more (field-check-calls t) (field-check-at t) field-check.Post field-check-Inv-loop field-check-μ-loop
+field-check-sub-one-more : (t : ℕ) → field-check-lts.Need-sub-one-more (field-check-calls t) (field-check-at t) field-check.Post
+    field-check-Inv-loop field-check-μ-loop
 field-check-sub-one-more t c = field-check-lies t (c .before .before) .0
 
-field-check-one-more-requires-2 : (t : ℕ) → field-check-lts.Need-one-more-requires-2 (field-check-calls t) (field-check-at t) field-check.Post field-check-Inv-loop field-check-μ-loop
+field-check-one-more-requires-2 : (t : ℕ) → field-check-lts.Need-one-more-requires-2 (field-check-calls t) (field-check-at t) field-check.Post
+    field-check-Inv-loop field-check-μ-loop
 field-check-one-more-requires-2 t c κs =
     let at = c .before .before in
     let loop = at .before .before .before .before .before .before in
-    (reading-small _ _ _ _ _ _ _ _ _ _ _ _ _ (loop .loop .inv), omega arith, omega (arith, field-check-lies t at, loop .before .before .before .before .pre .1 .1))
+    (reading-small (loop .loop .inv), omega arith, omega (arith, field-check-lies t at, loop .before .before .before .before .pre .1 .1))
 
-field-check-loop-less-2 : (t : ℕ) → field-check-lts.Need-loop-less-2 (field-check-calls t) (field-check-at t) field-check.Post field-check-Inv-loop field-check-μ-loop
+field-check-loop-less-2 : (t : ℕ) → field-check-lts.Need-loop-less-2 (field-check-calls t) (field-check-at t) field-check.Post
+    field-check-Inv-loop field-check-μ-loop
 field-check-loop-less-2 t c = omega arith
 
-field-check-loop-again-2 : (t : ℕ) → field-check-lts.Need-loop-again-2 (field-check-calls t) (field-check-at t) field-check.Post field-check-Inv-loop field-check-μ-loop
+field-check-loop-again-2 : (t : ℕ) → field-check-lts.Need-loop-again-2 (field-check-calls t) (field-check-at t) field-check.Post
+    field-check-Inv-loop field-check-μ-loop
 field-check-loop-again-2 t c =
     let then = c .before in
     let within = then .before in
@@ -245,24 +264,32 @@ field-check-loop-again-2 t c =
     let rest : loop .loop .left - 1 + 1 - 1 ≡ loop .loop .left - 1 = omega arith in
     let span = rw rest at (at .locate .ensures) in
     let free = within-says _ _ _ (sym (within .is-within .ensures) ∙ then .if2 .taken) in
-    rw (c .one-more2 .ensures) (free-next _ _ _ _ _ _ _ _ _ _ _ _ _ _ (loop .loop .inv) (test .loop-test .taken) (word .word-in .ensures .0) _ span _ (at .before .before .before .look-in .ensures) (free .0) (free .1) (start .pre .1 .1))
+    let look = at .before .before .before in
+    rw (c .one-more2 .ensures)
+    (free-next (loop .loop .inv) (test .loop-test .taken) (word .word-in .ensures .0) span (look .look-in .ensures) (free .0) (free .1) (start .pre .1 .1))
 
-field-check-sub-leaf-check : (t : ℕ) → field-check-lts.Need-sub-leaf-check (field-check-calls t) (field-check-at t) field-check.Post field-check-Inv-loop field-check-μ-loop
+field-check-sub-leaf-check : (t : ℕ) → field-check-lts.Need-sub-leaf-check (field-check-calls t) (field-check-at t) field-check.Post
+    field-check-Inv-loop field-check-μ-loop
 field-check-sub-leaf-check t c = field-check-lies t (c .before .before .before .before) .0
 
-field-check-part-leaf-check-start : (t : ℕ) → field-check-lts.Need-part-leaf-check-start (field-check-calls t) (field-check-at t) field-check.Post field-check-Inv-loop field-check-μ-loop
+field-check-part-leaf-check-start : (t : ℕ) → field-check-lts.Need-part-leaf-check-start (field-check-calls t) (field-check-at t) field-check.Post
+    field-check-Inv-loop field-check-μ-loop
 field-check-part-leaf-check-start t c = field-check-lies t (c .before .before .before .before) .0
 
-field-check-part-leaf-check-end : (t : ℕ) → field-check-lts.Need-part-leaf-check-end (field-check-calls t) (field-check-at t) field-check.Post field-check-Inv-loop field-check-μ-loop
+field-check-part-leaf-check-end : (t : ℕ) → field-check-lts.Need-part-leaf-check-end (field-check-calls t) (field-check-at t) field-check.Post
+    field-check-Inv-loop field-check-μ-loop
 field-check-part-leaf-check-end t c = field-check-lies t (c .before .before .before .before) .1
 
-field-check-leaf-check-requires : (t : ℕ) → field-check-lts.Need-leaf-check-requires (field-check-calls t) (field-check-at t) field-check.Post field-check-Inv-loop field-check-μ-loop
+field-check-leaf-check-requires : (t : ℕ) → field-check-lts.Need-leaf-check-requires (field-check-calls t) (field-check-at t) field-check.Post
+    field-check-Inv-loop field-check-μ-loop
 field-check-leaf-check-requires t c κs = search needs
 
-field-check-enum-known-words : (t : ℕ) → field-check-lts.Need-enum-known-words (field-check-calls t) (field-check-at t) field-check.Post field-check-Inv-loop field-check-μ-loop
+field-check-enum-known-words : (t : ℕ) → field-check-lts.Need-enum-known-words (field-check-calls t) (field-check-at t) field-check.Post
+    field-check-Inv-loop field-check-μ-loop
 field-check-enum-known-words t c = search needs
 
-field-check-one-more-requires-3 : (t : ℕ) → field-check-lts.Need-one-more-requires-3 (field-check-calls t) (field-check-at t) field-check.Post field-check-Inv-loop field-check-μ-loop
+field-check-one-more-requires-3 : (t : ℕ) → field-check-lts.Need-one-more-requires-3 (field-check-calls t) (field-check-at t) field-check.Post
+    field-check-Inv-loop field-check-μ-loop
 field-check-one-more-requires-3 t c κs =
     let told = c .before in
     let said = told .before .before in
@@ -275,10 +302,11 @@ field-check-one-more-requires-3 t c κs =
     let rest : loop .loop .left - 1 + 1 - 1 ≡ loop .loop .left - 1 = omega arith in
     let span = rw rest at (at .locate .ensures) in
     let says = leaf-told _ _ _ (at .before .before .before .look-in .ensures) (small .if3 .taken) _ _ _ (told .words .given .1) (said .leaf-check .ensures) in
-    let counts = reading-item _ _ _ _ _ _ _ _ _ _ _ _ _ _ (loop .loop .inv) (test .loop-test .taken) (word .word-in .ensures .0) _ span _ (start .pre .1 .1) (says _) in
-    (reading-small _ _ _ _ _ _ _ _ _ _ _ _ _ (loop .loop .inv), small-more _ counts .words, small-more _ counts .bytes)
+    let counts = reading-item (loop .loop .inv) (test .loop-test .taken) (word .word-in .ensures .0) span _ (start .pre .1 .1) (says _) in
+    (reading-small (loop .loop .inv), small-more _ counts .words, small-more _ counts .bytes)
 
-field-check-enum-known-x : (t : ℕ) → field-check-lts.Need-enum-known-x (field-check-calls t) (field-check-at t) field-check.Post field-check-Inv-loop field-check-μ-loop
+field-check-enum-known-x : (t : ℕ) → field-check-lts.Need-enum-known-x (field-check-calls t) (field-check-at t) field-check.Post
+    field-check-Inv-loop field-check-μ-loop
 field-check-enum-known-x t c = search needs
 
 field-check-returns : (t : ℕ) → field-check-lts.Need-returns (field-check-calls t) (field-check-at t) field-check.Post field-check-Inv-loop field-check-μ-loop
@@ -294,12 +322,14 @@ field-check-returns t c =
     let rest : loop .loop .left - 1 + 1 - 1 ≡ loop .loop .left - 1 = omega arith in
     let span = rw rest at (at .locate .ensures) in
     let says = leaf-told _ _ _ (at .before .before .before .look-in .ensures) (small .if3 .taken) _ _ _ (told .x .given .1) (said .leaf-check .ensures) in
-    reading-stop _ _ _ _ _ _ _ _ _ _ _ _ _ _ (loop .loop .inv) (test .loop-test .taken) (word .word-in .ensures .0) _ span _ _ _ (says _)
+    reading-stop (loop .loop .inv) (test .loop-test .taken) (word .word-in .ensures .0) span _ _ _ (says _)
 
-field-check-loop-less-3 : (t : ℕ) → field-check-lts.Need-loop-less-3 (field-check-calls t) (field-check-at t) field-check.Post field-check-Inv-loop field-check-μ-loop
+field-check-loop-less-3 : (t : ℕ) → field-check-lts.Need-loop-less-3 (field-check-calls t) (field-check-at t) field-check.Post
+    field-check-Inv-loop field-check-μ-loop
 field-check-loop-less-3 t c = omega arith
 
-field-check-loop-again-3 : (t : ℕ) → field-check-lts.Need-loop-again-3 (field-check-calls t) (field-check-at t) field-check.Post field-check-Inv-loop field-check-μ-loop
+field-check-loop-again-3 : (t : ℕ) → field-check-lts.Need-loop-again-3 (field-check-calls t) (field-check-at t) field-check.Post
+    field-check-Inv-loop field-check-μ-loop
 field-check-loop-again-3 t c =
     let told = c .before .before in
     let said = told .before .before in
@@ -312,18 +342,22 @@ field-check-loop-again-3 t c =
     let rest : loop .loop .left - 1 + 1 - 1 ≡ loop .loop .left - 1 = omega arith in
     let span = rw rest at (at .locate .ensures) in
     let says = leaf-told _ _ _ (at .before .before .before .look-in .ensures) (small .if3 .taken) _ _ _ (told .words .given .1) (said .leaf-check .ensures) in
-    rw (c .one-more3 .ensures) (reading-next _ _ _ _ _ _ _ _ _ _ _ _ _ _ (loop .loop .inv) (test .loop-test .taken) (word .word-in .ensures .0) _ span _ (start .pre .1 .1) (says _))
+    rw (c .one-more3 .ensures) (reading-next (loop .loop .inv) (test .loop-test .taken) (word .word-in .ensures .0) span _ (start .pre .1 .1) (says _))
 
-field-check-sub-item-check : (t : ℕ) → field-check-lts.Need-sub-item-check (field-check-calls t) (field-check-at t) field-check.Post field-check-Inv-loop field-check-μ-loop
+field-check-sub-item-check : (t : ℕ) → field-check-lts.Need-sub-item-check (field-check-calls t) (field-check-at t) field-check.Post
+    field-check-Inv-loop field-check-μ-loop
 field-check-sub-item-check t c = field-check-lies t (c .before .before .before .before) .0
 
-field-check-part-item-check-start : (t : ℕ) → field-check-lts.Need-part-item-check-start (field-check-calls t) (field-check-at t) field-check.Post field-check-Inv-loop field-check-μ-loop
+field-check-part-item-check-start : (t : ℕ) → field-check-lts.Need-part-item-check-start (field-check-calls t) (field-check-at t) field-check.Post
+    field-check-Inv-loop field-check-μ-loop
 field-check-part-item-check-start t c = field-check-lies t (c .before .before .before .before) .0
 
-field-check-part-item-check-end : (t : ℕ) → field-check-lts.Need-part-item-check-end (field-check-calls t) (field-check-at t) field-check.Post field-check-Inv-loop field-check-μ-loop
+field-check-part-item-check-end : (t : ℕ) → field-check-lts.Need-part-item-check-end (field-check-calls t) (field-check-at t) field-check.Post
+    field-check-Inv-loop field-check-μ-loop
 field-check-part-item-check-end t c = field-check-lies t (c .before .before .before .before) .1
 
-field-check-item-check-requires : (t : ℕ) → field-check-lts.Need-item-check-requires (field-check-calls t) (field-check-at t) field-check.Post field-check-Inv-loop field-check-μ-loop
+field-check-item-check-requires : (t : ℕ) → field-check-lts.Need-item-check-requires (field-check-calls t) (field-check-at t) field-check.Post
+    field-check-Inv-loop field-check-μ-loop
 field-check-item-check-requires t c κs =
     let at = c .before .before .before .before .before in
     let word = at .before .before .before .before in
@@ -331,12 +365,15 @@ field-check-item-check-requires t c κs =
     let loop = test .before in
     let start = loop .before .before .before .before in
     let lower = row-below _ _ _ _ _ _ _ (loop .loop .inv .row) (test .loop-test .taken) (word .word-in .ensures .0) in
-    (omega (arith, lower, start .pre .0), (row-under _ _ _ _ _ _ _ (loop .loop .inv .row) (test .loop-test .taken) (word .word-in .ensures .0), omega (arith, field-check-lies t at, start .pre .1 .1)))
+    let under = row-under _ _ _ _ _ _ _ (loop .loop .inv .row) (test .loop-test .taken) (word .word-in .ensures .0) in
+    (omega (arith, lower, start .pre .0), (under, omega (arith, field-check-lies t at, start .pre .1 .1)))
 
-field-check-enum-known-c : (t : ℕ) → field-check-lts.Need-enum-known-c (field-check-calls t) (field-check-at t) field-check.Post field-check-Inv-loop field-check-μ-loop
+field-check-enum-known-c : (t : ℕ) → field-check-lts.Need-enum-known-c (field-check-calls t) (field-check-at t) field-check.Post
+    field-check-Inv-loop field-check-μ-loop
 field-check-enum-known-c t c = search needs
 
-field-check-add-requires : (t : ℕ) → field-check-lts.Need-add-requires (field-check-calls t) (field-check-at t) field-check.Post field-check-Inv-loop field-check-μ-loop
+field-check-add-requires : (t : ℕ) → field-check-lts.Need-add-requires (field-check-calls t) (field-check-at t) field-check.Post
+    field-check-Inv-loop field-check-μ-loop
 field-check-add-requires t c κs =
     let told = c .before in
     let said = told .before .before in
@@ -348,13 +385,15 @@ field-check-add-requires t c κs =
     let rest : loop .loop .left - 1 + 1 - 1 ≡ loop .loop .left - 1 = omega arith in
     let span = rw rest at (at .locate .ensures) in
     let says = sym (told .c .given .1) ∙ said .item-check .ensures in
-    let counts = reading-item _ _ _ _ _ _ _ _ _ _ _ _ _ _ (loop .loop .inv) (test .loop-test .taken) (word .word-in .ensures .0) _ span _ (start .pre .1 .1) says in
-    (reading-small _ _ _ _ _ _ _ _ _ _ _ _ _ (loop .loop .inv), small-more _ counts)
+    let counts = reading-item (loop .loop .inv) (test .loop-test .taken) (word .word-in .ensures .0) span _ (start .pre .1 .1) says in
+    (reading-small (loop .loop .inv), small-more _ counts)
 
-field-check-loop-less-4 : (t : ℕ) → field-check-lts.Need-loop-less-4 (field-check-calls t) (field-check-at t) field-check.Post field-check-Inv-loop field-check-μ-loop
+field-check-loop-less-4 : (t : ℕ) → field-check-lts.Need-loop-less-4 (field-check-calls t) (field-check-at t) field-check.Post
+    field-check-Inv-loop field-check-μ-loop
 field-check-loop-less-4 t c = omega arith
 
-field-check-loop-again-4 : (t : ℕ) → field-check-lts.Need-loop-again-4 (field-check-calls t) (field-check-at t) field-check.Post field-check-Inv-loop field-check-μ-loop
+field-check-loop-again-4 : (t : ℕ) → field-check-lts.Need-loop-again-4 (field-check-calls t) (field-check-at t) field-check.Post
+    field-check-Inv-loop field-check-μ-loop
 field-check-loop-again-4 t c =
     let told = c .before .before in
     let said = told .before .before in
@@ -366,12 +405,14 @@ field-check-loop-again-4 t c =
     let rest : loop .loop .left - 1 + 1 - 1 ≡ loop .loop .left - 1 = omega arith in
     let span = rw rest at (at .locate .ensures) in
     let says = sym (told .c .given .1) ∙ said .item-check .ensures in
-    rw (c .add .ensures) (reading-next _ _ _ _ _ _ _ _ _ _ _ _ _ _ (loop .loop .inv) (test .loop-test .taken) (word .word-in .ensures .0) _ span _ (start .pre .1 .1) says)
+    rw (c .add .ensures) (reading-next (loop .loop .inv) (test .loop-test .taken) (word .word-in .ensures .0) span _ (start .pre .1 .1) says)
 
-field-check-enum-known-x-2 : (t : ℕ) → field-check-lts.Need-enum-known-x-2 (field-check-calls t) (field-check-at t) field-check.Post field-check-Inv-loop field-check-μ-loop
+field-check-enum-known-x-2 : (t : ℕ) → field-check-lts.Need-enum-known-x-2 (field-check-calls t) (field-check-at t) field-check.Post
+    field-check-Inv-loop field-check-μ-loop
 field-check-enum-known-x-2 t c = search needs
 
-field-check-returns-2 : (t : ℕ) → field-check-lts.Need-returns-2 (field-check-calls t) (field-check-at t) field-check.Post field-check-Inv-loop field-check-μ-loop
+field-check-returns-2 : (t : ℕ) → field-check-lts.Need-returns-2 (field-check-calls t) (field-check-at t) field-check.Post
+    field-check-Inv-loop field-check-μ-loop
 field-check-returns-2 t c =
     let told = c .before in
     let said = told .before .before in
@@ -383,12 +424,13 @@ field-check-returns-2 t c =
     let rest : loop .loop .left - 1 + 1 - 1 ≡ loop .loop .left - 1 = omega arith in
     let span = rw rest at (at .locate .ensures) in
     let says = sym (told .x2 .given .1) ∙ said .item-check .ensures in
-    reading-stop _ _ _ _ _ _ _ _ _ _ _ _ _ _ (loop .loop .inv) (test .loop-test .taken) (word .word-in .ensures .0) _ span _ _ _ says
+    reading-stop (loop .loop .inv) (test .loop-test .taken) (word .word-in .ensures .0) span _ _ _ says
 
-field-check-returns-3 : (t : ℕ) → field-check-lts.Need-returns-3 (field-check-calls t) (field-check-at t) field-check.Post field-check-Inv-loop field-check-μ-loop
+field-check-returns-3 : (t : ℕ) → field-check-lts.Need-returns-3 (field-check-calls t) (field-check-at t) field-check.Post
+    field-check-Inv-loop field-check-μ-loop
 field-check-returns-3 t c =
     let loop = c .before in
-    reading-end _ _ _ _ _ _ _ _ _ _ _ _ _ (loop .loop .inv) (c .loop-test .left)
+    reading-end (loop .loop .inv) (c .loop-test .left)
 
 item-check-look-in-requires : (t : ℕ) → item-check-lts.Need-look-in-requires (item-check-calls t) (item-check-at t) item-check.Post
 item-check-look-in-requires t c κs = c .before .before .pre .1 .0 .legal
@@ -422,12 +464,12 @@ item-check-returns-2 t c =
 item-check-add-first : (t : ℕ) → item-check-lts.Need-add-first (item-check-calls t) (item-check-at t) item-check.Post
 item-check-add-first t c =
     let look = c .before .before .before .before .before in
-    omega (arith, node-ok _ _ _ _ (look .look-in .ensures) (look .before .before .before .pre .1 .0) .near)
+    omega (arith, node-legal _ _ _ _ (look .look-in .ensures) (look .before .before .before .pre .1 .0) .near)
 
 item-check-select-requires : (t : ℕ) → item-check-lts.Need-select-requires (item-check-calls t) (item-check-at t) item-check.Post
 item-check-select-requires t c κs =
     let look = c .before .before .before .before .before in
-    omega (arith, node-ok _ _ _ _ (look .look-in .ensures) (look .before .before .before .pre .1 .0) .near)
+    omega (arith, node-legal _ _ _ _ (look .look-in .ensures) (look .before .before .before .pre .1 .0) .near)
 
 item-check-enum-told : (t : ℕ) → item-check-lts.Need-enum-told (item-check-calls t) (item-check-at t) item-check.Post
 item-check-enum-told t c = search needs

@@ -3,8 +3,7 @@ use mathlib.Core.Path.{_≡_, refl, sym, ap, _∙_}
 use native.Mathlib.Omega.{arith}
 use borrow.Author.Needs.{needs}
 use Rattle.message.specs.Steps.{Alike}
-use Rattle.message.proofs.Rows.{under-legal}
-use Rattle.message.proofs.Bodies.{node-ok}
+use Rattle.message.proofs.Rows.{node-legal, under-legal}
 use Rattle.message.proofs.Repeats.{element-below, element-word, element-row, element-small, third-there, vector-narrow}
 use Rattle.message.proofs.Alike.{row-found, vector-alike, vector-on, vector-stop, list-alike, list-on, list-stop}
 use Rattle.message.proofs.items.elements_inside.Statement.{statement}
@@ -13,12 +12,12 @@ use Rattle.message.proofs.items.elements_inside.Tie as tie
 add-first : tie.Need-add-first
 add-first c =
     let p = c .before .before .before .pre in
-    omega (arith, node-ok _ _ _ _ (p .2) (p .0) .near)
+    omega (arith, node-legal _ _ _ _ (p .2) (p .0) .near)
 
 add-word-in : tie.Need-add-word-in
 add-word-in c =
     let p = c .before .before .before .before .pre in
-    omega (arith, node-ok _ _ _ _ (p .2) (p .0) .near)
+    omega (arith, node-legal _ _ _ _ (p .2) (p .0) .near)
 
 word-in-requires : tie.Need-word-in-requires
 word-in-requires c κs =

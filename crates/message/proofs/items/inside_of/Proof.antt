@@ -3,8 +3,8 @@ use mathlib.Core.Path.{_≡_, refl, sym, ap, _∙_}
 use native.Mathlib.Omega.{arith}
 use borrow.Author.Needs.{needs}
 use Rattle.decode.proofs.Register.{layout-ranges}
-use Rattle.message.proofs.Rows.{container-tree}
-use Rattle.message.proofs.Bodies.{node-ok, container-row, container-on, container-stop}
+use Rattle.message.proofs.Rows.{node-legal, container-tree}
+use Rattle.message.proofs.Bodies.{container-row, container-on, container-stop}
 use Rattle.message.proofs.items.inside_of.Statement.{statement}
 use Rattle.message.proofs.items.inside_of.Tie as tie
 
@@ -19,7 +19,7 @@ returns c = c .elements-inside .ensures
 add-first : tie.Need-add-first
 add-first c =
     let p = c .before .before .before .before .before .pre in
-    omega (arith, node-ok _ _ _ _ (p .2) (p .0) .near)
+    omega (arith, node-legal _ _ _ _ (p .2) (p .0) .near)
 
 container-told-requires : tie.Need-container-told-requires
 container-told-requires c κs =

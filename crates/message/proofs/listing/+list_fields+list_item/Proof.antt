@@ -6,8 +6,8 @@ use Prim.Native.Nat.{_+_, _*_}
 use mathlib.Core.List.{[]}
 use lib.ListN.{length-take, length-drop}
 use Rattle.standard.proofs.Store.{stored-then, stored-none, room-then}
-use Rattle.message.proofs.Rows.{Lies, span-lies, row-there, row-legal, row-below, row-under, under-below}
-use Rattle.message.proofs.Bodies.{node-ok, body-below}
+use Rattle.message.proofs.Rows.{node-legal, Lies, span-lies, row-there, row-legal, row-below, row-under, under-below}
+use Rattle.message.proofs.Bodies.{body-below}
 use Rattle.message.proofs.Entries.{Storing, storing-accepted, storing-room, storing-next, storing-end, stored-length, room-long, union-bare, union-body, union-never, body-accepted}
 use Rattle.message.proofs.Entries.{leaf-stored, accepted-start}
 use Prim.Native.Nat.{ℕ, _<_}
@@ -286,13 +286,13 @@ list-item-add-select : (t : ℕ) → list-item-lts.Need-add-select (list-item-ca
 list-item-add-select t c =
     let c3 = c .before .before .before in
     let c11 = c3 .before .before .before .before .before .before .before .before in
-    omega (arith, node-ok _ _ _ _ (c3 .look-in .ensures) (c11 .pre .1 .0) .near)
+    omega (arith, node-legal _ _ _ _ (c3 .look-in .ensures) (c11 .pre .1 .0) .near)
 
 list-item-select-requires : (t : ℕ) → list-item-lts.Need-select-requires (list-item-calls t) (list-item-at t) list-item.Post
 list-item-select-requires t c κs =
     let c3 = c .before .before .before in
     let c11 = c3 .before .before .before .before .before .before .before .before in
-    omega (arith, node-ok _ _ _ _ (c3 .look-in .ensures) (c11 .pre .1 .0) .near)
+    omega (arith, node-legal _ _ _ _ (c3 .look-in .ensures) (c11 .pre .1 .0) .near)
 
 list-item-enum-told : (t : ℕ) → list-item-lts.Need-enum-told (list-item-calls t) (list-item-at t) list-item.Post
 list-item-enum-told t c = search needs

@@ -1,6 +1,6 @@
 -- By the kind. Assumes nothing.
 use native.Mathlib.Omega.{arith}
-use Rattle.message.proofs.Bodies.{node-ok}
+use Rattle.message.proofs.Rows.{node-legal}
 use Rattle.message.proofs.Manys.{several}
 use Rattle.message.proofs.Series.{no-items-made, fields-made, elements-made}
 use borrow.Author.Needs.{needs}
@@ -19,7 +19,7 @@ returns c =
 add-first : tie.Need-add-first
 add-first c =
     let c7 = c .before .before .before .before .before .before .before in
-    omega (arith, node-ok _ _ _ _ (c7 .pre .2) (c7 .pre .0) .near)
+    omega (arith, node-legal _ _ _ _ (c7 .pre .2) (c7 .pre .0) .near)
 
 returns-2 : tie.Need-returns-2
 returns-2 c =
@@ -36,7 +36,7 @@ many-in-requires c κs =
 add-first-2 : tie.Need-add-first-2
 add-first-2 c =
     let c8 = c .before .before .before .before .before .before .before .before in
-    omega (arith, node-ok _ _ _ _ (c8 .pre .2) (c8 .pre .0) .near)
+    omega (arith, node-legal _ _ _ _ (c8 .pre .2) (c8 .pre .0) .near)
 
 returns-3 : tie.Need-returns-3
 returns-3 c =

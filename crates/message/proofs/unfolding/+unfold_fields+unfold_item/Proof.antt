@@ -8,8 +8,8 @@ use lib.ListN.{length-take, length-drop}
 use Rattle.message.specs.Unfold.{wordsFields, bytesFields}
 use Rattle.message.specs.Steps.{rowOf}
 use Rattle.message.specs.Unfolding.{Filling}
-use Rattle.message.proofs.Rows.{Lies, span-lies, row-there, row-legal, row-below, row-under, row-few, row-small, under-below}
-use Rattle.message.proofs.Bodies.{node-ok, body-below}
+use Rattle.message.proofs.Rows.{node-legal, Lies, span-lies, row-there, row-legal, row-below, row-under, row-few, row-small, under-below}
+use Rattle.message.proofs.Bodies.{body-below}
 use Rattle.message.proofs.UnfoldLeaves.{stored-length}
 use Rattle.message.proofs.Unfolds.{filled-none, filled-then, rooms-then, words-filled, filling-accepts, filling-rooms, filling-next, filling-end, filling-last}
 use Rattle.message.proofs.Unfolds.{own-fits, own-room, own-next, no-more, leaf-variable, leaf-accepts, leaf-rooms, leaf-filled, union-room, union-long, bare-filled, never, body-words, body-bytes, body-accepts}
@@ -273,7 +273,7 @@ unfold-fields-unfold-leaf-requires t c κs =
     let under = row-under _ _ _ _ _ _ _ (c11 .loop .inv .row) (c10 .loop-test .taken) (c9 .word-in .ensures .0) in
     let accepts = filling-accepts (c11 .loop .inv) _ (c10 .loop-test .taken) (c9 .word-in .ensures .0) _ (c6 .locate .ensures) in (
       leaf-variable _ _ _ _ (c5 .look-in .ensures) under _ accepts (c3 .if2 .taken) (no-more _ (c7 .if1 .left)),
-      node-ok _ _ _ _ (c5 .look-in .ensures) under .small,
+      node-legal _ _ _ _ (c5 .look-in .ensures) under .small,
       omega (arith, unfold-fields-lies t c6, c16 .pre .1 .1),
       leaf-accepts _ _ _ _ (c5 .look-in .ensures) under _ accepts (c3 .if2 .taken),
       leaf-rooms _ _ _ _ (c5 .look-in .ensures) under _ accepts (c3 .if2 .taken) _ _ _
@@ -376,13 +376,13 @@ unfold-item-add-select : (t : ℕ) → unfold-item-lts.Need-add-select (unfold-i
 unfold-item-add-select t c =
     let c3 = c .before .before .before in
     let c8 = c3 .before .before .before .before .before in
-    omega (arith, node-ok _ _ _ _ (c3 .look-in .ensures) (c8 .pre .1 .0) .near)
+    omega (arith, node-legal _ _ _ _ (c3 .look-in .ensures) (c8 .pre .1 .0) .near)
 
 unfold-item-select-requires : (t : ℕ) → unfold-item-lts.Need-select-requires (unfold-item-calls t) (unfold-item-at t) unfold-item.Post
 unfold-item-select-requires t c κs =
     let c3 = c .before .before .before in
     let c8 = c3 .before .before .before .before .before in
-    omega (arith, node-ok _ _ _ _ (c3 .look-in .ensures) (c8 .pre .1 .0) .near)
+    omega (arith, node-legal _ _ _ _ (c3 .look-in .ensures) (c8 .pre .1 .0) .near)
 
 unfold-item-enum-told : (t : ℕ) → unfold-item-lts.Need-enum-told (unfold-item-calls t) (unfold-item-at t) unfold-item.Post
 unfold-item-enum-told t c = search needs

@@ -1,5 +1,5 @@
 -- What is of fixed size is copied, a leaf is stored, and what is made of others begins with its count. Assumes nothing.
-use Rattle.message.proofs.Bodies.{node-ok}
+use Rattle.message.proofs.Rows.{node-legal}
 use Rattle.message.proofs.UnfoldLeaves.{stored-length, bytes-room, bytes-filled}
 use Rattle.message.proofs.Unfolds.{no-more, item-form, all-stored, leaf-variable, leaf-accepts, leaf-rooms, leaf-filled, count-room, parts-rooms, parts-left, filling-last, list-below, fixed-list}
 use borrow.Author.Needs.{needs}
@@ -41,7 +41,7 @@ unfold-leaf-requires c κs =
     let c10 = c4 .before .before .before .before .before .before in
     let none = no-more _ (c4 .if1 .left) in (
       leaf-variable _ _ _ _ (c10 .pre .2) (c10 .pre .0) _ (c10 .pre .4) (c2 .if2 .taken) none,
-      node-ok _ _ _ _ (c10 .pre .2) (c10 .pre .0) .small,
+      node-legal _ _ _ _ (c10 .pre .2) (c10 .pre .0) .small,
       c10 .pre .1,
       leaf-accepts _ _ _ _ (c10 .pre .2) (c10 .pre .0) _ (c10 .pre .4) (c2 .if2 .taken),
       leaf-rooms _ _ _ _ (c10 .pre .2) (c10 .pre .0) _ (c10 .pre .4) (c2 .if2 .taken) _ _ _ (c10 .pre .5),
