@@ -19,7 +19,6 @@ use Rattle.standard.specs.declared.Head.{Head}
 use Rattle.standard.specs.declared.Head.the-variants.{Fixed, Variable}
 use Rattle.layout.specs.Tree.{nodeOf, treeOf}
 use Rattle.layout.specs.declared.Node.{Node}
-use Rattle.layout.proofs.Facts.{legal-node}
 use Rattle.message.specs.Read.{one, elements, manyOf, readItem, readFields}
 use Rattle.message.specs.Listing.{entry, listItem, listFields}
 use Rattle.message.specs.Unfold.{unfoldBytes, bytesFields}
