@@ -1,5 +1,5 @@
 -- From what the private calls make to the answers of the public ones. Assumes nothing.
-use mathlib.Core.Path.{_≡_, sym, ap, _∙_}
+use mathlib.Core.Path.{_≡_, refl, sym, ap, _∙_}
 use mathlib.Core.List.{List, _++_}
 use Prim.Native.Nat.{ℕ, _+_, _/_, _≤_, max}
 use native.Mathlib.Omega.{arith}
@@ -20,9 +20,9 @@ use Rattle.bitfield.specs.declared.BitVector.{BitVector}
 use Rattle.bitfield.specs.declared.ListResult.{ListResult}
 use Rattle.bitfield.specs.declared.VectorResult.{VectorResult}
 use Rattle.bitfield.specs.Body.{bytesFor}
-use Rattle.bitfield.specs.Raw.{opOf, firsts, Raw}
+use Rattle.bitfield.specs.Raw.{Raw}
 use Rattle.bitfield.specs.Facts.{Kept}
-use Rattle.bitfield.specs.Held.{bitsIn, opLength, rawBytes, roomFor, andThen, outcome}
+use Rattle.bitfield.specs.Held.{bitsIn, held, opBits, rawBytes, roomFor, andThen, outcome}
 use Rattle.bitfield.specs.Lists.{listTold, listsTold, listMade, listMerge, listOutcome, listRoom, listIntoBytes, listBuffer}
 use Rattle.bitfield.specs.Vectors.{vectorTold, vectorsTold, vectorMade, vectorMerge, vectorOutcome, vectorRoom, vectorIntoBytes, vectorBuffer}
 use Rattle.bitfield.proofs.Tops.{bytes-known}
@@ -44,31 +44,23 @@ vector-done old o n r Fine f p q = rw q at p
 vector-done old o n r (Refused x) f p q = rw q at p
 
 -- Two fields put together, or refused
-pub list-merged : (op : Op) → Whole op → (a b : BitList) → Kept (a .bytes) (a .len) × Kept (b .bytes) (b .len)
-    → listsTold a b ≡ Fine → (l : List ℕ) (len : ℕ)
-    → l ≡ firsts (opOf op) 256 (a .bytes) (b .bytes) → len ≡ opLength op (a .len) (b .len)
-    → record { field = record { bytes = l; len = len; n = a .n }; told = Fine } ≡ listMerge op a b
+pub list-merged : (op : Op) → Whole op → (a b : BitList) (t : Told)
+    → (t ≡ listsTold a b) × (t ≡ Fine → Kept (a .bytes) (a .len) × Kept (b .bytes) (b .len))
+    → listMerge op t a b ≡ listMade (listsTold a b) a (held (opBits op (bitsIn (a .bytes) (a .len)) (bitsIn (b .bytes) (b .len)))) (a .n)
 unfolding listMerge
-list-merged op w a b k t l len e f =
-    let h = w (a .bytes) (a .len) (b .bytes) (b .len) (k .0) (k .1) l len e f in
-    rw t (ap (λ (g : Field). listMade Fine a g (a .n)) h)
+list-merged op w a b Fine k =
+    let h = w (a .bytes) (a .len) (b .bytes) (b .len) (k .1 refl .0) (k .1 refl .1) _ _ refl refl in
+    rw (← k .0) (ap (λ (g : Field). listMade Fine a g (a .n)) h)
+list-merged op w a b (Refused x) k = rw (← k .0)
 
-pub list-unmerged : (op : Op) (a b : BitList) (x : Refusal) → listsTold a b ≡ Refused x → record { field = a; told = Refused x } ≡ listMerge op a b
-unfolding listMerge
-list-unmerged op a b x e = rw e
-
-pub vector-merged : (op : Op) → Whole op → (a b : BitVector) → Kept (a .bytes) (a .len) × Kept (b .bytes) (b .len)
-    → vectorsTold a b ≡ Fine → (l : List ℕ) (len : ℕ)
-    → l ≡ firsts (opOf op) 256 (a .bytes) (b .bytes) → len ≡ opLength op (a .len) (b .len)
-    → record { field = record { bytes = l; len = len; n = a .n }; told = Fine } ≡ vectorMerge op a b
+pub vector-merged : (op : Op) → Whole op → (a b : BitVector) (t : Told)
+    → (t ≡ vectorsTold a b) × (t ≡ Fine → Kept (a .bytes) (a .len) × Kept (b .bytes) (b .len))
+    → vectorMerge op t a b ≡ vectorMade (vectorsTold a b) a (held (opBits op (bitsIn (a .bytes) (a .len)) (bitsIn (b .bytes) (b .len)))) (a .n)
 unfolding vectorMerge
-vector-merged op w a b k t l len e f =
-    let h = w (a .bytes) (a .len) (b .bytes) (b .len) (k .0) (k .1) l len e f in
-    rw t (ap (λ (g : Field). vectorMade Fine a g (a .n)) h)
-
-pub vector-unmerged : (op : Op) (a b : BitVector) (x : Refusal) → vectorsTold a b ≡ Refused x → record { field = a; told = Refused x } ≡ vectorMerge op a b
-unfolding vectorMerge
-vector-unmerged op a b x e = rw e
+vector-merged op w a b Fine k =
+    let h = w (a .bytes) (a .len) (b .bytes) (b .len) (k .1 refl .0) (k .1 refl .1) _ _ refl refl in
+    rw (← k .0) (ap (λ (g : Field). vectorMade Fine a g (a .n)) h)
+vector-merged op w a b (Refused x) k = rw (← k .0)
 
 -- Writing a list
 abbrev listNeed : BitList → ℕ

@@ -10,7 +10,7 @@ use Rattle.standard.specs.Choice.{pick, andAlso}
 use Rattle.standard.specs.declared.Refusal.the-variants.{OutOfBounds, InvalidByteCount, OverLimit, NoRoom, BadState, LimitsDiffer}
 use Rattle.bitfield.specs.Body.{bytesFor}
 use Rattle.bitfield.specs.Bools.{both, either, without, flipped}
-use Rattle.bitfield.specs.Raw.{clean}
+use Rattle.bitfield.specs.Raw.{opOf, firsts, clean}
 use Rattle.bitfield.specs.declared.raw.Op.{Op}
 use Rattle.bitfield.specs.declared.raw.Op.the-variants.{And, Or, AndNot, Not}
 use Rattle.bitfield.specs.declared.Top.{Top}
@@ -50,6 +50,10 @@ opLength And n m = min n m
 opLength Or n m = max n m
 opLength AndNot n m = n
 opLength Not n m = n
+
+-- All bytes of two fields put together, and how many bits come out
+abbrev pub merged : Op → List ℕ → ℕ → List ℕ → ℕ → Field
+merged op a la b lb = record { bytes = firsts (opOf op) 256 a b; len = opLength op la lb }
 
 -- 14: a limit above 2,048
 unfoldable pub limited : ℕ → Told

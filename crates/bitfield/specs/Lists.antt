@@ -8,7 +8,7 @@ use Rattle.standard.specs.Bytes.{num}
 use Rattle.standard.specs.Choice.{andAlso}
 use Rattle.bitfield.specs.Body.{highest, bitListBody}
 use Rattle.bitfield.specs.Bools.{both, either, without, flipped, noBits, moved, widened, count, noneSet, subset}
-use Rattle.bitfield.specs.Held.{bitsIn, held, opBits, limited, oneTold, twoTold, listGood, inside, upTo, notBelow, roomFor, andThen, bitAnswer}
+use Rattle.bitfield.specs.Held.{bitsIn, held, merged, limited, oneTold, twoTold, listGood, inside, upTo, notBelow, roomFor, andThen, bitAnswer}
 use Rattle.bitfield.specs.Held.{countAnswer, topAnswer, written}
 use Rattle.bitfield.specs.declared.BodyBits.{BodyBits}
 use Rattle.bitfield.specs.declared.BodyBits.the-variants.{Bits, Refused as NoBody}
@@ -76,9 +76,9 @@ listBuffer a out = written (listRoom a (length out)) (marked (bits a)) out
 abbrev pub listOutcome : BitList → Outcome → ℕ → ListResult
 listOutcome old o n = listMade (o .told) old (o .field) n
 
--- intersection, union and difference, by what is done with the bytes
-unfoldable pub listMerge : Op → BitList → BitList → ListResult
-listMerge op a b = listAnswer (listsTold a b) a (opBits op (bits a) (bits b)) (a .n)
+-- intersection, union and difference as the bytes have them, with what the first tests said
+unfoldable pub listMerge : Op → Told → BitList → BitList → ListResult
+listMerge op told a b = listMade told a (merged op (a .bytes) (a .len) (b .bytes) (b .len)) (a .n)
 
 unfoldable pub listIntersection : BitList → BitList → ListResult
 listIntersection a b = listAnswer (listsTold a b) a (both (bits a) (bits b)) (a .n)

@@ -8,7 +8,7 @@ use Rattle.standard.specs.Choice.{andAlso}
 use Rattle.standard.specs.Bits.{bitsOf}
 use Rattle.bitfield.specs.Body.{highest, bitVectorBody}
 use Rattle.bitfield.specs.Bools.{both, either, without, flipped, noBits, moved, count, noneSet, subset}
-use Rattle.bitfield.specs.Held.{bitsIn, held, opBits, rawBytes, limited, oneTold, twoTold, vectorGood, inside, upTo, roomFor, andThen}
+use Rattle.bitfield.specs.Held.{bitsIn, held, merged, rawBytes, limited, oneTold, twoTold, vectorGood, inside, upTo, roomFor, andThen}
 use Rattle.bitfield.specs.Held.{bitAnswer, countAnswer, topAnswer, written}
 use Rattle.standard.specs.declared.Told.{Told}
 use Rattle.standard.specs.declared.Told.the-variants.{Fine, Refused}
@@ -68,9 +68,9 @@ vectorBuffer a out = written (vectorRoom a (length out)) (rawBytes (bits a)) out
 abbrev pub vectorOutcome : BitVector → Outcome → ℕ → VectorResult
 vectorOutcome old o n = vectorMade (o .told) old (o .field) n
 
--- intersection, union and difference, by what is done with the bytes
-unfoldable pub vectorMerge : Op → BitVector → BitVector → VectorResult
-vectorMerge op a b = vectorAnswer (vectorsTold a b) a (opBits op (bits a) (bits b)) (a .n)
+-- intersection, union and difference as the bytes have them, with what the first tests said
+unfoldable pub vectorMerge : Op → Told → BitVector → BitVector → VectorResult
+vectorMerge op told a b = vectorMade told a (merged op (a .bytes) (a .len) (b .bytes) (b .len)) (a .n)
 
 unfoldable pub vectorIntersection : BitVector → BitVector → VectorResult
 vectorIntersection a b = vectorAnswer (vectorsTold a b) a (both (bits a) (bits b)) (a .n)

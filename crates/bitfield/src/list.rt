@@ -39,7 +39,7 @@ ghost use Rattle.bitfield.specs.Held.{oneTold, twoTold, listGood};
 ghost use Rattle.bitfield.specs.Raw.{Raw};
 ghost use Rattle.bitfield.specs.Facts.{Kept};
 ghost use Rattle.bitfield.specs.Lists.{noList, listOutcome, listWithCapacity, listFromBytes, listIntoBytes, listBuffer};
-ghost use Rattle.bitfield.specs.Lists.{listIntersection, listUnion, listDifference, listIsSubset, listResize, listCloneZeroed};
+ghost use Rattle.bitfield.specs.Lists.{listMerge, listIntersection, listUnion, listDifference, listIsSubset, listResize, listCloneZeroed};
 ghost use Rattle.bitfield.specs.Lists.{listSet, listGet, listHighestSetBit, listIsZero, listNumSetBits, listNot, listShiftUp};
 
 fn first_told(bytes: &[u8; 256], len: usize, n: usize) -> Told
@@ -88,6 +88,27 @@ fn result_of(old: BitList, made: Outcome, n: usize) -> ListResult
             field: old,
             told: Told::Refused(x),
         },
+    }
+}
+
+// Two fields put together byte by byte, where the first tests refused nothing. The tests stay with the callers: with them in here this is
+// a call of its own when compiled, both fields are copied once more, and at 64 bits that is slower than the original.
+fn merged_lists(op: Op, told: Told, a: BitList, b: BitList) -> ListResult
+    ensures { λ r. ⌜ r ≡ listMerge op told a b ⌝ }
+{
+    match told {
+        Told::Refused(x) => ListResult {
+            field: a,
+            told: Told::Refused(x),
+        },
+        Told::Fine => {
+            let bytes = combine(op, &a.bytes, &b.bytes, 256);
+            let len = op_len(op, a.len, b.len);
+            ListResult {
+                field: BitList { bytes, len, n: a.n },
+                told: Told::Fine,
+            }
+        }
     }
 }
 
@@ -166,90 +187,49 @@ impl BitList {
         result_of(self, made, n)
     }
 
-    // The three operations on pairs are written out, each by itself: through one function for all of them both fields are copied once more,
-    // and at 64 bits the first two are then slower than the original.
     // The bits that both have.
     pub fn intersection(self, other: BitList) -> ListResult
         ensures { λ r. ⌜ r ≡ listIntersection self other ⌝ }
     {
-        let len = self.len;
-        let n = self.n;
-        let its_len = other.len;
-        let told = pair_told(&self.bytes, len, n, &other.bytes, its_len, other.n);
-        match told {
-            Told::Refused(x) => ListResult {
-                field: self,
-                told: Told::Refused(x),
-            },
-            Told::Fine => {
-                let bytes = combine(Op::And, &self.bytes, &other.bytes, 256);
-                let made = op_len(Op::And, len, its_len);
-                ListResult {
-                    field: BitList {
-                        bytes,
-                        len: made,
-                        n,
-                    },
-                    told: Told::Fine,
-                }
-            }
-        }
+        let told = pair_told(
+            &self.bytes,
+            self.len,
+            self.n,
+            &other.bytes,
+            other.len,
+            other.n,
+        );
+        merged_lists(Op::And, told, self, other)
     }
 
     // The bits that either has.
     pub fn union(self, other: BitList) -> ListResult
         ensures { λ r. ⌜ r ≡ listUnion self other ⌝ }
     {
-        let len = self.len;
-        let n = self.n;
-        let its_len = other.len;
-        let told = pair_told(&self.bytes, len, n, &other.bytes, its_len, other.n);
-        match told {
-            Told::Refused(x) => ListResult {
-                field: self,
-                told: Told::Refused(x),
-            },
-            Told::Fine => {
-                let bytes = combine(Op::Or, &self.bytes, &other.bytes, 256);
-                let made = op_len(Op::Or, len, its_len);
-                ListResult {
-                    field: BitList {
-                        bytes,
-                        len: made,
-                        n,
-                    },
-                    told: Told::Fine,
-                }
-            }
-        }
+        let told = pair_told(
+            &self.bytes,
+            self.len,
+            self.n,
+            &other.bytes,
+            other.len,
+            other.n,
+        );
+        merged_lists(Op::Or, told, self, other)
     }
 
     // The bits that the other one has not.
     pub fn difference(self, other: BitList) -> ListResult
         ensures { λ r. ⌜ r ≡ listDifference self other ⌝ }
     {
-        let len = self.len;
-        let n = self.n;
-        let its_len = other.len;
-        let told = pair_told(&self.bytes, len, n, &other.bytes, its_len, other.n);
-        match told {
-            Told::Refused(x) => ListResult {
-                field: self,
-                told: Told::Refused(x),
-            },
-            Told::Fine => {
-                let bytes = combine(Op::AndNot, &self.bytes, &other.bytes, 256);
-                let made = op_len(Op::AndNot, len, its_len);
-                ListResult {
-                    field: BitList {
-                        bytes,
-                        len: made,
-                        n,
-                    },
-                    told: Told::Fine,
-                }
-            }
-        }
+        let told = pair_told(
+            &self.bytes,
+            self.len,
+            self.n,
+            &other.bytes,
+            other.len,
+            other.n,
+        );
+        merged_lists(Op::AndNot, told, self, other)
     }
 
     // Whether every set bit is set in the other one.
