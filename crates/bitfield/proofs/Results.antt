@@ -49,7 +49,7 @@ pub list-merged : (op : Op) → Whole op → (a b : BitList) (t : Told)
     → listMerge op t a b ≡ listMade (listsTold a b) a (held (opBits op (bitsIn (a .bytes) (a .len)) (bitsIn (b .bytes) (b .len)))) (a .n)
 unfolding listMerge
 list-merged op w a b Fine k =
-    let h = w (a .bytes) (a .len) (b .bytes) (b .len) (k .1 refl .0) (k .1 refl .1) _ _ refl refl in
+    let h = w (a .bytes) (a .len) (b .bytes) (b .len) (k .1 refl .0) (k .1 refl .1) in
     rw (← k .0) (ap (λ (g : Field). listMade Fine a g (a .n)) h)
 list-merged op w a b (Refused x) k = rw (← k .0)
 
@@ -58,7 +58,7 @@ pub vector-merged : (op : Op) → Whole op → (a b : BitVector) (t : Told)
     → vectorMerge op t a b ≡ vectorMade (vectorsTold a b) a (held (opBits op (bitsIn (a .bytes) (a .len)) (bitsIn (b .bytes) (b .len)))) (a .n)
 unfolding vectorMerge
 vector-merged op w a b Fine k =
-    let h = w (a .bytes) (a .len) (b .bytes) (b .len) (k .1 refl .0) (k .1 refl .1) _ _ refl refl in
+    let h = w (a .bytes) (a .len) (b .bytes) (b .len) (k .1 refl .0) (k .1 refl .1) in
     rw (← k .0) (ap (λ (g : Field). vectorMade Fine a g (a .n)) h)
 vector-merged op w a b (Refused x) k = rw (← k .0)
 

@@ -23,7 +23,7 @@ use Rattle.bitfield.specs.Body.{bytesFor, highest}
 use Rattle.bitfield.specs.Bools.{without, noBits, moved, widened, count, noneSet}
 use Rattle.bitfield.specs.Raw.{opOf, keep, zipped, firsts, Raw}
 use Rattle.bitfield.specs.Facts.{Kept, Put, Used, TopOf}
-use Rattle.bitfield.specs.Held.{bitsIn, held, opBits, opLength}
+use Rattle.bitfield.specs.Held.{bitsIn, held, opBits, opLength, merged}
 use Rattle.bitfield.proofs.Bools as Bools
 use Rattle.bitfield.proofs.Bodies.{cut-below}
 use Rattle.bitfield.proofs.Tops.{highest-none, highest-at, top-number}
@@ -109,11 +109,10 @@ module _ (op : Op) (w : Bytewise (opOf op))
         }
 
     -- all 256 bytes put together need no cut
-    all-bytes-held : opLength op la lb ≤ 2048 → (l : List ℕ) (len : ℕ) → l ≡ firsts (opOf op) 256 a b → len ≡ opLength op la lb
-        → record { bytes = l; len = len } ≡ held (opBits op (bitsIn a la) (bitsIn b lb))
-    all-bytes-held h l len e f =
+    all-bytes-held : opLength op la lb ≤ 2048 → merged op a la b lb ≡ held (opBits op (bitsIn a la) (bitsIn b lb))
+    all-bytes-held h =
         let fits = fits-in 256 _ _ h op-small in
-        as-held _ l len (e ∙ firsts-le (opOf op) w 256 a b (ka .raw) (kb .raw) (omega arith) fits ∙ ap (le 256) (sym op-number)) (f ∙ sym op-count)
+        as-held _ _ _ (firsts-le (opOf op) w 256 a b (ka .raw) (kb .raw) (omega arith) fits ∙ ap (le 256) (sym op-number)) (sym op-count)
 
 not-merged : (a : List ℕ) (la : ℕ) (b : List ℕ) (lb : ℕ) → Kept a la → firsts (opOf Not) (bytesFor la) a b ≡ firsts (opOf Not) (bytesFor la) a a
     → Merged Not a la b lb (256 ^ bytesFor la - 1 - num a)
@@ -173,9 +172,7 @@ few-merged Not la lb h k = h
 
 -- An operation on all 256 bytes of two well formed fields is the operation on their bits.
 abbrev pub Whole : Op → Type 0
-Whole op = (a : List ℕ) (la : ℕ) (b : List ℕ) (lb : ℕ) → Kept a la → Kept b lb
-    → (l : List ℕ) (len : ℕ) → l ≡ firsts (opOf op) 256 a b → len ≡ opLength op la lb
-    → record { bytes = l; len = len } ≡ held (opBits op (bitsIn a la) (bitsIn b lb))
+Whole op = (a : List ℕ) (la : ℕ) (b : List ℕ) (lb : ℕ) → Kept a la → Kept b lb → merged op a la b lb ≡ held (opBits op (bitsIn a la) (bitsIn b lb))
 
 pub and-whole : Whole And
 unfolding opBits opLength opOf

@@ -191,14 +191,9 @@ impl BitList {
     pub fn intersection(self, other: BitList) -> ListResult
         ensures { λ r. ⌜ r ≡ listIntersection self other ⌝ }
     {
-        let told = pair_told(
-            &self.bytes,
-            self.len,
-            self.n,
-            &other.bytes,
-            other.len,
-            other.n,
-        );
+        let len = self.len;
+        let its_len = other.len;
+        let told = pair_told(&self.bytes, len, self.n, &other.bytes, its_len, other.n);
         merged_lists(Op::And, told, self, other)
     }
 
@@ -206,14 +201,9 @@ impl BitList {
     pub fn union(self, other: BitList) -> ListResult
         ensures { λ r. ⌜ r ≡ listUnion self other ⌝ }
     {
-        let told = pair_told(
-            &self.bytes,
-            self.len,
-            self.n,
-            &other.bytes,
-            other.len,
-            other.n,
-        );
+        let len = self.len;
+        let its_len = other.len;
+        let told = pair_told(&self.bytes, len, self.n, &other.bytes, its_len, other.n);
         merged_lists(Op::Or, told, self, other)
     }
 
@@ -221,14 +211,9 @@ impl BitList {
     pub fn difference(self, other: BitList) -> ListResult
         ensures { λ r. ⌜ r ≡ listDifference self other ⌝ }
     {
-        let told = pair_told(
-            &self.bytes,
-            self.len,
-            self.n,
-            &other.bytes,
-            other.len,
-            other.n,
-        );
+        let len = self.len;
+        let its_len = other.len;
+        let told = pair_told(&self.bytes, len, self.n, &other.bytes, its_len, other.n);
         merged_lists(Op::AndNot, told, self, other)
     }
 

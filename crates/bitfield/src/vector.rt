@@ -177,14 +177,9 @@ impl BitVector {
     pub fn intersection(self, other: BitVector) -> VectorResult
         ensures { λ r. ⌜ r ≡ vectorIntersection self other ⌝ }
     {
-        let told = pair_told(
-            &self.bytes,
-            self.len,
-            self.n,
-            &other.bytes,
-            other.len,
-            other.n,
-        );
+        let len = self.len;
+        let its_len = other.len;
+        let told = pair_told(&self.bytes, len, self.n, &other.bytes, its_len, other.n);
         merged_vectors(Op::And, told, self, other)
     }
 
@@ -192,14 +187,9 @@ impl BitVector {
     pub fn union(self, other: BitVector) -> VectorResult
         ensures { λ r. ⌜ r ≡ vectorUnion self other ⌝ }
     {
-        let told = pair_told(
-            &self.bytes,
-            self.len,
-            self.n,
-            &other.bytes,
-            other.len,
-            other.n,
-        );
+        let len = self.len;
+        let its_len = other.len;
+        let told = pair_told(&self.bytes, len, self.n, &other.bytes, its_len, other.n);
         merged_vectors(Op::Or, told, self, other)
     }
 
@@ -207,14 +197,9 @@ impl BitVector {
     pub fn difference(self, other: BitVector) -> VectorResult
         ensures { λ r. ⌜ r ≡ vectorDifference self other ⌝ }
     {
-        let told = pair_told(
-            &self.bytes,
-            self.len,
-            self.n,
-            &other.bytes,
-            other.len,
-            other.n,
-        );
+        let len = self.len;
+        let its_len = other.len;
+        let told = pair_told(&self.bytes, len, self.n, &other.bytes, its_len, other.n);
         merged_vectors(Op::AndNot, told, self, other)
     }
 
