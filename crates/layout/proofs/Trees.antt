@@ -1,4 +1,6 @@
 -- The tree of a legal table: its types are legal types of the standard, and their fixed lengths are below 2^32. Assumes nothing.
+--     node-holds    what holds of each kind of type, where it holds of the types that are named there, holds of a type whose lower types have it
+--     by-lower      what holds of a number where it holds of all lower ones holds of every number: with the above, of every type of a table
 use mathlib.Core.Path.{_≡_, refl, sym, ap, _∙_}
 use mathlib.Core.List.{List, [], _∷_}
 use mathlib.Core.Bool.{Bool, true, false}
@@ -10,9 +12,10 @@ use lib.ListN.{getD}
 use lib.Dec.{eqb, ltb}
 use Rattle.standard.specs.Choice.{pick, orElse}
 use Rattle.standard.specs.Bytes.{wordAt}
-use Rattle.standard.specs.Types.{Ty, Tys, Opts, number, boolean, fixedBytes, freeBytes, bitVector, bitList, container, union, end, field, over, bare, body, head, headAll, heads, joined, times, isWidth, width, portion, NoFields, NoOptions, Rising, LegalTy, LegalAll, LegalOptions}
+use Rattle.standard.specs.Types.{Ty, Tys, Opts, number, boolean, fixedBytes, freeBytes, bitVector, bitList, container, union, list, vector, end, field, over, bare, body, head, headAll, heads, joined, times, isWidth, width, portion, NoFields, NoOptions, Rising, LegalTy, LegalAll, LegalOptions}
 use Rattle.standard.specs.declared.Head.{Head}
 use Rattle.standard.specs.declared.Head.the-variants.{Fixed, Variable}
+use Rattle.standard.proofs.Elements.{All}
 use Rattle.standard.proofs.Laws.{joined-fixed}
 use Rattle.layout.specs.Tree.{nodeOf, leafOf, fields, options, trees, treeOf, lenOf}
 use Rattle.layout.specs.Table.{leafWord}
@@ -23,7 +26,7 @@ use Rattle.layout.proofs.Facts.{trees-get, each-kind, as-container, as-
 
 -- A leaf, by its kind.
 module _ (t : ℕ) (n : Node) where
-  leaf-cases : (P : Ty → Type 0) → (n .kind ≡ 0 → P (number t (n .second))) → (n .kind ≡ 1 → P (boolean t)) →
+  pub leaf-cases : (P : Ty → Type 0) → (n .kind ≡ 0 → P (number t (n .second))) → (n .kind ≡ 1 → P (boolean t)) →
       (n .kind ≡ 2 → P (fixedBytes t (n .second))) → P (freeBytes t (n .second)) → (n .kind ≡ 4 → P (bitVector t (n .second))) →
       P (bitList t (n .second)) → P (leafOf t n)
   unfolding leafOf
@@ -58,17 +61,71 @@ module _ (t : ℕ) (n : Node) where
 pub leaf-len-small : (n : Node) (r : ℕ) → r ≡ leafLen n → n .second < 2 ^ 32 → r < 2 ^ 32
 leaf-len-small n r e h = rw e (leaf-small 0 n h)
 
--- Fields and options of lower types.
-module _ (l : List ℕ) (t : ℕ) (f : (u : ℕ) → u < t → LegalTy (treeOf l u)) where
-  fields-legal : (at n : ℕ) → Lower l t at n → LegalAll (fields l (trees l t) at n)
-  unfolding fields LegalTy Lower
-  fields-legal at zero g = tt
-  fields-legal at (suc n) g =
+-- P of the body of each option
+abbrev pub AllBodies : (Ty → Type 0) → Opts → Type 0
+AllBodies P over = Unit {0}
+AllBodies P (bare k os) = AllBodies P os
+AllBodies P (body k t os) = P t × AllBodies P os
+
+-- What holds of the lower types holds of the fields and options that name them, and so of the type itself.
+module _ (P : Ty → Type 0) (l : List ℕ) (t : ℕ) (f : (u : ℕ) → u < t → P (treeOf l u)) where
+  fields-hold : (at n : ℕ) → Lower l t at n → All P (fields l (trees l t) at n)
+  unfolding fields Lower
+  fields-hold at zero g = tt
+  fields-hold at (suc n) g =
       let h : wordAt l at < t = rw add-zero at (g 0 (omega arith)) in (
         rw (trees-get l t (wordAt l at) (boolean 0) h) (f (wordAt l at) h),
-        fields-legal (at + 1) n (λ i k. let e : at + suc i ≡ at + 1 + i = omega arith in rw e at (g (suc i) (omega arith))),
+        fields-hold (at + 1) n (λ i k. let e : at + suc i ≡ at + 1 + i = omega arith in rw e at (g (suc i) (omega arith))),
       )
 
+  options-hold : (at k n : ℕ) → LowerOrBare l t at n → AllBodies P (options l (trees l t) at k n)
+  unfolding options LowerOrBare
+  options-hold at k zero g = tt
+  options-hold at k (suc n) g =
+      go (eqb (wordAt l at) 4294967295) refl
+      (options-hold (at + 1) (k + 1) n (λ i h. let e : at + suc i ≡ at + 1 + i = omega arith in rw e at (g (suc i) (omega arith))))
+    where
+      go : (c : Bool) → eqb (wordAt l at) 4294967295 ≡ c → AllBodies P (options l (trees l t) (at + 1) (k + 1) n) →
+          AllBodies P (pick c (bare k (options l (trees l t) (at + 1) (k + 1) n))
+          (body k (getD (trees l t) (wordAt l at) (boolean 0)) (options l (trees l t) (at + 1) (k + 1) n)))
+      go true q r = r
+      go false q r =
+          let h : wordAt l at < t = (rw add-zero at (g 0 (omega arith))) (eqb-false _ _ q) in
+          (rw (trees-get l t (wordAt l at) (boolean 0) h) (f (wordAt l at) h), r)
+
+  pub node-holds :
+      (n : Node) → n ≡ nodeOf l t → LegalNode l t n
+      → (n .kind < 6 → P (leafOf t n))
+      → (n .kind ≡ 6 → All P (fields l (trees l t) (n .at + 2) (n .second)) → P (container t (fields l (trees l t) (n .at + 2) (n .second))))
+      → (n .kind ≡ 7 → AllBodies P (options l (trees l t) (n .at + 2) 0 (n .second)) → P (union t (options l (trees l t) (n .at + 2) 0 (n .second))))
+      → (n .kind ≡ 8 → P (treeOf l (n .second)) → P (list t (treeOf l (n .second)) (wordAt l (n .at + 2))))
+      → (n .kind ≡ 9 → P (treeOf l (n .second)) → P (vector t (treeOf l (n .second)) (wordAt l (n .at + 2))))
+      → P (treeOf l t)
+  node-holds n e g leaf six seven eight nine =
+      each-kind (P (treeOf l t)) (n .kind) (g .known)
+      (λ k. rw (as-leaf l t n e k) (leaf k))
+      (λ k. rw (as-container l t n e k) (six k (fields-hold _ _ (g .lower k))))
+      (λ k. rw (as-union l t n e k) (seven k (options-hold _ 0 _ (g .optional k))))
+      (λ k. let i = g .element (omega arith) in rw (as-list l t n e k i) (eight k (f _ i)))
+      (λ k. let i = g .element (omega arith) in rw (as-vector l t n e k i) (nine k (f _ i)))
+
+pub by-lower : (P : ℕ → Type 0) (n : ℕ) → ((t : ℕ) → t < n → ((u : ℕ) → u < t → P u) → P t) → (t : ℕ) → t < n → P t
+by-lower P zero f t h = absurd (omega arith)
+by-lower P (suc n) f t h = f t h (λ u k. by-lower P n (λ v i. f v (omega arith)) u (omega arith))
+
+-- Legal types.
+legal-fields : (ts : Tys) → All LegalTy ts → LegalAll ts
+unfolding LegalTy
+legal-fields end h = tt
+legal-fields (field t ts) h = (h .0, legal-fields ts (h .1))
+
+legal-bodies : (os : Opts) → AllBodies LegalTy os → LegalOptions os
+unfolding LegalTy
+legal-bodies over h = tt
+legal-bodies (bare k os) h = legal-bodies os h
+legal-bodies (body k t os) h = (h .0, legal-bodies os (h .1))
+
+module _ (l : List ℕ) (t : ℕ) where
   options-rising : (at k n : ℕ) → k + n ≤ 128 → Rising k (options l (trees l t) at k n)
   unfolding options Rising
   options-rising at k zero h = tt
@@ -79,21 +136,6 @@ module _ (l : List ℕ) (t : ℕ) (f : (u : ℕ) → u < t → LegalTy (treeOf l
           (body k (getD (trees l t) (wordAt l at) (boolean 0)) (options l (trees l t) (at + 1) (k + 1) n)))
       go true r = (omega arith, omega arith, r)
       go false r = (omega arith, omega arith, r)
-
-  options-legal : (at k n : ℕ) → LowerOrBare l t at n → LegalOptions (options l (trees l t) at k n)
-  unfolding options LegalTy LowerOrBare
-  options-legal at k zero g = tt
-  options-legal at k (suc n) g =
-      go (eqb (wordAt l at) 4294967295) refl
-      (options-legal (at + 1) (k + 1) n (λ i h. let e : at + suc i ≡ at + 1 + i = omega arith in rw e at (g (suc i) (omega arith))))
-    where
-      go : (c : Bool) → eqb (wordAt l at) 4294967295 ≡ c → LegalOptions (options l (trees l t) (at + 1) (k + 1) n) →
-          LegalOptions (pick c (bare k (options l (trees l t) (at + 1) (k + 1) n))
-          (body k (getD (trees l t) (wordAt l at) (boolean 0)) (options l (trees l t) (at + 1) (k + 1) n)))
-      go true q r = r
-      go false q r =
-          let h : wordAt l at < t = (rw add-zero at (g 0 (omega arith))) (eqb-false _ _ q) in
-          (rw (trees-get l t (wordAt l at) (boolean 0) h) (f (wordAt l at) h), r)
 
   fields-some : (at n : ℕ) → 1 ≤ n → NoFields (fields l (trees l t) at n) → ⊥
   unfolding fields
@@ -110,25 +152,24 @@ module _ (l : List ℕ) (t : ℕ) (f : (u : ℕ) → u < t → LegalTy (treeOf l
       go true r = r
       go false r = r
 
-  node-legal : LegalNode l t (nodeOf l t) → LegalTy (treeOf l t)
+  node-legal : ((u : ℕ) → u < t → LegalTy (treeOf l u)) → (n : Node) → n ≡ nodeOf l t → LegalNode l t n → LegalTy (treeOf l t)
   unfolding LegalTy
-  node-legal g =
-      each-kind (LegalTy (treeOf l t)) (nodeOf l t .kind) (g .known)
-      (λ k. rw (as-leaf l t (nodeOf l t) refl k) (leaf-legal t (nodeOf l t) (g .leaf)))
-      (λ k. rw (as-container l t (nodeOf l t) refl k) (fields-some _ _ (g .some (omega arith) (omega arith)), fields-legal _ _ (g .lower k)))
-      (λ k. rw (as-union l t (nodeOf l t) refl k) (
+  node-legal f n e g =
+      node-holds LegalTy l t f n e g
+      (λ k. leaf-legal t n (g .leaf))
+      (λ k h. (fields-some _ _ (g .some (omega arith) (omega arith)), legal-fields (fields l (trees l t) (n .at + 2) (n .second)) h))
+      (λ k h. (
         options-some _ 0 _ (g .some (omega arith) (omega arith)),
         options-rising _ 0 _ (omega (arith, g .most k)),
-        options-legal _ 0 _ (g .optional k),
+        legal-bodies (options l (trees l t) (n .at + 2) 0 (n .second)) h,
       ))
-      (λ k. let i = g .element (omega arith) in rw (as-list l t (nodeOf l t) refl k i) (f _ i))
-      (λ k. let i = g .element (omega arith) in rw (as-vector l t (nodeOf l t) refl k i) (g .several k, f _ i))
+      (λ k h. h)
+      (λ k h. (g .several k, h))
 
 -- The types of a legal table are legal.
 pub legal-tree : (l : List ℕ) (n t : ℕ) → Legal l n → t < n → LegalTy (treeOf l t)
 unfolding Legal
-legal-tree l zero t g h = absurd (omega arith)
-legal-tree l (suc n) t g h = node-legal l t (λ u k. legal-tree l n u (λ v q. g v (omega arith)) (omega arith)) (g t h)
+legal-tree l n t g = by-lower (λ (u : ℕ). LegalTy (treeOf l u)) n (λ u h f. node-legal l u f (nodeOf l u) refl (g u h)) t
 
 -- Their fixed lengths fit an offset.
 joined-len : (x y : Head) (p : ℕ) → lenOf y ≤ p → lenOf (joined x y) ≤ width x + p

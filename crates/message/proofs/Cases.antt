@@ -1,5 +1,5 @@
 -- Document 01's twelve proved cases ("Worked bids") in one table under one statement, and document 02's refusals of lists and vectors in another; the
--- listing, the value form and the pieces of P; all by computation. Assumes nothing.
+-- listing, the value form, the pieces and the leaves of P; all by computation. Assumes nothing.
 use mathlib.Core.Path.{_≡_, refl}
 use mathlib.Core.Logic.{inl}
 use mathlib.Core.List.{List, [], _∷_, _++_}
@@ -20,6 +20,7 @@ use Rattle.layout.specs.Tree.{nodeOf, leafOf, fromNode, fields, options, trees,
 use Rattle.layout.specs.Table.{count, refs, counted, many, containerEnd, listEnd, vectorEnd, leafEnd, bodyEnd, typesEnd, typesOf, tableOf}
 use Rattle.message.specs.Read.{further, elements, vectorTold, readEach, readItem}
 use Rattle.message.specs.Listing.{entry, listItem}
+use Rattle.message.specs.Leaves.{Item, itemsIn, leavesOf, leafPieces}
 use Rattle.message.specs.Check.{messageType, checkMessage}
 use Rattle.message.specs.Unfold.{rawOf, unfoldWords, unfoldBytes}
 use Rattle.message.specs.declared.Answer.{Answer}
@@ -163,6 +164,19 @@ pieces-P :
     ∷ []
 unfolding typeP valueP le head joined bitNum packs pack marked fixedLengths serialize pieces
 pieces-P = refl
+
+-- The leaves of P, among the four records of its listing and among its pieces
+leavesP : List Item
+leavesP =
+    record { type = 0; from = 0; to = 8 }
+    ∷ record { type = 1; from = 16; to = 19 }
+    ∷ record { type = 2; from = 19; to = 20 }
+    ∷ []
+
+leaves-P : (leavesOf layoutL (itemsIn 4 (listItem (treeOf layoutL 3) messageP 0)) ≡ leavesP) × (leafPieces (pieces typeP valueP 0) ≡ leavesP)
+unfolding messageP offsets layoutL bytesOf le num numAt wordAt head heads joined width portion next nodeOf leafOf fromNode fields options trees
+    treeOf entry listItem itemsIn leavesOf typeP valueP bitNum packs pack marked fixedLengths serialize pieces leafPieces leavesP
+leaves-P = (refl, refl)
 
 -- A container in a union: the selector comes first, and the offset counts from the container's start, not the message's
 inUnion : Ty

@@ -2,6 +2,7 @@
 --     read-copies      n elements are read as n fields; so are the listing, the contents, the bodies
 --     elements-laid    a list of n elements has their heads in range, the first variable one right behind the offsets; and back
 --     vector-laid      so has a vector
+--     copies-many      a list is counted as the elements of the value that it is the serialization of
 use mathlib.Core.Path.{_≡_, refl, sym, ap, ap₂, _∙_}
 use mathlib.Core.List.{List, [], _∷_, _++_}
 use mathlib.Core.Bool.{Bool, true, false}
@@ -14,15 +15,16 @@ use lib.Dec.{eqb, ltb, leb}
 use Rattle.standard.specs.Choice.{pick, orElse}
 use Rattle.standard.specs.Bytes.{four}
 use Rattle.standard.specs.Types.{Ty, Tys, head, heads, width, portion, LegalTy}
-use Rattle.standard.specs.Parts.{spanOf, part, next, InRange}
-use Rattle.standard.specs.Serialize.{Val, Vals}
+use Rattle.standard.specs.Parts.{join, spanOf, part, next, InRange}
+use Rattle.standard.specs.Serialize.{Val, Vals, OkAll, parts}
 use Rattle.standard.specs.declared.Head.{Head}
 use Rattle.standard.specs.declared.Head.the-variants.{Fixed, Variable}
 use Rattle.standard.specs.declared.Told.{Told}
 use Rattle.standard.specs.declared.Refusal.{Refusal}
 use Rattle.standard.specs.declared.Refusal.the-variants.{InvalidLengthPrefix, OffsetOutOfBounds, InvalidListFixedBytesLen}
 use Rattle.standard.proofs.Elements.{copies, heads-copies, asList, portion-copies}
-use Rattle.standard.proofs.Join.{range-weaken}
+use Rattle.standard.proofs.Join.{range-weaken, join-ranges, join-next}
+use Rattle.standard.proofs.Laws.{fixed-some, copies-heads, values-sized}
 use Rattle.decode.specs.Builder.{layOut}
 use Rattle.decode.proofs.Register.{layout-ranges, layout-next, layout-passes}
 use Rattle.message.specs.Read.{within, further, thenMany, behindFirst, offsetElements, elements, manyOf, vectorTold, andThen, readEach, readItem, readFields}
@@ -261,3 +263,14 @@ laid-elements (Fixed k) limit b n some l g =
     let e = laid-fixed n k b g in
     rw (e, mul-mod-left n k, mul-div-cancel n (some k refl), le-leb n limit l)
 laid-elements Variable limit b n some l g = laid-offsets limit b n l g
+
+-- The elements of a value, counted in its serialization.
+pub copies-many :
+    (e : Ty) (limit n : ℕ) (vs : Vals (copies e n)) → LegalTy e → OkAll (copies e n) vs → length (join (parts (copies e n) vs)) < 2 ^ 32 → n ≤ limit
+    → elements (head e) limit (join (parts (copies e n) vs)) ≡ Many n
+copies-many e limit n vs l h k m =
+    let xs = parts (copies e n) vs in
+    let z = values-sized (copies e n) vs h in
+    let d = copies-heads e n vs in
+    laid-elements (head e) limit (join xs) n (λ i j. fixed-some e i l j) m
+    (record { ranges = rw d at (join-ranges xs z k); first = rw d at (join-next xs z k) })

@@ -19,6 +19,7 @@ pub mod Unfolds
 pub mod UnfoldCounts
 pub mod Theorem
 pub mod Tiles
+pub mod Leaves
 pub mod UnfoldTheorem
 pub mod Cases
 pub mod Kept

@@ -22,17 +22,16 @@ use Rattle.standard.specs.Serialize.{Val, Vals, Option, Ok, OkAll, OkOption, se
 use Rattle.standard.specs.declared.Refusal.{Refusal}
 use Rattle.standard.specs.declared.Refusal.the-variants.{NoRoom}
 use Rattle.standard.proofs.Bits.{bitsOf, marked-injective, bytes-marked}
-use Rattle.standard.proofs.Join.{Small, join-ranges, join-next, split-join, small-join}
+use Rattle.standard.proofs.Join.{Small, split-join, small-join}
 use Rattle.standard.proofs.Elements.{All, copies, all-copies, asList, length-asList, by-copies, alike-copies, ok-copies}
-use Rattle.standard.proofs.Laws.{fixed-some, heads-parts, legal-copies, copies-heads, values-sized, piece-bytes, piece-rest, selector, payload, selected-is, selector-bounds}
+use Rattle.standard.proofs.Laws.{heads-parts, legal-copies, values-sized, piece-bytes, piece-rest, selector, payload, selected-is, selector-bounds}
 use Rattle.bitfield.proofs.Standard.{list-sound, list-complete}
 use Rattle.layout.specs.Table.{tableOf}
 use Rattle.layout.specs.declared.Checked.the-variants.{Upto}
-use Rattle.message.specs.Read.{rawBytes, elements}
+use Rattle.message.specs.Read.{rawBytes}
 use Rattle.message.specs.Check.{messageType, checkMessage, typeUnder}
 use Rattle.message.specs.Form.{rawBits, contents, contentsAll, contentsOption, bodies, bodiesAll, bodiesOption}
 use Rattle.message.specs.Unfold.{rawOf, unfoldWords, wordsFields, wordsOption, unfoldBytes, bytesFields, bytesOption, unfoldedOf, filledOf, unfoldMessage, unfoldedWords, unfoldedBytes}
-use Rattle.message.specs.declared.elements.Elements.the-variants.{Many}
 use Rattle.message.specs.declared.Counts.{Counts}
 use Rattle.message.specs.declared.Answer.{Answer}
 use Rattle.message.specs.declared.Answer.the-variants.{Accepted, Refused}
@@ -40,7 +39,7 @@ use Rattle.message.specs.declared.Unfolded.{Unfolded}
 use Rattle.message.proofs.Answers.{pick-right}
 use Rattle.message.proofs.Theorem.{sound, complete, message-read, message-legal}
 use Rattle.message.proofs.UnfoldCounts.{words-counted, bytes-counted}
-use Rattle.message.proofs.Copies.{Laid, laid-elements, words-copies, bytes-copies, contents-copies, bodies-copies}
+use Rattle.message.proofs.Copies.{copies-many, words-copies, bytes-copies, contents-copies, bodies-copies}
 
 -- Bits: raw bytes of a vector are its bytes, and those of a list are its bytes without the mark.
 vector-raw : (bs : List Bool) → 1 ≤ length bs → pack bs ≡ rawBits bs
@@ -82,20 +81,11 @@ whole-unfolds ts f vs l h k =
     let z = values-sized ts vs h in
     row-unfolds ts f vs (join xs) 0 l h (small-join xs z k) (rw (heads-parts ts vs) at (split-join xs z k))
 
-module _ (e : Ty) (f : Unfolds e) (l : LegalTy e) (n : ℕ) (vs : Vals (copies e n)) (h : OkAll (copies e n) vs)
-    (k : length (join (parts (copies e n) vs)) < 2 ^ 32) where
-  copies-unfold : (wordsFields (copies e n) (join (parts (copies e n) vs)) 0 ≡ contentsAll (copies e n) vs) ×
-      (bytesFields (copies e n) (join (parts (copies e n) vs)) 0 ≡ bodiesAll (copies e n) vs)
-  copies-unfold = whole-unfolds (copies e n) (all-copies Unfolds e n f) vs (legal-copies e n l) h k
-
-  -- what a list of these elements is counted as
-  copies-many : (limit : ℕ) → n ≤ limit → elements (head e) limit (join (parts (copies e n) vs)) ≡ Many n
-  copies-many limit m =
-      let xs = parts (copies e n) vs in
-      let z = values-sized (copies e n) vs h in
-      let d = copies-heads e n vs in
-      laid-elements (head e) limit (join xs) n (λ i j. fixed-some e i l j) m
-      (record { ranges = rw d at (join-ranges xs z k); first = rw d at (join-next xs z k) })
+copies-unfold :
+    (e : Ty) → Unfolds e → LegalTy e → (n : ℕ) (vs : Vals (copies e n)) → OkAll (copies e n) vs → length (join (parts (copies e n) vs)) < 2 ^ 32
+    → (wordsFields (copies e n) (join (parts (copies e n) vs)) 0 ≡ contentsAll (copies e n) vs) ×
+    (bytesFields (copies e n) (join (parts (copies e n) vs)) 0 ≡ bodiesAll (copies e n) vs)
+copies-unfold e f l n vs h k = whole-unfolds (copies e n) (all-copies Unfolds e n f) vs (legal-copies e n l) h k
 
 list-unfolds :
     (t : ℕ) (e : Ty) (limit : ℕ) → Unfolds e → LegalTy e → (vs : List (Val e)) → Ok (list t e limit) vs → length (serialize (list t e limit) vs) < 2 ^ 32
@@ -110,7 +100,7 @@ list-unfolds t e limit f l =
     let small = rw q at k in
     let m : n ≤ limit = rw (length-asList e n vs) at (h .0) in
     let r = copies-unfold e f l n vs o small in
-    let c = copies-many e f l n vs o small limit m in (
+    let c = copies-many e limit n vs l o small m in (
       rw (q, c, words-copies e n (join (parts (copies e n) vs)) 0, contents-copies e n vs, length-asList e n vs, r .0),
       rw (q, c, bytes-copies e n (join (parts (copies e n) vs)) 0, bodies-copies e n vs, r .1),
     ))

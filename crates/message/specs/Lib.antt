@@ -1,6 +1,7 @@
 pub mod Read
 pub mod Form
 pub mod Listing
+pub mod Leaves
 pub mod Check
 pub mod Steps
 pub mod Unfold
