@@ -3,6 +3,7 @@ use mathlib.Core.Path.{_≡_, refl, sym, _∙_}
 use mathlib.Core.Bool.{Bool, true, false}
 use mathlib.Core.List.{List, [], _∷_}
 use Prim.Native.Nat.{ℕ, zero, suc, _+_, _-_, _*_, _≤_, _<_}
+use native.Mathlib.Nat.{zero-add, suc-add}
 use native.Mathlib.Omega.{arith}
 use lib.Dec.{leb, ltb}
 use lib.ListN.{length, take, drop}
@@ -10,7 +11,7 @@ use lib.Seq.{drop-drop}
 use borrow.Author.Tests.{leb-true, ltb-false, le-leb, lt-leb}
 use Rattle.standard.specs.Bytes.{num, numAt, four, wordAt}
 use Rattle.standard.specs.Choice.{pick}
-use Rattle.cases.specs.Records.{endOf, goOn, rowEnd, recordEnd}
+use Rattle.cases.specs.Records.{endOf, goOn, rowEnd, recordEnd, nextOf, startOf, bodyOf, partOf, reach}
 use Rattle.cases.specs.declared.Extent.{Extent}
 use Rattle.cases.specs.declared.Extent.the-variants.{Whole, Cut}
 
@@ -46,6 +47,35 @@ end-within b p e h =
     let w = whole-taken (leb (p + 4 + four b p) (length b)) (p + 4 + four b p) e (sym h) in
     let k : p + 4 + four b p ≤ length b = leb-true _ _ (w .0) in
     omega (arith, w .1)
+
+-- At the end of the bytes there is no part: a walk that has come there stays there, and finds no bytes.
+none-behind : (b : List ℕ) (p : ℕ) → length b ≤ p → [] ≡ bodyOf b p
+unfolding bodyOf
+none-behind b p h = rw (← end-cut b p (omega arith))
+
+next-behind : (b : List ℕ) (p : ℕ) → length b ≤ p → nextOf b p ≡ length b
+unfolding nextOf
+next-behind b p h = rw (← end-cut b p (omega arith))
+
+start-behind : (b : List ℕ) (n k : ℕ) → length b ≤ startOf b k → length b ≤ startOf b (n + k)
+unfolding startOf
+start-behind b zero k h = rw zero-add h
+start-behind b (suc n) k h = rw suc-add (omega (arith, next-behind b (startOf b (n + k)) (start-behind b n k h)))
+
+-- So from there on every part is empty, as the one at that place is.
+pub part-behind : (b : List ℕ) (k i : ℕ) → k ≤ i → length b ≤ startOf b k → partOf b k ≡ partOf b i
+part-behind b k i h e =
+    let n : i - k + k ≡ i = omega arith in
+    sym (none-behind b (startOf b k) e) ∙ none-behind b (startOf b i) (rw n at (start-behind b (i - k) k e))
+
+-- Before the end each step goes on, and not past the end.
+next-step : (b : List ℕ) (p : ℕ) (x : Extent) → x ≡ endOf b p → p < length b → (p < reach x (length b)) × (reach x (length b) ≤ length b)
+next-step b p (Whole e) h k = let w = end-within b p e h in omega arith
+next-step b p Cut h k = omega arith
+
+pub next-further : (b : List ℕ) (p : ℕ) → p < length b → (p < nextOf b p) × (nextOf b p ≤ length b)
+unfolding nextOf
+next-further b p h = next-step b p (endOf b p) refl h
 
 -- A step of the walk over a row of parts
 pub row-more : (b : List ℕ) (n p e : ℕ) → 0 < n → Whole e ≡ endOf b p → rowEnd b (n - 1) e ≡ rowEnd b n p

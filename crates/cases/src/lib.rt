@@ -103,13 +103,15 @@ fn body_at(b: &[u8], p: usize) -> &[u8]
     }
 }
 
-// The record's i-th part, from 0; no bytes where the record has none.
+// The record's i-th part, from 0; no bytes where the record has none. The walk ends with the bytes, however great i is: from there on no
+// step moves it, and no part has bytes.
 pub fn part(b: &[u8], i: usize) -> &[u8]
     ensures { λ r. ⌜ now r ≡ partOf (now (b .entry)) i ⌝ }
 {
+    let len = b.len();
     let mut at = 8;
     let mut k = 0;
-    while k < i {
+    while k < i && at < len {
         at = next_start(b, at);
         k += 1;
     }
