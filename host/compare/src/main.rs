@@ -43,6 +43,8 @@ const USAGE: &str = "usage:
       random values' encodings, damaged in every offset, cut at every length, extended and so on
   compare messages --out FILE [--seed S] [--count N]
       the shortest message of each type and answer among N (1000000), as cases of operations 71, 72
+  compare messages --sample --out FILE [--seed S]
+      a few of them, as cases of operation 72
   compare forms --out FILE [--seed S] [--count N]
   compare forms --sample --out FILE [--seed S]
       N (200000) cases of the unfolding and the value writer, or a few of each kind
@@ -213,7 +215,9 @@ fn print_dump(arguments: &[String]) -> Result<(), String> {
 fn compare_messages(arguments: &[String]) -> Result<(), String> {
     let mut options = messages::Options::default();
     let mut out = None;
-    for pair in arguments.chunks(2) {
+    let (flags, pairs): (Vec<&String>, Vec<&String>) =
+        arguments.iter().partition(|name| *name == "--sample");
+    for pair in pairs.chunks(2) {
         let [name, value] = pair else { return Err(format!("{} lacks its value", pair[0])) };
         match name.as_str() {
             "--seed" => options.seed = number(value)?,
@@ -226,11 +230,19 @@ fn compare_messages(arguments: &[String]) -> Result<(), String> {
     }
     if let Some(path) = out {
         let written = File::create(path).and_then(|file| {
-            messages::write_cases(options.seed, options.count, &mut BufWriter::new(file))
+            let mut file = BufWriter::new(file);
+            if flags.is_empty() {
+                messages::write_cases(options.seed, options.count, &mut file)
+            } else {
+                messages::write_sample(options.seed, &mut file)
+            }
         });
         let cases = written.map_err(|error| format!("{path}: {error}"))?;
         println!("{cases} cases");
         return Ok(());
+    }
+    if !flags.is_empty() {
+        return Err("--out is missing".to_string());
     }
     let report = messages::compared(options);
     println!("{report}");

@@ -20,7 +20,7 @@ mod types;
 mod watch;
 
 pub use answers::numbers;
-pub use cases::write as write_cases;
+pub use cases::{write as write_cases, write_sample};
 pub use report::Report;
 
 use cartwhisker::Layout;

@@ -1,7 +1,8 @@
 //! A small run, and the crate's errors in numbers.
 
-use messages::{compared, numbers, subjects, write_cases, Options};
+use messages::{compared, numbers, subjects, write_cases, write_sample, Options};
 use ssz::{BitList, BitVector, Decode};
+use std::collections::BTreeSet;
 use typenum::{U4, U9};
 
 #[test]
@@ -71,16 +72,14 @@ fn records(mut file: &[u8]) -> Vec<(u32, Vec<&[u8]>)> {
     found
 }
 
-#[test]
-fn recorded_cases_are_what_our_calls_answer() {
-    let mut file = Vec::new();
-    let cases = write_cases(3, 30_000, &mut file).unwrap();
-    let records = records(&file);
-    assert_eq!(records.len() as u64, cases);
-    let number =
-        |part: &[u8], at: usize| u64::from_le_bytes(part[8 * at..8 * at + 8].try_into().unwrap());
-    let mut reached = std::collections::BTreeSet::new();
-    for (op, parts) in &records {
+fn number(part: &[u8], at: usize) -> u64 {
+    u64::from_le_bytes(part[8 * at..8 * at + 8].try_into().unwrap())
+}
+
+/// Asks our calls each case of operations 71 and 72; gives the numbers that were answered.
+fn asked(records: &[(u32, Vec<&[u8]>)]) -> BTreeSet<u64> {
+    let mut reached = BTreeSet::new();
+    for (op, parts) in records {
         let (told, head) = match op {
             71 => (cartwhisker::check(parts[0], parts[1]).map(|()| 0), parts[2]),
             _ => {
@@ -107,5 +106,40 @@ fn recorded_cases_are_what_our_calls_answer() {
         assert_eq!(told, expected);
         reached.insert(expected[0]);
     }
+    reached
+}
+
+#[test]
+fn recorded_cases_are_what_our_calls_answer() {
+    let mut file = Vec::new();
+    let cases = write_cases(3, 30_000, &mut file).unwrap();
+    let records = records(&file);
+    assert_eq!(records.len() as u64, cases);
+    let reached = asked(&records);
     assert!((0..=15).chain([22]).all(|number| reached.contains(&number)), "{reached:?}");
+}
+
+#[test]
+fn the_recorded_listings_have_every_kind_every_refusal_and_every_room() {
+    let mut file = Vec::new();
+    let cases = write_sample(1, &mut file).unwrap();
+    let records = records(&file);
+    assert_eq!(records.len() as u64, cases);
+    assert!(records.iter().all(|(op, _)| *op == 72));
+    let reached = asked(&records);
+    assert!((0..=15).chain([20, 22]).all(|number| reached.contains(&number)), "{reached:?}");
+    let word =
+        |bytes: &[u8], at: usize| u32::from_le_bytes(bytes[4 * at..4 * at + 4].try_into().unwrap());
+    let mut kinds = BTreeSet::new();
+    let mut rest = BTreeSet::new();
+    for (_, parts) in records.iter().filter(|(_, parts)| number(parts[3], 0) == 0) {
+        let count = number(parts[4], 0) as usize;
+        for item in 0..count {
+            let body = word(parts[0], 1 + word(parts[5], 3 * item) as usize);
+            kinds.insert(word(parts[0], body as usize));
+        }
+        rest.insert(parts[5].len() - 12 * count);
+    }
+    assert!(kinds.into_iter().eq(0..=9));
+    assert!(rest.contains(&0) && rest.contains(&1) && rest.contains(&29), "{rest:?}");
 }

@@ -16,6 +16,7 @@ mod wide;
 mod writer;
 
 pub use ask::Case;
+pub(crate) use tables::at_limits;
 pub use tables::checked;
 pub use value::{encode, Form, Lengths, Value};
 pub use writer::{value_of, written, Fault, Wrong};
@@ -39,7 +40,7 @@ pub type Take<'a> = &'a mut dyn FnMut(Case);
 /// there are so many cases.
 pub fn cases(seed: u64, count: u64, take: Take) {
     let mut run = Run { rng: Rng::new(seed), left: count, take };
-    for table in tables::at_limits() {
+    for table in at_limits() {
         run.bad_table("tables at the limits", &table);
     }
     for layout in wide::long() {
