@@ -14,32 +14,32 @@ use Rattle.standard.specs.Bytes.{Bytes, num}
 use Rattle.standard.specs.Choice.{pick}
 use Rattle.standard.specs.declared.Refusal.TheVariants.{OutOfBounds, MissingLengthInformation, ExcessBits, InvalidByteCount}
 use Rattle.standard.proofs.Bytes.{bytes_take, num-bound}
-use Rattle.standard.proofs.Bits.{num-append, pow-bytes}
-use Rattle.bitfield.specs.Body.{highest, allBits, listBits, bitListBody, within}
+use Rattle.standard.proofs.Bits.{num-append, pow_bytes}
+use Rattle.bitfield.specs.Body.{highest, all_bits, list_bits_lem, bit_list_body, within}
 use Rattle.bitfield.specs.Facts.{Used, TopOf}
 use Rattle.standard.specs.declared.Told.{Told}
 use Rattle.standard.specs.declared.Told.TheVariants.{Fine, Refused as Refusing}
 use Rattle.bitfield.specs.declared.BodyBits.TheVariants.{Bits, Refused}
-use Rattle.bitfield.proofs.Tops.{top-used, top-unused, used_all, top-counted, byte_at}
+use Rattle.bitfield.proofs.Tops.{top_used, top_unused, used_all, top_counted, byte_at}
 
 -- A bit list's body with no set bit
-pub none-marked : (l : List ℕ) → 0 < length l → Used l 0 → (n : ℕ) → Refused MissingLengthInformation ≡ bitListBody l n
-unfolding bitListBody
-none-marked l h u n = rw (ne_eqb (length l) 0 (omega arith), top-unused l u.zeros)
+pub none-marked : (l : List ℕ) → 0 < length l → Used l 0 → (n : ℕ) → Refused MissingLengthInformation ≡ bit_list_body l n
+unfolding bit_list_body
+none-marked l h u n = rw (ne_eqb (length l) 0 (omega arith), top_unused l u.zeros)
 
 -- One whose last set bit is in a byte before the last
 pub marked-short :
     (l : List ℕ) (r : ℕ) → Bytes l → get_or l (length l - 1) 0 ≡ 0 → Used l r → (r ≡ 0 → ⊥)
-    → (n : ℕ) → Refused (InvalidByteCount (length l) r) ≡ bitListBody l n
-unfolding bitListBody
+    → (n : ℕ) → Refused (InvalidByteCount (length l) r) ≡ bit_list_body l n
+unfolding bit_list_body
 marked-short l zero b z u e n = absurd (e refl)
 marked-short l (suc i) b z u e n =
     let q : suc i - 1 ≡ i = omega arith in
     let p = rw q at (u.last (omega arith)) in
-    let top = (top-counted (get_or l i 0) p (byte_at l i b)).1 in
+    let top = (top_counted (get_or l i 0) p (byte_at l i b)).1 in
     let s = top.small in
     let up = u.upto in
-    let h = top-used l i _ b up u.zeros top in
+    let h = top_used l i _ b up u.zeros top in
     let here : length l ≡ suc i → ⊥ = (λ (f : length l ≡ suc i). let g : length l - 1 ≡ i = omega arith in let y = rw g at z in omega arith) in
     let place : (8 * i + (7 - lib.Count.count_leading_zeros 8 (get_or l i 0))) / 8 + 1 ≡ suc i = omega arith in
     rw (ne_eqb (length l) 0 (omega arith), h, place, ne_eqb (length l) (suc i) here)
@@ -47,12 +47,12 @@ marked-short l (suc i) b z u e n =
 -- One whose last byte has its highest bit at h
 pub marked-here :
     (l : List ℕ) (h : ℕ) → Bytes l → 0 < length l → TopOf (get_or l (length l - 1) 0) h → (n : ℕ)
-    → listBits (8 * (length l - 1) + h) n ≡ bitListBody l n
-unfolding bitListBody
+    → list_bits_lem (8 * (length l - 1) + h) n ≡ bit_list_body l n
+unfolding bit_list_body
 marked-here l h b p t n =
     let s = t.small in
     let q : suc (length l - 1) ≡ length l = omega arith in
-    let e = top-used l (length l - 1) h b (omega arith) (rw q (used_all l)) t in
+    let e = top_used l (length l - 1) h b (omega arith) (rw q (used_all l)) t in
     let place : length l ≡ (8 * (length l - 1) + h) / 8 + 1 = omega arith in
     rw (ne_eqb (length l) 0 (omega arith), e, eq-eqb (length l) ((8 * (length l - 1) + h) / 8 + 1) place)
 
@@ -63,11 +63,11 @@ module _ (l : List ℕ) (q r : ℕ) (b : Bytes l) (h : q ≤ length l) where
       let e = num-append (take q l) (drop q l) in
       let f = take-append-drop q l in
       let m = length-take-le q l h in
-      let p = pow-bytes q in
+      let p = pow_bytes q in
       rw (f, m, p) at e
 
   first_small : num (take q l) < 2 ^ (8 * q)
-  first_small = rw (length-take-le q l h, pow-bytes q) at (num-bound (take q l) (bytes_take q l b))
+  first_small = rw (length-take-le q l h, pow_bytes q) at (num-bound (take q l) (bytes_take q l b))
 
   pub cut_below : num l < 2 ^ (8 * q + r) → num (drop q l) < 2 ^ r
   cut_below k =
@@ -90,7 +90,7 @@ bits_of n = omega arith
 pub within-short : (l : List ℕ) (n : ℕ) → Bytes l → length l ≤ n / 8 → Fine ≡ within l n
 within-short l n b h =
     let f = num-bound l b in
-    let p = pow-bytes (length l) in
+    let p = pow_bytes (length l) in
     let m : 2 ^ (8 * length l) ≤ 2 ^ n = pow_mono (omega arith) in
     rw (lt-ltb (num l) (2 ^ n) (omega arith))
 
@@ -100,14 +100,14 @@ alone l q e =
     let z : drop (suc q) l ≡ [] = rw (← e) (drop-length l) in
     rw (drop-cons l q 0 (omega arith), z) (omega arith)
 
-pub small-shifted : (x r : ℕ) → x / 2 ^ r ≡ 0 → x < 2 ^ r
-small-shifted x r e =
+pub small_shifted : (x r : ℕ) → x / 2 ^ r ≡ 0 → x < 2 ^ r
+small_shifted x r e =
     let p = pow_pos r in
     let k = (div-lt_iff_lt-mul {x = x} {y = 1} p).0 (omega arith) in
     omega arith
 
-pub shifted-small : (x r : ℕ) → (x / 2 ^ r ≡ 0 → ⊥) → 2 ^ r ≤ x
-shifted-small x r n =
+pub shifted_small : (x r : ℕ) → (x / 2 ^ r ≡ 0 → ⊥) → 2 ^ r ≤ x
+shifted_small x r n =
     let k = lt_of_not-le {n = suc x} (λ (k : suc x ≤ 2 ^ r). n (div-eq_of_lt k)) in
     omega arith
 
@@ -115,13 +115,13 @@ shifted-small x r n =
 pub within-here : (l : List ℕ) (n : ℕ) → Bytes l → length l ≡ suc (n / 8) → get_or l (n / 8) 0 / 2 ^ (n % 8) ≡ 0 → Fine ≡ within l n
 within-here l n b h e =
     let a = alone l (n / 8) h in
-    let k = small-shifted (get_or l (n / 8) 0) (n % 8) e in
+    let k = small_shifted (get_or l (n / 8) 0) (n % 8) e in
     let s = below-cut l (n / 8) (n % 8) b (omega arith) (rw a k) in
     rw (lt-ltb (num l) (2 ^ n) (rw bits_of at s))
 
-pub within-not : (l : List ℕ) (n : ℕ) → Bytes l → length l ≡ suc (n / 8) → (get_or l (n / 8) 0 / 2 ^ (n % 8) ≡ 0 → ⊥) → Refusing ExcessBits ≡ within l n
-within-not l n b h e =
+pub within_not : (l : List ℕ) (n : ℕ) → Bytes l → length l ≡ suc (n / 8) → (get_or l (n / 8) 0 / 2 ^ (n % 8) ≡ 0 → ⊥) → Refusing ExcessBits ≡ within l n
+within_not l n b h e =
     let a = alone l (n / 8) h in
-    let k = shifted-small (get_or l (n / 8) 0) (n % 8) e in
+    let k = shifted_small (get_or l (n / 8) 0) (n % 8) e in
     let s : num l < 2 ^ n → ⊥ = λ (m : num l < 2 ^ n). let c = cut_below l (n / 8) (n % 8) b (omega arith) (rw bits_of m) in omega arith in
     rw (le-ltb (num l) (2 ^ n) (omega arith))

@@ -9,18 +9,18 @@ use lib.Dec.{eqb, leb, ltb}
 use lib.Pow.{pow_mono}
 use lib.ListN.{length, drop}
 use Rattle.standard.specs.Bytes.{Bytes, num}
-use Rattle.standard.specs.Choice.{andAlso}
+use Rattle.standard.specs.Choice.{and_also}
 use Rattle.standard.proofs.Bytes.{num-bound}
-use Rattle.standard.proofs.Bits.{pow-bytes}
+use Rattle.standard.proofs.Bits.{pow_bytes}
 use Rattle.bitfield.specs.Raw.{Raw, clean}
 use Rattle.bitfield.specs.Facts.{Word}
-use Rattle.bitfield.proofs.Bodies.{cut_below, below-cut, small-shifted, shifted-small}
+use Rattle.bitfield.proofs.Bodies.{cut_below, below-cut, small_shifted, shifted_small}
 
-pub clean-full : (l : List ℕ) (len : ℕ) → Raw l → len ≤ 2048 → len / 64 ≡ 32 → true ≡ clean l len
+pub clean_full : (l : List ℕ) (len : ℕ) → Raw l → len ≤ 2048 → len / 64 ≡ 32 → true ≡ clean l len
 unfolding clean
-clean-full l len r h e =
+clean_full l len r h e =
     let b = rw r.long at (num-bound l r.bytes) in
-    let p = pow-bytes 256 in
+    let p = pow_bytes 256 in
     let m : len ≡ 8 * 256 = omega arith in
     rw (le-leb len 2048 h, lt-ltb (num l) (2 ^ len) (rw (m, ← p) b))
 
@@ -37,10 +37,10 @@ module _ (l : List ℕ) (len x : ℕ) (r : Raw l) (h : len ≤ 2048) (n : len / 
   bits : 8 * place + len % 64 ≡ len
   bits = omega arith
 
-  pub clean-not : (x / 2 ^ (len % 64) ≡ 0 → ⊥) → false ≡ clean l len
+  pub clean_not : (x / 2 ^ (len % 64) ≡ 0 → ⊥) → false ≡ clean l len
   unfolding clean
-  clean-not k =
-      let s = shifted-small x (len % 64) k in
+  clean_not k =
+      let s = shifted_small x (len % 64) k in
       let e = w.says in
       let no : num l < 2 ^ len → ⊥ = λ (m : num l < 2 ^ len).
       let c = cut_below l place (len % 64) r.bytes inside (rw bits m) in
@@ -52,7 +52,7 @@ module _ (l : List ℕ) (len x : ℕ) (r : Raw l) (h : len ≤ 2048) (n : len / 
   clean-rest k = rw (rest, le-leb len 2048 h) (cases (num (drop (place + 8) l)) w.says)
     where
       small : x < 2 ^ (len % 64)
-      small = small-shifted x (len % 64) k
+      small = small_shifted x (len % 64) k
 
       word : 2 ^ (len % 64) ≤ 2 ^ 63
       word = pow_mono {j = 63} (omega arith)
@@ -74,6 +74,6 @@ pub clean-says : (l : List ℕ) (len : ℕ) → clean l len ≡ true → (len �
 unfolding clean
 clean-says l len e = let t = two (leb len 2048) (ltb (num l) (2 ^ len)) e in (leb-true _ _ t.0, ltb-true _ _ t.1)
   where
-    two : (a b : Bool) → andAlso a b ≡ true → (a ≡ true) × (b ≡ true)
+    two : (a b : Bool) → and_also a b ≡ true → (a ≡ true) × (b ≡ true)
     two true b e = (refl, e)
     two false b e = let w : ◌≡◌ {A = ℕ} 0 1 = cc in absurd (omega arith)

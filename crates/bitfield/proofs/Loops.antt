@@ -15,7 +15,7 @@ use lib.ListN.{length, get_or, set, take, drop, replicate, take-append-drop, len
 use lib.Seq.{take-suc, drop-cons, append_snoc, set_at, length-take-le, drop-length, drop-drop}
 use Rattle.standard.specs.Bytes.{Bytes, le, num, num_at, four}
 use Rattle.standard.proofs.Bytes.{num-bound, bytes_take}
-use Rattle.standard.proofs.Bits.{pow-bytes, num-append}
+use Rattle.standard.proofs.Bits.{pow_bytes, num-append}
 use Rattle.bitfield.specs.Raw.{zipped, firsts, Raw}
 use Rattle.bitfield.specs.Facts.{Word}
 use Rattle.bitfield.proofs.Tops.{byte_at}
@@ -29,13 +29,13 @@ length-zipped f [] ys h = refl
 length-zipped f (x ∷ xs) [] h = sym h
 length-zipped f (x ∷ xs) (y ∷ ys) h = ap suc (length-zipped f xs ys (omega arith))
 
-zipped-snoc : (f : ℕ → ℕ → ℕ) (xs ys : List ℕ) (x y : ℕ) → length xs ≡ length ys
+zipped_snoc : (f : ℕ → ℕ → ℕ) (xs ys : List ℕ) (x y : ℕ) → length xs ≡ length ys
     → zipped f (xs ++ (x ∷ [])) (ys ++ (y ∷ [])) ≡ zipped f xs ys ++ (f x y ∷ [])
 unfolding zipped
-zipped-snoc f [] [] x y h = refl
-zipped-snoc f [] (b ∷ ys) x y h = absurd (omega arith)
-zipped-snoc f (a ∷ xs) [] x y h = absurd (omega arith)
-zipped-snoc f (a ∷ xs) (b ∷ ys) x y h = ap (λ (l : List ℕ). f a b ∷ l) (zipped-snoc f xs ys x y (omega arith))
+zipped_snoc f [] [] x y h = refl
+zipped_snoc f [] (b ∷ ys) x y h = absurd (omega arith)
+zipped_snoc f (a ∷ xs) [] x y h = absurd (omega arith)
+zipped_snoc f (a ∷ xs) (b ∷ ys) x y h = ap (λ (l : List ℕ). f a b ∷ l) (zipped_snoc f xs ys x y (omega arith))
 
 pub firsts-next : (f : ℕ → ℕ → ℕ) (i : ℕ) (a b : List ℕ) → i < 256 → i < length a → i < length b
     → set (firsts f i a b) i (f (get_or a i 0) (get_or b i 0)) ≡ firsts f (i + 1) a b
@@ -46,7 +46,7 @@ firsts-next f i a b h p q =
     let z = zipped f (take i a) (take i b) in
     let lz : length z ≡ i = length-zipped f (take i a) (take i b) (la ∙ sym lb) ∙ la in
     let e : 256 - i ≡ suc (256 - (i + 1)) = omega arith in
-    let s = zipped-snoc f (take i a) (take i b) (get_or a i 0) (get_or b i 0) (la ∙ sym lb) in
+    let s = zipped_snoc f (take i a) (take i b) (get_or a i 0) (get_or b i 0) (la ∙ sym lb) in
     rw (e, set_at z 0 (replicate (256 - (i + 1)) 0) (f (get_or a i 0) (get_or b i 0)) i lz, add-one i, take-suc a i 0 p, take-suc b i 0 q, s, append_assoc)
 
 -- The bytes of a buffer that were put there, and the rest
@@ -57,35 +57,35 @@ put_next o b l i e p q =
     rw (e, drop-cons o i 0 q, set_at (take i b) (get_or o i 0) (drop (suc i) o) (get_or b i 0) i lb, add-one i, take-suc b i 0 p, append_assoc)
 
 -- "Or" of two numbers is zero exactly if both are.
-or-none : (a b : ℕ) → bit_or a b ≡ 0 → (a ≡ 0) × (b ≡ 0)
-or-none a b e =
+or_none : (a b : ℕ) → bit_or a b ≡ 0 → (a ≡ 0) × (b ≡ 0)
+or_none a b e =
     let s = or_add_and a b in
     let l = and_le_l a b in
     let r = and_le_r a b in
     (omega arith, omega arith)
 
-or-zero : (a b : ℕ) → a ≡ 0 → b ≡ 0 → bit_or a b ≡ 0
-or-zero a b p q = let s = or_add_and a b in omega arith
+or_zero : (a b : ℕ) → a ≡ 0 → b ≡ 0 → bit_or a b ≡ 0
+or_zero a b p q = let s = or_add_and a b in omega arith
 
 -- What a loop that gathers by "or" knows at i: nothing was set exactly if nothing is set in all.
 pub record Gathered (l : List ℕ) (from acc i : ℕ) : Type 0 where
   pub all : acc ≡ 0 → num (drop i l) ≡ 0 → num (drop from l) ≡ 0
   pub none : num (drop from l) ≡ 0 → (acc ≡ 0) × (num (drop i l) ≡ 0)
 
-pub gathered-start : (l : List ℕ) (from : ℕ) → Gathered l from 0 from
-gathered-start l from = record { all = λ a z. z; none = λ z. (refl, z) }
+pub gathered_start : (l : List ℕ) (from : ℕ) → Gathered l from 0 from
+gathered_start l from = record { all = λ a z. z; none = λ z. (refl, z) }
 
 pub gathered_next : (l : List ℕ) (from acc i x : ℕ) → Word l i x → Gathered l from acc i → Gathered l from (bit_or acc x) (i + 8)
 gathered_next l from acc i x w g =
     let e = w.says in
     record {
       all = λ (a : bit_or acc x ≡ 0) (z : num (drop (i + 8) l) ≡ 0).
-          let o = or-none acc x a in
+          let o = or_none acc x a in
           g.all o.0 (omega arith);
       none = λ (z : num (drop from l) ≡ 0).
           let k = g.none z in
           let y : x ≡ 0 = omega arith in
-          (or-zero acc x k.0 y, omega arith);
+          (or_zero acc x k.0 y, omega arith);
     }
 
 -- Two numbers of which neither is zero alone
@@ -97,8 +97,8 @@ nothing_left : (l : List ℕ) (m : ℕ) → m ≡ length l → num (drop m l) �
 unfolding num
 nothing_left l m e = rw e (ap num (drop-length l))
 
-pub gathered-end : (l : List ℕ) (from acc : ℕ) → Gathered l from acc (length l) → eqb acc 0 ≡ eqb (num (drop from l)) 0
-gathered-end l from acc g =
+pub gathered_end : (l : List ℕ) (from acc : ℕ) → Gathered l from acc (length l) → eqb acc 0 ≡ eqb (num (drop from l)) 0
+gathered_end l from acc g =
     zero-both acc _ (λ (a : acc ≡ 0). g.all a (nothing_left l (length l) refl)) (λ (z : num (drop from l) ≡ 0). (g.none z).0)
 
 -- One byte, and those behind it
@@ -124,8 +124,8 @@ pub record Halved (l : List ℕ) (from acc k : ℕ) : Type 0 where
   pub second : acc ≡ 0 → num (drop (128 + k) l) ≡ 0 → num (drop 128 l) ≡ 0
   pub none : num (drop from l) ≡ 0 → acc ≡ 0
 
-pub halved-start : (l : List ℕ) (from : ℕ) → Halved l from 0 0
-halved-start l from =
+pub halved_start : (l : List ℕ) (from : ℕ) → Halved l from 0 0
+halved_start l from =
     let e : from + 0 ≡ from = omega arith in
     record {
       first = λ (a : ◌≡◌ {A = ℕ} 0 0) (z : num (drop (from + 0) l) ≡ 0). rw e at z;
@@ -134,32 +134,32 @@ halved-start l from =
     }
 
 module _ (l : List ℕ) (from acc k : ℕ) (long : length l ≡ 256) (low : from ≤ 128) where
-  pub halved-next : k < 128 → Halved l from acc k → Halved l from (bit_or acc (bit_or (get_or l (from + k) 0) (get_or l (128 + k) 0))) (k + 1)
-  halved-next h g =
+  pub halved_next : k < 128 → Halved l from acc k → Halved l from (bit_or acc (bit_or (get_or l (from + k) 0) (get_or l (128 + k) 0))) (k + 1)
+  halved_next h g =
       let p = byte-drop l (from + k) (rw long (omega arith)) in
       let q = byte-drop l (128 + k) (rw long (omega arith)) in
       let i : from + (k + 1) ≡ from + k + 1 = omega arith in
       let j : 128 + (k + 1) ≡ 128 + k + 1 = omega arith in
       record {
         first = λ (a : bit_or acc (bit_or (get_or l (from + k) 0) (get_or l (128 + k) 0)) ≡ 0) (z : num (drop (from + (k + 1)) l) ≡ 0).
-            let o = or-none acc _ a in
-            let x = (or-none (get_or l (from + k) 0) _ o.1).0 in
+            let o = or_none acc _ a in
+            let x = (or_none (get_or l (from + k) 0) _ o.1).0 in
             let y = rw i at z in
             g.first o.0 (omega arith);
         second = λ (a : bit_or acc (bit_or (get_or l (from + k) 0) (get_or l (128 + k) 0)) ≡ 0) (z : num (drop (128 + (k + 1)) l) ≡ 0).
-            let o = or-none acc _ a in
-            let x = (or-none (get_or l (from + k) 0) _ o.1).1 in
+            let o = or_none acc _ a in
+            let x = (or_none (get_or l (from + k) 0) _ o.1).1 in
             let y = rw j at z in
             g.second o.0 (omega arith);
         none = λ (z : num (drop from l) ≡ 0).
             let a = g.none z in
             let x = none-behind l from (from + k) (omega arith) z in
             let y = none-behind l from (128 + k) (omega arith) z in
-            or-zero _ _ a (or-zero (get_or l (from + k) 0) (get_or l (128 + k) 0) (omega arith) (omega arith));
+            or_zero _ _ a (or_zero (get_or l (from + k) 0) (get_or l (128 + k) 0) (omega arith) (omega arith));
       }
 
-  pub halved-end : k ≡ 128 → Halved l from acc k → eqb acc 0 ≡ eqb (num (drop from l)) 0
-  halved-end e g =
+  pub halved_end : k ≡ 128 → Halved l from acc k → eqb acc 0 ≡ eqb (num (drop from l)) 0
+  halved_end e g =
       zero-both acc _
       (λ (a : acc ≡ 0).
       let z = g.second a (nothing_left l (128 + k) (rw (e, long))) in
@@ -173,8 +173,8 @@ num-more l i h =
     rw (add-one i, take-suc l i 0 h, num-append (take i l) (get_or l i 0 ∷ []), length-take-le i l (omega arith)) (omega arith)
 
 -- The ones of a word, and those behind it
-pub ones-more : (l : List ℕ) (i x : ℕ) → Word l i x → ones (num (drop i l)) ≡ ones x + ones (num (drop (i + 8) l))
-ones-more l i x w =
+pub ones_more : (l : List ℕ) (i x : ℕ) → Word l i x → ones (num (drop i l)) ≡ ones x + ones (num (drop (i + 8) l))
+ones_more l i x w =
     let s = w.says in
     let e : num (drop i l) ≡ num (drop (i + 8) l) * 2 ^ 64 + x = omega arith in
     let c = ones_cat 64 (num (drop (i + 8) l)) x w.small in
@@ -201,8 +201,8 @@ unfolding num
 num-zeros zero = refl
 num-zeros (suc n) = rw (num-zeros n)
 
-pub shifting-start : (a : List ℕ) (s p : ℕ) → Shifting a s p (replicate 256 0) 0 s
-shifting-start a s p =
+pub shifting_start : (a : List ℕ) (s p : ℕ) → Shifting a s p (replicate 256 0) 0 s
+shifting_start a s p =
     let z = num-zeros 256 in
     let e : s - s ≡ 0 = omega arith in
     record {
@@ -263,8 +263,8 @@ module _ (a : List ℕ) (s p : ℕ) (out : List ℕ) (carry i t : ℕ) (r : Raw 
       (turn (num out) _ (256 ^ s) (256 ^ (i - s)) (2 ^ p) carry t (get_or a (i - s) 0) (num (take (i - s) a)) (t % 256) (t / 256) e (omega arith)
       (rw w at n) (rw w at o))
 
-  pub shifting-next : Shifting a s p (set out i (t % 256)) (t / 256) (i + 1)
-  shifting-next =
+  pub shifting_next : Shifting a s p (set out i (t % 256)) (t / 256) (i + 1)
+  shifting_next =
       let b = below in
       let f = g.from in
       record {
@@ -280,16 +280,16 @@ whole o S Q T carry m R x e f =
     let f' : x * (S * T) ≡ (m + Q * R) * (S * T) = ap (λ (z : ℕ). z * (S * T)) f in
     omega arith
 
-pub shifting-end : (a : List ℕ) (n : ℕ) (out : List ℕ) (carry used : ℕ) → Raw a → used ≤ 256
+pub shifting_end : (a : List ℕ) (n : ℕ) (out : List ℕ) (carry used : ℕ) → Raw a → used ≤ 256
     → Shifting a (n / 8) (n % 8) out carry used → out ≡ le 256 ((num a * 2 ^ n) % 256 ^ used)
-shifting-end a n out carry used r h g =
+shifting_end a n out carry used r h g =
     let s = n / 8 in
     let f = g.from in
     let k : used - s ≤ length a = rw r.long (omega arith) in
     let split = num-append (take (used - s) a) (drop (used - s) a) in
     let parts = rw (take-append-drop (used - s) a, length-take-le (used - s) a k) at split in
     let w : 256 ^ used ≡ 256 ^ s * 256 ^ (used - s) = rw (← pow-add 256 s (used - s)) (ap (λ (m : ℕ). 256 ^ m) (omega arith)) in
-    let two : 2 ^ n ≡ 256 ^ s * 2 ^ (n % 8) = rw (pow-bytes s, ← pow-add 2 (8 * s) (n % 8)) (ap (λ (m : ℕ). 2 ^ m) (omega arith)) in
+    let two : 2 ^ n ≡ 256 ^ s * 2 ^ (n % 8) = rw (pow_bytes s, ← pow-add 2 (8 * s) (n % 8)) (ap (λ (m : ℕ). 2 ^ m) (omega arith)) in
     let all = whole (num out) (256 ^ s) (256 ^ (used - s)) (2 ^ (n % 8)) carry _ (num (drop (used - s) a)) (num a) (rw w at g.number) parts in
     let e : (num a * 2 ^ n) % 256 ^ used ≡ num out =
     rw (two, w, all) (digits_mod (num (drop (used - s) a) * 2 ^ (n % 8) + carry) (rw w at g.small)) in

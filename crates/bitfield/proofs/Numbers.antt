@@ -10,7 +10,7 @@ use lib.ListN.{length, get_or, set, take, drop, replicate}
 use lib.Seq.{take-suc, take_all}
 use Rattle.standard.specs.Bytes.{Bytes, le, num}
 use Rattle.standard.proofs.Bytes.{le-num, num-bound}
-use Rattle.standard.proofs.Bits.{pow-bytes}
+use Rattle.standard.proofs.Bits.{pow_bytes}
 use Rattle.bitfield.specs.declared.raw.Op.TheVariants.{And, Or, AndNot, Not}
 use Rattle.bitfield.specs.Raw.{op_of, zipped, firsts, Raw}
 
@@ -19,13 +19,13 @@ pub record Bytewise (f : ℕ → ℕ → ℕ) : Type 0 where
   pub first : (x y : ℕ) → f x y % 256 ≡ f (x % 256) (y % 256)
   pub rest : (x y : ℕ) → f x y / 256 ≡ f (x / 256) (y / 256)
 
-pub and-bytewise : Bytewise (op_of And)
+pub and_bytewise : Bytewise (op_of And)
 unfolding op_of
-and-bytewise = record { first = λ x y. and_mod x y 8; rest = λ x y. and_shr x y 8 }
+and_bytewise = record { first = λ x y. and_mod x y 8; rest = λ x y. and_shr x y 8 }
 
-pub or-bytewise : Bytewise (op_of Or)
+pub or_bytewise : Bytewise (op_of Or)
 unfolding op_of
-or-bytewise = record { first = λ x y. or_mod x y 8; rest = λ x y. or_shr x y 8 }
+or_bytewise = record { first = λ x y. or_mod x y 8; rest = λ x y. or_shr x y 8 }
 
 module _ (x y : ℕ) where
   abbrev lows : ℕ
@@ -41,9 +41,9 @@ module _ (x y : ℕ) where
   split : ((x - bit_and x y) % 256 ≡ x % 256 - lows) × ((x - bit_and x y) / 256 ≡ x / 256 - highs)
   split = less (bit_and x y) highs lows (and_mod x y 8) (and_shr x y 8) (and_le_l (x % 256) (y % 256)) (and_le_l (x / 256) (y / 256))
 
-pub and-not-bytewise : Bytewise (op_of AndNot)
+pub and_not_bytewise : Bytewise (op_of AndNot)
 unfolding op_of
-and-not-bytewise = record { first = λ x y. (split x y).0; rest = λ x y. (split x y).1 }
+and_not_bytewise = record { first = λ x y. (split x y).0; rest = λ x y. (split x y).1 }
 
 -- Numbers in bytes, byte by byte
 pub le-zipped : (f : ℕ → ℕ → ℕ) → Bytewise f → (n x y : ℕ) → zipped f (le n x) (le n y) ≡ le n (f x y)
@@ -99,9 +99,9 @@ unfolding firsts
 firsts-le f w i a b r s h k =
     rw (first-le a i r h, first-le b i s h, le-zipped f w i (num a) (num b)) (padded i (f (num a) (num b)) h k)
 
-pub firsts-not : (i : ℕ) (a : List ℕ) → Raw a → i ≤ 256 → num a < 256 ^ i → firsts (op_of Not) i a a ≡ le 256 (256 ^ i - 1 - num a)
+pub firsts_not : (i : ℕ) (a : List ℕ) → Raw a → i ≤ 256 → num a < 256 ^ i → firsts (op_of Not) i a a ≡ le 256 (256 ^ i - 1 - num a)
 unfolding firsts
-firsts-not i a r h k =
+firsts_not i a r h k =
     rw (first-le a i r h, le_not i (num a) (num a) k) (padded i (256 ^ i - 1 - num a) h (omega arith))
 
 -- One byte more of the loop

@@ -4,176 +4,176 @@ use mathlib.Core.Path.{◌≡◌}
 use contract.Lifetimes.{Lfts}
 use denote.Triple.Clauses.{AtExit}
 use borrow.Fn.Kinds.{Dens, res_t, ended_of}
-use Rattle.standard.proofs.Only.{Only, only-answer}
-use Rattle.bitfield.proofs.body.bitlist_body.Kinds as bitlist-body-kinds
-use Rattle.bitfield.proofs.body.bitlist_body.Reads as bitlist-body-reads
-use Rattle.bitfield.proofs.body.bitvector_body.Kinds as bitvector-body-kinds
-use Rattle.bitfield.proofs.body.bitvector_body.Reads as bitvector-body-reads
-use Rattle.bitfield.proofs.BitList.with_capacity.Kinds as list-with-capacity-kinds
-use Rattle.bitfield.proofs.BitList.with_capacity.Reads as list-with-capacity-reads
-use Rattle.bitfield.proofs.BitList.resize.Kinds as list-resize-kinds
-use Rattle.bitfield.proofs.BitList.resize.Reads as list-resize-reads
-use Rattle.bitfield.proofs.BitList.clone_zeroed.Kinds as list-clone-zeroed-kinds
-use Rattle.bitfield.proofs.BitList.clone_zeroed.Reads as list-clone-zeroed-reads
-use Rattle.bitfield.proofs.BitList.from_bytes.Kinds as list-from-bytes-kinds
+use Rattle.standard.proofs.Only.{Only, only_answer}
+use Rattle.bitfield.proofs.body.bitlist_body.Kinds as bitlist_body_kinds
+use Rattle.bitfield.proofs.body.bitlist_body.Reads as bitlist_body_reads
+use Rattle.bitfield.proofs.body.bitvector_body.Kinds as bitvector_body_kinds
+use Rattle.bitfield.proofs.body.bitvector_body.Reads as bitvector_body_reads
+use Rattle.bitfield.proofs.BitList.with_capacity.Kinds as list_with_capacity_kinds
+use Rattle.bitfield.proofs.BitList.with_capacity.Reads as list_with_capacity-reads
+use Rattle.bitfield.proofs.BitList.resize.Kinds as list_resize_kinds
+use Rattle.bitfield.proofs.BitList.resize.Reads as list_resize-reads
+use Rattle.bitfield.proofs.BitList.clone_zeroed.Kinds as list_clone_zeroed_kinds
+use Rattle.bitfield.proofs.BitList.clone_zeroed.Reads as list_clone_zeroed-reads
+use Rattle.bitfield.proofs.BitList.from_bytes.Kinds as list-from-bytes_kinds
 use Rattle.bitfield.proofs.BitList.from_bytes.Reads as list-from-bytes-reads
-use Rattle.bitfield.proofs.BitList.intersection.Kinds as list-intersection-kinds
-use Rattle.bitfield.proofs.BitList.intersection.Reads as list-intersection-reads
-use Rattle.bitfield.proofs.BitList.union.Kinds as list-union-kinds
+use Rattle.bitfield.proofs.BitList.intersection.Kinds as list_intersection_kinds
+use Rattle.bitfield.proofs.BitList.intersection.Reads as list_intersection-reads
+use Rattle.bitfield.proofs.BitList.union.Kinds as list-union_kinds
 use Rattle.bitfield.proofs.BitList.union.Reads as list-union-reads
-use Rattle.bitfield.proofs.BitList.difference.Kinds as list-difference-kinds
-use Rattle.bitfield.proofs.BitList.difference.Reads as list-difference-reads
-use Rattle.bitfield.proofs.BitList.is_subset.Kinds as list-is-subset-kinds
-use Rattle.bitfield.proofs.BitList.is_subset.Reads as list-is-subset-reads
-use Rattle.bitfield.proofs.BitList.set.Kinds as list-set-kinds
+use Rattle.bitfield.proofs.BitList.difference.Kinds as list_difference_kinds
+use Rattle.bitfield.proofs.BitList.difference.Reads as list_difference-reads
+use Rattle.bitfield.proofs.BitList.is_subset.Kinds as list_is_subset_kinds
+use Rattle.bitfield.proofs.BitList.is_subset.Reads as list_is_subset-reads
+use Rattle.bitfield.proofs.BitList.set.Kinds as list-set_kinds
 use Rattle.bitfield.proofs.BitList.set.Reads as list-set-reads
-use Rattle.bitfield.proofs.BitList.get.Kinds as list-get-kinds
+use Rattle.bitfield.proofs.BitList.get.Kinds as list-get_kinds
 use Rattle.bitfield.proofs.BitList.get.Reads as list-get-reads
-use Rattle.bitfield.proofs.BitList.highest_set_bit.Kinds as list-highest-set-bit-kinds
+use Rattle.bitfield.proofs.BitList.highest_set_bit.Kinds as list-highest-set-bit_kinds
 use Rattle.bitfield.proofs.BitList.highest_set_bit.Reads as list-highest-set-bit-reads
-use Rattle.bitfield.proofs.BitList.is_zero.Kinds as list-is-zero-kinds
-use Rattle.bitfield.proofs.BitList.is_zero.Reads as list-is-zero-reads
-use Rattle.bitfield.proofs.BitList.num_set_bits.Kinds as list-num-set-bits-kinds
+use Rattle.bitfield.proofs.BitList.is_zero.Kinds as list_is_zero_kinds
+use Rattle.bitfield.proofs.BitList.is_zero.Reads as list_is_zero-reads
+use Rattle.bitfield.proofs.BitList.num_set_bits.Kinds as list-num-set-bits_kinds
 use Rattle.bitfield.proofs.BitList.num_set_bits.Reads as list-num-set-bits-reads
-use Rattle.bitfield.proofs.BitList.not.Kinds as list-not-kinds
-use Rattle.bitfield.proofs.BitList.not.Reads as list-not-reads
-use Rattle.bitfield.proofs.BitList.shift_up.Kinds as list-shift-up-kinds
-use Rattle.bitfield.proofs.BitList.shift_up.Reads as list-shift-up-reads
-use Rattle.bitfield.proofs.BitVector.new.Kinds as vector-new-kinds
+use Rattle.bitfield.proofs.BitList.not.Kinds as list_not_kinds
+use Rattle.bitfield.proofs.BitList.not.Reads as list_not-reads
+use Rattle.bitfield.proofs.BitList.shift_up.Kinds as list_shift_up_kinds
+use Rattle.bitfield.proofs.BitList.shift_up.Reads as list_shift_up-reads
+use Rattle.bitfield.proofs.BitVector.new.Kinds as vector-new_kinds
 use Rattle.bitfield.proofs.BitVector.new.Reads as vector-new-reads
-use Rattle.bitfield.proofs.BitVector.from_bytes.Kinds as vector-from-bytes-kinds
+use Rattle.bitfield.proofs.BitVector.from_bytes.Kinds as vector-from-bytes_kinds
 use Rattle.bitfield.proofs.BitVector.from_bytes.Reads as vector-from-bytes-reads
-use Rattle.bitfield.proofs.BitVector.intersection.Kinds as vector-intersection-kinds
-use Rattle.bitfield.proofs.BitVector.intersection.Reads as vector-intersection-reads
-use Rattle.bitfield.proofs.BitVector.union.Kinds as vector-union-kinds
+use Rattle.bitfield.proofs.BitVector.intersection.Kinds as vector_intersection_kinds
+use Rattle.bitfield.proofs.BitVector.intersection.Reads as vector_intersection-reads
+use Rattle.bitfield.proofs.BitVector.union.Kinds as vector-union_kinds
 use Rattle.bitfield.proofs.BitVector.union.Reads as vector-union-reads
-use Rattle.bitfield.proofs.BitVector.difference.Kinds as vector-difference-kinds
-use Rattle.bitfield.proofs.BitVector.difference.Reads as vector-difference-reads
-use Rattle.bitfield.proofs.BitVector.is_subset.Kinds as vector-is-subset-kinds
-use Rattle.bitfield.proofs.BitVector.is_subset.Reads as vector-is-subset-reads
-use Rattle.bitfield.proofs.BitVector.set.Kinds as vector-set-kinds
+use Rattle.bitfield.proofs.BitVector.difference.Kinds as vector_difference_kinds
+use Rattle.bitfield.proofs.BitVector.difference.Reads as vector_difference-reads
+use Rattle.bitfield.proofs.BitVector.is_subset.Kinds as vector_is_subset_kinds
+use Rattle.bitfield.proofs.BitVector.is_subset.Reads as vector_is_subset-reads
+use Rattle.bitfield.proofs.BitVector.set.Kinds as vector-set_kinds
 use Rattle.bitfield.proofs.BitVector.set.Reads as vector-set-reads
-use Rattle.bitfield.proofs.BitVector.get.Kinds as vector-get-kinds
+use Rattle.bitfield.proofs.BitVector.get.Kinds as vector-get_kinds
 use Rattle.bitfield.proofs.BitVector.get.Reads as vector-get-reads
-use Rattle.bitfield.proofs.BitVector.highest_set_bit.Kinds as vector-highest-set-bit-kinds
+use Rattle.bitfield.proofs.BitVector.highest_set_bit.Kinds as vector-highest-set-bit_kinds
 use Rattle.bitfield.proofs.BitVector.highest_set_bit.Reads as vector-highest-set-bit-reads
-use Rattle.bitfield.proofs.BitVector.is_zero.Kinds as vector-is-zero-kinds
-use Rattle.bitfield.proofs.BitVector.is_zero.Reads as vector-is-zero-reads
-use Rattle.bitfield.proofs.BitVector.num_set_bits.Kinds as vector-num-set-bits-kinds
+use Rattle.bitfield.proofs.BitVector.is_zero.Kinds as vector_is_zero_kinds
+use Rattle.bitfield.proofs.BitVector.is_zero.Reads as vector_is_zero-reads
+use Rattle.bitfield.proofs.BitVector.num_set_bits.Kinds as vector-num-set-bits_kinds
 use Rattle.bitfield.proofs.BitVector.num_set_bits.Reads as vector-num-set-bits-reads
-use Rattle.bitfield.proofs.BitVector.not.Kinds as vector-not-kinds
-use Rattle.bitfield.proofs.BitVector.not.Reads as vector-not-reads
-use Rattle.bitfield.proofs.BitVector.shift_up.Kinds as vector-shift-up-kinds
-use Rattle.bitfield.proofs.BitVector.shift_up.Reads as vector-shift-up-reads
-use Rattle.bitfield.proofs.BitList.into_bytes.Kinds as list-into-bytes-kinds
-use Rattle.bitfield.proofs.BitList.into_bytes.Reads as list-into-bytes-reads
-use Rattle.bitfield.proofs.BitVector.into_bytes.Kinds as vector-into-bytes-kinds
-use Rattle.bitfield.proofs.BitVector.into_bytes.Reads as vector-into-bytes-reads
+use Rattle.bitfield.proofs.BitVector.not.Kinds as vector_not_kinds
+use Rattle.bitfield.proofs.BitVector.not.Reads as vector_not-reads
+use Rattle.bitfield.proofs.BitVector.shift_up.Kinds as vector_shift_up_kinds
+use Rattle.bitfield.proofs.BitVector.shift_up.Reads as vector_shift_up-reads
+use Rattle.bitfield.proofs.BitList.into_bytes.Kinds as list_into_bytes_kinds
+use Rattle.bitfield.proofs.BitList.into_bytes.Reads as list_into_bytes-reads
+use Rattle.bitfield.proofs.BitVector.into_bytes.Kinds as vector_into_bytes_kinds
+use Rattle.bitfield.proofs.BitVector.into_bytes.Reads as vector_into_bytes-reads
 
-pub bitlist-body-only : Only bitlist-body-kinds.ps bitlist-body-kinds.r bitlist-body-reads.Post
-bitlist-body-only κs a x y e f p q = only-answer _ x y p q
+pub bitlist_body_only : Only bitlist_body_kinds.ps bitlist_body_kinds.r bitlist_body_reads.Post
+bitlist_body_only κs a x y e f p q = only_answer _ x y p q
 
-pub bitvector-body-only : Only bitvector-body-kinds.ps bitvector-body-kinds.r bitvector-body-reads.Post
-bitvector-body-only κs a x y e f p q = only-answer _ x y p q
+pub bitvector_body_only : Only bitvector_body_kinds.ps bitvector_body_kinds.r bitvector_body_reads.Post
+bitvector_body_only κs a x y e f p q = only_answer _ x y p q
 
-pub list-with-capacity-only : Only list-with-capacity-kinds.ps list-with-capacity-kinds.r list-with-capacity-reads.Post
-list-with-capacity-only κs a x y e f p q = only-answer _ x y p q
+pub list_with_capacity_only : Only list_with_capacity_kinds.ps list_with_capacity_kinds.r list_with_capacity-reads.Post
+list_with_capacity_only κs a x y e f p q = only_answer _ x y p q
 
-pub list-resize-only : Only list-resize-kinds.ps list-resize-kinds.r list-resize-reads.Post
-list-resize-only κs a x y e f p q = only-answer _ x y p q
+pub list_resize_only : Only list_resize_kinds.ps list_resize_kinds.r list_resize-reads.Post
+list_resize_only κs a x y e f p q = only_answer _ x y p q
 
-pub list-clone-zeroed-only : Only list-clone-zeroed-kinds.ps list-clone-zeroed-kinds.r list-clone-zeroed-reads.Post
-list-clone-zeroed-only κs a x y e f p q = only-answer _ x y p q
+pub list_clone_zeroed_only : Only list_clone_zeroed_kinds.ps list_clone_zeroed_kinds.r list_clone_zeroed-reads.Post
+list_clone_zeroed_only κs a x y e f p q = only_answer _ x y p q
 
-pub list-from-bytes-only : Only list-from-bytes-kinds.ps list-from-bytes-kinds.r list-from-bytes-reads.Post
-list-from-bytes-only κs a x y e f p q = only-answer _ x y p q
+pub list-from-bytes_only : Only list-from-bytes_kinds.ps list-from-bytes_kinds.r list-from-bytes-reads.Post
+list-from-bytes_only κs a x y e f p q = only_answer _ x y p q
 
-pub list-intersection-only : Only list-intersection-kinds.ps list-intersection-kinds.r list-intersection-reads.Post
-list-intersection-only κs a x y e f p q = only-answer _ x y p q
+pub list_intersection_only : Only list_intersection_kinds.ps list_intersection_kinds.r list_intersection-reads.Post
+list_intersection_only κs a x y e f p q = only_answer _ x y p q
 
-pub list-union-only : Only list-union-kinds.ps list-union-kinds.r list-union-reads.Post
-list-union-only κs a x y e f p q = only-answer _ x y p q
+pub list-union_only : Only list-union_kinds.ps list-union_kinds.r list-union-reads.Post
+list-union_only κs a x y e f p q = only_answer _ x y p q
 
-pub list-difference-only : Only list-difference-kinds.ps list-difference-kinds.r list-difference-reads.Post
-list-difference-only κs a x y e f p q = only-answer _ x y p q
+pub list_difference_only : Only list_difference_kinds.ps list_difference_kinds.r list_difference-reads.Post
+list_difference_only κs a x y e f p q = only_answer _ x y p q
 
-pub list-is-subset-only : Only list-is-subset-kinds.ps list-is-subset-kinds.r list-is-subset-reads.Post
-list-is-subset-only κs a x y e f p q = only-answer _ x y p q
+pub list_is_subset_only : Only list_is_subset_kinds.ps list_is_subset_kinds.r list_is_subset-reads.Post
+list_is_subset_only κs a x y e f p q = only_answer _ x y p q
 
-pub list-set-only : Only list-set-kinds.ps list-set-kinds.r list-set-reads.Post
-list-set-only κs a x y e f p q = only-answer _ x y p q
+pub list-set_only : Only list-set_kinds.ps list-set_kinds.r list-set-reads.Post
+list-set_only κs a x y e f p q = only_answer _ x y p q
 
-pub list-get-only : Only list-get-kinds.ps list-get-kinds.r list-get-reads.Post
-list-get-only κs a x y e f p q = only-answer _ x y p q
+pub list-get_only : Only list-get_kinds.ps list-get_kinds.r list-get-reads.Post
+list-get_only κs a x y e f p q = only_answer _ x y p q
 
-pub list-highest-set-bit-only : Only list-highest-set-bit-kinds.ps list-highest-set-bit-kinds.r list-highest-set-bit-reads.Post
-list-highest-set-bit-only κs a x y e f p q = only-answer _ x y p q
+pub list-highest-set-bit_only : Only list-highest-set-bit_kinds.ps list-highest-set-bit_kinds.r list-highest-set-bit-reads.Post
+list-highest-set-bit_only κs a x y e f p q = only_answer _ x y p q
 
-pub list-is-zero-only : Only list-is-zero-kinds.ps list-is-zero-kinds.r list-is-zero-reads.Post
-list-is-zero-only κs a x y e f p q = only-answer _ x y p q
+pub list_is_zero_only : Only list_is_zero_kinds.ps list_is_zero_kinds.r list_is_zero-reads.Post
+list_is_zero_only κs a x y e f p q = only_answer _ x y p q
 
-pub list-num-set-bits-only : Only list-num-set-bits-kinds.ps list-num-set-bits-kinds.r list-num-set-bits-reads.Post
-list-num-set-bits-only κs a x y e f p q = only-answer _ x y p q
+pub list-num-set-bits_only : Only list-num-set-bits_kinds.ps list-num-set-bits_kinds.r list-num-set-bits-reads.Post
+list-num-set-bits_only κs a x y e f p q = only_answer _ x y p q
 
-pub list-not-only : Only list-not-kinds.ps list-not-kinds.r list-not-reads.Post
-list-not-only κs a x y e f p q = only-answer _ x y p q
+pub list_not_only : Only list_not_kinds.ps list_not_kinds.r list_not-reads.Post
+list_not_only κs a x y e f p q = only_answer _ x y p q
 
-pub list-shift-up-only : Only list-shift-up-kinds.ps list-shift-up-kinds.r list-shift-up-reads.Post
-list-shift-up-only κs a x y e f p q = only-answer _ x y p q
+pub list_shift_up_only : Only list_shift_up_kinds.ps list_shift_up_kinds.r list_shift_up-reads.Post
+list_shift_up_only κs a x y e f p q = only_answer _ x y p q
 
-pub vector-new-only : Only vector-new-kinds.ps vector-new-kinds.r vector-new-reads.Post
-vector-new-only κs a x y e f p q = only-answer _ x y p q
+pub vector-new_only : Only vector-new_kinds.ps vector-new_kinds.r vector-new-reads.Post
+vector-new_only κs a x y e f p q = only_answer _ x y p q
 
-pub vector-from-bytes-only : Only vector-from-bytes-kinds.ps vector-from-bytes-kinds.r vector-from-bytes-reads.Post
-vector-from-bytes-only κs a x y e f p q = only-answer _ x y p q
+pub vector-from-bytes_only : Only vector-from-bytes_kinds.ps vector-from-bytes_kinds.r vector-from-bytes-reads.Post
+vector-from-bytes_only κs a x y e f p q = only_answer _ x y p q
 
-pub vector-intersection-only : Only vector-intersection-kinds.ps vector-intersection-kinds.r vector-intersection-reads.Post
-vector-intersection-only κs a x y e f p q = only-answer _ x y p q
+pub vector_intersection_only : Only vector_intersection_kinds.ps vector_intersection_kinds.r vector_intersection-reads.Post
+vector_intersection_only κs a x y e f p q = only_answer _ x y p q
 
-pub vector-union-only : Only vector-union-kinds.ps vector-union-kinds.r vector-union-reads.Post
-vector-union-only κs a x y e f p q = only-answer _ x y p q
+pub vector-union_only : Only vector-union_kinds.ps vector-union_kinds.r vector-union-reads.Post
+vector-union_only κs a x y e f p q = only_answer _ x y p q
 
-pub vector-difference-only : Only vector-difference-kinds.ps vector-difference-kinds.r vector-difference-reads.Post
-vector-difference-only κs a x y e f p q = only-answer _ x y p q
+pub vector_difference_only : Only vector_difference_kinds.ps vector_difference_kinds.r vector_difference-reads.Post
+vector_difference_only κs a x y e f p q = only_answer _ x y p q
 
-pub vector-is-subset-only : Only vector-is-subset-kinds.ps vector-is-subset-kinds.r vector-is-subset-reads.Post
-vector-is-subset-only κs a x y e f p q = only-answer _ x y p q
+pub vector_is_subset_only : Only vector_is_subset_kinds.ps vector_is_subset_kinds.r vector_is_subset-reads.Post
+vector_is_subset_only κs a x y e f p q = only_answer _ x y p q
 
-pub vector-set-only : Only vector-set-kinds.ps vector-set-kinds.r vector-set-reads.Post
-vector-set-only κs a x y e f p q = only-answer _ x y p q
+pub vector-set_only : Only vector-set_kinds.ps vector-set_kinds.r vector-set-reads.Post
+vector-set_only κs a x y e f p q = only_answer _ x y p q
 
-pub vector-get-only : Only vector-get-kinds.ps vector-get-kinds.r vector-get-reads.Post
-vector-get-only κs a x y e f p q = only-answer _ x y p q
+pub vector-get_only : Only vector-get_kinds.ps vector-get_kinds.r vector-get-reads.Post
+vector-get_only κs a x y e f p q = only_answer _ x y p q
 
-pub vector-highest-set-bit-only : Only vector-highest-set-bit-kinds.ps vector-highest-set-bit-kinds.r vector-highest-set-bit-reads.Post
-vector-highest-set-bit-only κs a x y e f p q = only-answer _ x y p q
+pub vector-highest-set-bit_only : Only vector-highest-set-bit_kinds.ps vector-highest-set-bit_kinds.r vector-highest-set-bit-reads.Post
+vector-highest-set-bit_only κs a x y e f p q = only_answer _ x y p q
 
-pub vector-is-zero-only : Only vector-is-zero-kinds.ps vector-is-zero-kinds.r vector-is-zero-reads.Post
-vector-is-zero-only κs a x y e f p q = only-answer _ x y p q
+pub vector_is_zero_only : Only vector_is_zero_kinds.ps vector_is_zero_kinds.r vector_is_zero-reads.Post
+vector_is_zero_only κs a x y e f p q = only_answer _ x y p q
 
-pub vector-num-set-bits-only : Only vector-num-set-bits-kinds.ps vector-num-set-bits-kinds.r vector-num-set-bits-reads.Post
-vector-num-set-bits-only κs a x y e f p q = only-answer _ x y p q
+pub vector-num-set-bits_only : Only vector-num-set-bits_kinds.ps vector-num-set-bits_kinds.r vector-num-set-bits-reads.Post
+vector-num-set-bits_only κs a x y e f p q = only_answer _ x y p q
 
-pub vector-not-only : Only vector-not-kinds.ps vector-not-kinds.r vector-not-reads.Post
-vector-not-only κs a x y e f p q = only-answer _ x y p q
+pub vector_not_only : Only vector_not_kinds.ps vector_not_kinds.r vector_not-reads.Post
+vector_not_only κs a x y e f p q = only_answer _ x y p q
 
-pub vector-shift-up-only : Only vector-shift-up-kinds.ps vector-shift-up-kinds.r vector-shift-up-reads.Post
-vector-shift-up-only κs a x y e f p q = only-answer _ x y p q
+pub vector_shift_up_only : Only vector_shift_up_kinds.ps vector_shift_up_kinds.r vector_shift_up-reads.Post
+vector_shift_up_only κs a x y e f p q = only_answer _ x y p q
 
-pub list-into-bytes-only : Only list-into-bytes-kinds.ps list-into-bytes-kinds.r list-into-bytes-reads.Post
-list-into-bytes-only κs a x y e f p q = only-answer _ x y p.0 q.0
+pub list_into_bytes_only : Only list_into_bytes_kinds.ps list_into_bytes_kinds.r list_into_bytes-reads.Post
+list_into_bytes_only κs a x y e f p q = only_answer _ x y p.0 q.0
 
-pub vector-into-bytes-only : Only vector-into-bytes-kinds.ps vector-into-bytes-kinds.r vector-into-bytes-reads.Post
-vector-into-bytes-only κs a x y e f p q = only-answer _ x y p.0 q.0
+pub vector_into_bytes_only : Only vector_into_bytes_kinds.ps vector_into_bytes_kinds.r vector_into_bytes-reads.Post
+vector_into_bytes_only κs a x y e f p q = only_answer _ x y p.0 q.0
 
-pub list-into-bytes-leaves :
-    (κs : Lfts 1) (a : Dens κs list-into-bytes-kinds.ps) (x y : (res_t list-into-bytes-kinds.r κs).Denot)
-    (e f : AtExit (ended_of 1 list-into-bytes-kinds.ps list-into-bytes-kinds.r) κs)
-    → list-into-bytes-reads.Post κs a x e → list-into-bytes-reads.Post κs a y f → e.1.0.now ≡ f.1.0.now
-list-into-bytes-leaves κs a x y e f p q = only-answer _ _ _ p.1 q.1
+pub list_into_bytes_leaves :
+    (κs : Lfts 1) (a : Dens κs list_into_bytes_kinds.ps) (x y : (res_t list_into_bytes_kinds.r κs).Denot)
+    (e f : AtExit (ended_of 1 list_into_bytes_kinds.ps list_into_bytes_kinds.r) κs)
+    → list_into_bytes-reads.Post κs a x e → list_into_bytes-reads.Post κs a y f → e.1.0.now ≡ f.1.0.now
+list_into_bytes_leaves κs a x y e f p q = only_answer _ _ _ p.1 q.1
 
-pub vector-into-bytes-leaves :
-    (κs : Lfts 1) (a : Dens κs vector-into-bytes-kinds.ps) (x y : (res_t vector-into-bytes-kinds.r κs).Denot)
-    (e f : AtExit (ended_of 1 vector-into-bytes-kinds.ps vector-into-bytes-kinds.r) κs)
-    → vector-into-bytes-reads.Post κs a x e → vector-into-bytes-reads.Post κs a y f → e.1.0.now ≡ f.1.0.now
-vector-into-bytes-leaves κs a x y e f p q = only-answer _ _ _ p.1 q.1
+pub vector_into_bytes_leaves :
+    (κs : Lfts 1) (a : Dens κs vector_into_bytes_kinds.ps) (x y : (res_t vector_into_bytes_kinds.r κs).Denot)
+    (e f : AtExit (ended_of 1 vector_into_bytes_kinds.ps vector_into_bytes_kinds.r) κs)
+    → vector_into_bytes-reads.Post κs a x e → vector_into_bytes-reads.Post κs a y f → e.1.0.now ≡ f.1.0.now
+vector_into_bytes_leaves κs a x y e f p q = only_answer _ _ _ p.1 q.1

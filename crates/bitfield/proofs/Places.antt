@@ -15,8 +15,8 @@ use lib.Seq.{drop-cons, length-take-le}
 use Rattle.standard.specs.Bytes.{Bytes, le, num}
 use Rattle.standard.specs.Bits.{bit}
 use Rattle.standard.proofs.Bytes.{le-num, num-bound, bytes_take}
-use Rattle.standard.proofs.Bits.{pow-bytes, num-append}
-use Rattle.bitfield.specs.Body.{bytesFor}
+use Rattle.standard.proofs.Bits.{pow_bytes, num-append}
+use Rattle.bitfield.specs.Body.{bytes_for_lem}
 use Rattle.bitfield.specs.Raw.{Raw, mask_of}
 use Rattle.bitfield.specs.Facts.{Put}
 use Rattle.bitfield.proofs.Tops.{byte_at}
@@ -64,7 +64,7 @@ pub bit-place : (l : List ℕ) (i : ℕ) → Bytes l → i / 8 < length l → nu
 bit-place l i b h =
     let e : i ≡ 8 * (i / 8) + i % 8 = omega arith in
     let s = shr-shr (num l) (8 * (i / 8)) (i % 8) in
-    let p = pow-bytes (i / 8) in
+    let p = pow_bytes (i / 8) in
     let x = num-byte l (i / 8) b h in
     let j : i % 8 < 8 = omega arith in
     ap (λ (k : ℕ). num l / 2 ^ k % 2) e ∙ rw (← s, ← p, ← x) (low_bit (num l / 256 ^ (i / 8)) (i % 8) j)
@@ -82,16 +82,16 @@ bit-place l i b h =
     low_bit n (suc (suc (suc (suc (suc (suc (suc (suc j)))))))) h = absurd (omega arith)
 
 -- What is left of x without y
-pub and-rest : (k x y : ℕ) → x < 2 ^ k → y < 2 ^ k → bit_and x (2 ^ k - 1 - y) + bit_and x y ≡ x
-and-rest zero x y h k =
+pub and_rest : (k x y : ℕ) → x < 2 ^ k → y < 2 ^ k → bit_and x (2 ^ k - 1 - y) + bit_and x y ≡ x
+and_rest zero x y h k =
     let e : x ≡ 0 = omega arith in
     let p = and_le_l x (2 ^ 0 - 1 - y) in
     let q = and_le_l x y in
     omega arith
-and-rest (suc k) x y h g =
+and_rest (suc k) x y h g =
     let h' = rw (pow-succ' 2 k) at h in
     let g' = rw (pow-succ' 2 k) at g in
-    let r = and-rest k (x / 2) (y / 2) (omega arith) (omega arith) in
+    let r = and_rest k (x / 2) (y / 2) (omega arith) (omega arith) in
     let half : (2 * 2 ^ k - 1 - y) / 2 ≡ 2 ^ k - 1 - y / 2 = omega arith in
     let odd : (2 * 2 ^ k - 1 - y) % 2 ≡ 1 - y % 2 = omega arith in
     let bits = one-rest (x % 2) (y % 2) (omega arith) (omega arith) in
@@ -103,8 +103,8 @@ and-rest (suc k) x y h g =
     halves : (x a b m n : ℕ) → a + b ≡ x / 2 → m + n ≡ x % 2 → a * 2 + m + (b * 2 + n) ≡ x
     halves x a b m n h k = omega arith
 
-pub and-not : (x y : ℕ) → x < 256 → y < 256 → bit_and x (255 - y) ≡ x - bit_and x y
-and-not x y h k = omega (arith, and-rest 8 x y h k)
+pub and_not : (x y : ℕ) → x < 256 → y < 256 → bit_and x (255 - y) ≡ x - bit_and x y
+and_not x y h k = omega (arith, and_rest 8 x y h k)
 
 -- One bit alone: and, or
 and_one : (x j : ℕ) → bit_and x (2 ^ j) ≡ 2 ^ j * (x / 2 ^ j % 2)
@@ -121,12 +121,12 @@ and_one x (suc j) =
 pub bit-on : (x j : ℕ) → bit_or x (2 ^ j) + 2 ^ j * (x / 2 ^ j % 2) ≡ x + 2 ^ j
 bit-on x j = rw (← and_one x j) (or_add_and x (2 ^ j))
 
-pub bit-off : (x j : ℕ) → x < 256 → j < 8 → bit_and x (255 - 2 ^ j) + 2 ^ j * (x / 2 ^ j % 2) ≡ x
-bit-off x j h k =
+pub bit_off : (x j : ℕ) → x < 256 → j < 8 → bit_and x (255 - 2 ^ j) + 2 ^ j * (x / 2 ^ j % 2) ≡ x
+bit_off x j h k =
     let p : 2 ^ suc j ≤ 2 ^ 8 = pow_mono k in
     let q = pow-succ' 2 j in
     let z = pow_pos j in
-    rw (← and_one x j) (and-rest 8 x (2 ^ j) h (omega arith))
+    rw (← and_one x j) (and_rest 8 x (2 ^ j) h (omega arith))
 
 -- A bit of a byte changed, as a number
 pub put-bit : (l : List ℕ) (i v' : ℕ) (v : Bool) → Raw l → i < 2048 → v' < 256
@@ -135,7 +135,7 @@ pub put-bit : (l : List ℕ) (i v' : ℕ) (v : Bool) → Raw l → i < 2048 → 
 put-bit l i v' v r h b e =
     let k : i / 8 < length l = rw r.long (omega arith) in
     let s = num-set l (i / 8) v' k in
-    let d : 2 ^ i ≡ 256 ^ (i / 8) * 2 ^ (i % 8) = rw (pow-bytes (i / 8), ← pow-add 2 (8 * (i / 8)) (i % 8)) (ap (λ (n : ℕ). 2 ^ n) (omega arith)) in
+    let d : 2 ^ i ≡ 256 ^ (i / 8) * 2 ^ (i % 8) = rw (pow_bytes (i / 8), ← pow-add 2 (8 * (i / 8)) (i % 8)) (ap (λ (n : ℕ). 2 ^ n) (omega arith)) in
     let q = bit-place l i r.bytes k in
     record { raw = raw-set l (i / 8) v' r b; number = rw (q, d) (scaled _ _ _ _ _ _ _ (bit v) s e) }
   where
@@ -145,15 +145,15 @@ put-bit l i v' v r h b e =
         omega arith
 
 -- The mask keeps the bits below the end.
-pub mask-keeps : (x len : ℕ) → 0 < len → bit_and x (mask_of len) ≡ x % 2 ^ ((len - 1) % 8 + 1)
+pub mask_keeps : (x len : ℕ) → 0 < len → bit_and x (mask_of len) ≡ x % 2 ^ ((len - 1) % 8 + 1)
 unfolding mask_of
-mask-keeps x zero h = absurd (omega arith)
-mask-keeps x (suc n) h = let e : suc n - 1 ≡ n = omega arith in rw e (and_mask x (n % 8 + 1))
+mask_keeps x zero h = absurd (omega arith)
+mask_keeps x (suc n) h = let e : suc n - 1 ≡ n = omega arith in rw e (and_mask x (n % 8 + 1))
 
 -- The first q bytes of a number, and the k lowest bits of the next one
 low_part : (a x q k : ℕ) → a < 256 ^ q → (a + 256 ^ q * x) % 2 ^ (k + 8 * q) ≡ a + 256 ^ q * (x % 2 ^ k)
 low_part a x q k h =
-    let p = pow-bytes q in
+    let p = pow_bytes q in
     let b : a < 2 ^ (8 * q) = omega arith in
     let e : a + 256 ^ q * x ≡ x * 2 ^ (8 * q) + a = rw p (omega arith) in
     let m = Pow.mod-pow-add (x * 2 ^ (8 * q) + a) k (8 * q) in
@@ -175,17 +175,17 @@ cut_at l q k r h z =
     let e : num (set l q (x % 2 ^ k)) ≡ num l % 2 ^ (k + 8 * q) = rw (n', w) (omega arith) in
     raw-le _ (raw-set l q (x % 2 ^ k) r (omega arith)) ∙ ap (le 256) e
 
-pub cut-law : (l : List ℕ) (len : ℕ) → Raw l → len ≤ 2048 → 0 < len → num l < 2 ^ (8 * bytesFor len)
-    → set l (bytesFor len - 1) (bit_and (get_or l (bytesFor len - 1) 0) (mask_of len)) ≡ le 256 (num l % 2 ^ len)
-cut-law l len r h p b =
-    let q : bytesFor len - 1 ≡ (len - 1) / 8 = omega arith in
-    let w : bytesFor len ≡ suc ((len - 1) / 8) = omega arith in
+pub cut_law : (l : List ℕ) (len : ℕ) → Raw l → len ≤ 2048 → 0 < len → num l < 2 ^ (8 * bytes_for_lem len)
+    → set l (bytes_for_lem len - 1) (bit_and (get_or l (bytes_for_lem len - 1) 0) (mask_of len)) ≡ le 256 (num l % 2 ^ len)
+cut_law l len r h p b =
+    let q : bytes_for_lem len - 1 ≡ (len - 1) / 8 = omega arith in
+    let w : bytes_for_lem len ≡ suc ((len - 1) / 8) = omega arith in
     let e : len ≡ (len - 1) % 8 + 1 + 8 * ((len - 1) / 8) = omega arith in
     let z = cut_below l (suc ((len - 1) / 8)) 0 r.bytes (rw r.long (omega arith)) (rw (w, ← add-zero (8 * suc ((len - 1) / 8))) at b) in
-    rw (q, mask-keeps _ len p) (cut_at l ((len - 1) / 8) ((len - 1) % 8 + 1) r (omega arith) (omega arith) ∙ ap (λ (n : ℕ). le 256 (num l % 2 ^ n)) (sym e))
+    rw (q, mask_keeps _ len p) (cut_at l ((len - 1) / 8) ((len - 1) % 8 + 1) r (omega arith) (omega arith) ∙ ap (λ (n : ℕ). le 256 (num l % 2 ^ n)) (sym e))
 
 -- Nothing in use: nothing to cut
-pub cut-none : (l : List ℕ) (len : ℕ) → Raw l → bytesFor len ≡ 0 → num l < 2 ^ (8 * bytesFor len) → l ≡ le 256 (num l % 2 ^ len)
+pub cut-none : (l : List ℕ) (len : ℕ) → Raw l → bytes_for_lem len ≡ 0 → num l < 2 ^ (8 * bytes_for_lem len) → l ≡ le 256 (num l % 2 ^ len)
 cut-none l len r e b =
     let z : num l ≡ 0 = omega (arith, rw e at b) in
     let m = mod-le (num l) (2 ^ len) in
@@ -193,10 +193,10 @@ cut-none l len r e b =
     rw n (raw-le l r)
 
 -- The mask is made by a shift of all ones.
-pub mask-shifted : (len : ℕ) → (len ≡ 0 → ⊥) → 255 / 2 ^ ((8 - len % 8) % 8) ≡ mask_of len
+pub mask_shifted : (len : ℕ) → (len ≡ 0 → ⊥) → 255 / 2 ^ ((8 - len % 8) % 8) ≡ mask_of len
 unfolding mask_of
-mask-shifted zero h = absurd (h refl)
-mask-shifted (suc n) h = let e : (8 - suc n % 8) % 8 ≡ 7 - n % 8 = omega arith in rw e (ones_above (n % 8) (omega arith))
+mask_shifted zero h = absurd (h refl)
+mask_shifted (suc n) h = let e : (8 - suc n % 8) % 8 ≡ 7 - n % 8 = omega arith in rw e (ones_above (n % 8) (omega arith))
   where
     ones_above : (r : ℕ) → r < 8 → 255 / 2 ^ (7 - r) ≡ 2 ^ (r + 1) - 1
     ones_above zero h = refl
@@ -213,8 +213,8 @@ mask-shifted (suc n) h = let e : (8 - suc n % 8) % 8 ≡ 7 - n % 8 = omega arith
 pub one_shifted : (j : ℕ) → j < 8 → (1 * 2 ^ j) % 256 ≡ 2 ^ j
 one_shifted j h = shl_exact {a = 1} 1 j 8 (omega arith) (omega arith) ∙ omega arith
 
-pub byte-shifted : (x j : ℕ) → x < 256 → j < 8 → ((x * 2 ^ j) % 2 ^ 64 ≡ x * 2 ^ j) × (x * 2 ^ j ≤ 255 * 2 ^ j) × (2 ^ j ≤ 128)
-byte-shifted x j b h = (shl_exact 8 j 64 b (omega arith), mul-le-mul_right (2 ^ j) (omega arith), pow_mono {j = 7} (omega arith))
+pub byte_shifted : (x j : ℕ) → x < 256 → j < 8 → ((x * 2 ^ j) % 2 ^ 64 ≡ x * 2 ^ j) × (x * 2 ^ j ≤ 255 * 2 ^ j) × (2 ^ j ≤ 128)
+byte_shifted x j b h = (shl_exact 8 j 64 b (omega arith), mul-le-mul_right (2 ^ j) (omega arith), pow_mono {j = 7} (omega arith))
 
 -- The lowest bit of what is left behind a shift
 pub bit_test : (n m : ℕ) → n ≡ m % 2 → eqb (bit_and m 1) 1 ≡ eqb n 1

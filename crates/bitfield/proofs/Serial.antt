@@ -8,47 +8,47 @@ use borrow.Author.Tests.{le-leb}
 use lib.ListN.{length, drop}
 use Rattle.standard.specs.Bits.{pack, marked, packs}
 use Rattle.standard.specs.Bytes.{Bytes, num}
-use Rattle.standard.specs.Types.{bitList, bitVector}
+use Rattle.standard.specs.Types.{bit_list, bit_vector}
 use Rattle.standard.specs.Serialize.{serialize}
 use Rattle.standard.specs.declared.Refusal.{Refusal}
-use Rattle.standard.proofs.Bits.{bits_of, bitsOf-bitNum, num-pack, marked-injective, length-bitsOf}
+use Rattle.standard.proofs.Bits.{bits_of, bits_of-bit_num, num-pack, marked-injective, length-bits_of}
 use Rattle.standard.specs.declared.Told.{Told}
 use Rattle.standard.specs.declared.Told.TheVariants.{Fine, Refused}
 use Rattle.bitfield.specs.declared.BodyBits.{BodyBits}
 use Rattle.bitfield.specs.declared.BodyBits.TheVariants.{Bits, Refused as NoBody}
-use Rattle.bitfield.specs.Body.{bitListBody, bytesFor}
-use Rattle.bitfield.specs.Held.{limited, rawBytes, and_then, written}
+use Rattle.bitfield.specs.Body.{bit_list_body, bytes_for_lem}
+use Rattle.bitfield.specs.Held.{limited, raw_bytes_lem, and_then, written}
 use Rattle.bitfield.specs.declared.BitList.{BitList}
 use Rattle.bitfield.specs.declared.BitVector.{BitVector}
 use Rattle.bitfield.specs.Lists as Lists
-use Rattle.bitfield.specs.Lists.{listAnswer, noList, ofBody, listFromBytes, listRoom, listBuffer}
+use Rattle.bitfield.specs.Lists.{list_answer, no_list, of_body, list_from_bytes, list_room, list_buffer}
 use Rattle.bitfield.specs.Vectors as Vectors
-use Rattle.bitfield.specs.Vectors.{vectorAnswer, noVector, vectorFromBytes, vectorRoom, vectorBuffer}
+use Rattle.bitfield.specs.Vectors.{vector_answer, no_vector, vector_from_bytes, vector_room, vector_buffer}
 use Rattle.bitfield.proofs.Standard.{list-sound, list-complete, vector-complete}
-use Rattle.bitfield.proofs.Tolds.{limited-fine}
+use Rattle.bitfield.proofs.Tolds.{limited_fine}
 
 small : (n : ℕ) → n ≤ 2048 → limited n ≡ Fine
 unfolding limited
 small n h = rw (le-leb n 2048 h)
 
 -- What into_bytes writes is the serialization, and the rest of the buffer is kept.
-pub list_written : (t limit : ℕ) (a : BitList) (out : List ℕ) → listRoom a (length out) ≡ Fine
-    → listBuffer a out ≡ serialize (bitList t limit) (Lists.bits a) ++ drop (length (serialize (bitList t limit) (Lists.bits a))) out
-unfolding listBuffer serialize
+pub list_written : (t limit : ℕ) (a : BitList) (out : List ℕ) → list_room a (length out) ≡ Fine
+    → list_buffer a out ≡ serialize (bit_list t limit) (Lists.bits a) ++ drop (length (serialize (bit_list t limit) (Lists.bits a))) out
+unfolding list_buffer serialize
 list_written t limit a out e = rw e
 
-pub raw-pack : (bs : List Bool) → 1 ≤ length bs → rawBytes bs ≡ pack bs
-unfolding rawBytes pack
-raw-pack bs h = let e : max 1 (bytesFor (length bs)) ≡ bytesFor (length bs) = omega arith in rw e
+pub raw-pack : (bs : List Bool) → 1 ≤ length bs → raw_bytes_lem bs ≡ pack bs
+unfolding raw_bytes_lem pack
+raw-pack bs h = let e : max 1 (bytes_for_lem (length bs)) ≡ bytes_for_lem (length bs) = omega arith in rw e
 
-pub vector-written : (t n : ℕ) (a : BitVector) (out : List ℕ) → 1 ≤ length (Vectors.bits a) → vectorRoom a (length out) ≡ Fine
-    → vectorBuffer a out ≡ serialize (bitVector t n) (Vectors.bits a) ++ drop (length (serialize (bitVector t n) (Vectors.bits a))) out
-unfolding vectorBuffer serialize
+pub vector-written : (t n : ℕ) (a : BitVector) (out : List ℕ) → 1 ≤ length (Vectors.bits a) → vector_room a (length out) ≡ Fine
+    → vector_buffer a out ≡ serialize (bit_vector t n) (Vectors.bits a) ++ drop (length (serialize (bit_vector t n) (Vectors.bits a))) out
+unfolding vector_buffer serialize
 vector-written t n a out h e = rw (e, raw-pack (Vectors.bits a) h)
 
 -- from_bytes reads every serialization of at most N bits, as those bits,
-pub list_read : (t : ℕ) (bs : List Bool) (n : ℕ) → n ≤ 2048 → length bs ≤ n → listFromBytes (serialize (bitList t n) bs) n ≡ listAnswer Fine noList bs n
-unfolding listFromBytes serialize
+pub list_read : (t : ℕ) (bs : List Bool) (n : ℕ) → n ≤ 2048 → length bs ≤ n → list_from_bytes (serialize (bit_list t n) bs) n ≡ list_answer Fine no_list bs n
+unfolding list_from_bytes serialize
 list_read t bs n h k =
     let b = list-complete bs n k in
     let s = (list-sound (marked bs) n (length bs) (Rattle.standard.proofs.Bits.bytes-marked bs) b).0 in
@@ -56,22 +56,22 @@ list_read t bs n h k =
     rw (small n h, b, same)
 
 -- and nothing else.
-from-body : (told : Told) (body : BodyBits) (l : List ℕ) (n : ℕ) → (ofBody told body l n).told ≡ Fine → (k : ℕ) × (body ≡ Bits k)
+from-body : (told : Told) (body : BodyBits) (l : List ℕ) (n : ℕ) → (of_body told body l n).told ≡ Fine → (k : ℕ) × (body ≡ Bits k)
 from-body (Refused x) body l n e = let w : ◌≡◌ {A = ℕ} 0 1 = cc in absurd (omega arith)
 from-body Fine (NoBody x) l n e = let w : ◌≡◌ {A = ℕ} 0 1 = cc in absurd (omega arith)
 from-body Fine (Bits k) l n e = (k, refl)
 
-pub list-read-only : (t : ℕ) (l : List ℕ) (n : ℕ) → Bytes l → (listFromBytes l n).told ≡ Fine
-    → (bs : List Bool) × (serialize (bitList t n) bs ≡ l) × (length bs ≤ n)
-unfolding listFromBytes serialize
-list-read-only t l n b e =
-    let k = from-body (limited n) (bitListBody l n) l n e in
+pub list-read_only : (t : ℕ) (l : List ℕ) (n : ℕ) → Bytes l → (list_from_bytes l n).told ≡ Fine
+    → (bs : List Bool) × (serialize (bit_list t n) bs ≡ l) × (length bs ≤ n)
+unfolding list_from_bytes serialize
+list-read_only t l n b e =
+    let k = from-body (limited n) (bit_list_body l n) l n e in
     let s = list-sound l n k.0 b k.1 in
-    (bits_of k.0 (num l), s.0, rw (length-bitsOf k.0 (num l)) s.1)
+    (bits_of k.0 (num l), s.0, rw (length-bits_of k.0 (num l)) s.1)
 
 pub vector-read : (t : ℕ) (bs : List Bool) → 1 ≤ length bs → length bs ≤ 2048
-    → vectorFromBytes (serialize (bitVector t (length bs)) bs) (length bs) ≡ vectorAnswer Fine noVector bs (length bs)
-unfolding vectorFromBytes serialize
+    → vector_from_bytes (serialize (bit_vector t (length bs)) bs) (length bs) ≡ vector_answer Fine no_vector bs (length bs)
+unfolding vector_from_bytes serialize
 vector-read t bs h k =
-    let same : bits_of (length bs) (num (pack bs)) ≡ bs = rw (num-pack bs) (bitsOf-bitNum bs) in
+    let same : bits_of (length bs) (num (pack bs)) ≡ bs = rw (num-pack bs) (bits_of-bit_num bs) in
     rw (small (length bs) k, vector-complete bs h, same)

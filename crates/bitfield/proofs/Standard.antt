@@ -10,14 +10,14 @@ use borrow.Author.Tests.{eqb-true, leb-true, ltb-true, eq-eqb, ne_eqb, le-leb, l
 use lib.Dec.{eqb, leb, ltb}
 use lib.ListN.{length}
 use Rattle.standard.specs.Bytes.{Bytes, num}
-use Rattle.standard.specs.Bits.{pack, marked, bitNum}
+use Rattle.standard.specs.Bits.{pack, marked, bit_num}
 use Rattle.standard.specs.Choice.{pick}
 use Rattle.standard.specs.declared.Refusal.{Refusal}
 use Rattle.standard.specs.declared.Refusal.TheVariants.{OutOfBounds, ExcessBits, InvalidByteCount}
 use Rattle.standard.proofs.Bytes.{num-bound}
-use Rattle.standard.proofs.Bits.{bits_of, length-bitsOf, bitNum-bound, marked-bits, marked-injective, num-marked, length_marked, pack-bits}
-use Rattle.standard.proofs.Bits.{pack-injective, num-pack, length-pack, pow-bytes}
-use Rattle.bitfield.specs.Body.{highest, allBits, markedAt, bitListBody, bitVectorBody, bytesFor}
+use Rattle.standard.proofs.Bits.{bits_of, length-bits_of, bit_num-bound, marked-bits, marked-injective, num-marked, length_marked, pack-bits}
+use Rattle.standard.proofs.Bits.{pack-injective, num-pack, length-pack, pow_bytes}
+use Rattle.bitfield.specs.Body.{highest, all_bits, marked_at, bit_list_body, bit_vector_body, bytes_for_lem}
 use Rattle.bitfield.specs.declared.Top.{Top}
 use Rattle.bitfield.specs.declared.Top.TheVariants.{At, Nothing}
 use Rattle.standard.specs.declared.Told.TheVariants.{Fine, Refused as Refusing}
@@ -32,33 +32,33 @@ placed j given n k x y true true p q e = (cc, eqb-true _ _ p, leb-true _ _ q)
 placed j given n k x y true false p q e = let w : ◌≡◌ {A = ℕ} 0 1 = cc in absurd (omega arith)
 placed j given n k x y false t p q e = let w : ◌≡◌ {A = ℕ} 0 1 = cc in absurd (omega arith)
 
-topped : (s : Bool) (t : Top) (given n k : ℕ) → pick s (Refused ExcessBits) (markedAt t given n) ≡ Bits k
+topped : (s : Bool) (t : Top) (given n k : ℕ) → pick s (Refused ExcessBits) (marked_at t given n) ≡ Bits k
     → (t ≡ At k) × (given ≡ k / 8 + 1) × (k ≤ n)
 topped true t given n k e = let w : ◌≡◌ {A = ℕ} 0 1 = cc in absurd (omega arith)
 topped false Nothing given n k e = let w : ◌≡◌ {A = ℕ} 0 1 = cc in absurd (omega arith)
 topped false (At j) given n k e = let p = placed j given n k _ _ _ _ refl refl e in (ap At p.0, rw p.0 at p.1, rw p.0 at p.2)
 
 -- What an accepted body has
-pub list-says : (l : List ℕ) (n k : ℕ) → bitListBody l n ≡ Bits k → (length l ≡ k / 8 + 1) × (k ≤ n)
-unfolding bitListBody
-list-says l n k e = let t = topped (eqb (length l) 0) (highest (allBits l)) (length l) n k e in (t.1, t.2)
+pub list-says : (l : List ℕ) (n k : ℕ) → bit_list_body l n ≡ Bits k → (length l ≡ k / 8 + 1) × (k ≤ n)
+unfolding bit_list_body
+list-says l n k e = let t = topped (eqb (length l) 0) (highest (all_bits l)) (length l) n k e in (t.1, t.2)
 
 -- A bit list's body: sound, complete, and one
-pub list-sound : (l : List ℕ) (n k : ℕ) → Bytes l → bitListBody l n ≡ Bits k → (marked (bits_of k (num l)) ≡ l) × (k ≤ n)
-unfolding bitListBody
+pub list-sound : (l : List ℕ) (n k : ℕ) → Bytes l → bit_list_body l n ≡ Bits k → (marked (bits_of k (num l)) ≡ l) × (k ≤ n)
+unfolding bit_list_body
 list-sound l n k b e =
-    let t = topped (eqb (length l) 0) (highest (allBits l)) (length l) n k e in
+    let t = topped (eqb (length l) 0) (highest (all_bits l)) (length l) n k e in
     let f = num-bound l b in
-    let p = pow-bytes (length l) in
+    let p = pow_bytes (length l) in
     let s = highest-says (8 * length l) (num l) k (omega arith) t.0 in
     (marked-bits l k b t.1 s.0 s.1, t.2)
 
-pub list-complete : (bs : List Bool) (n : ℕ) → length bs ≤ n → bitListBody (marked bs) n ≡ Bits (length bs)
-unfolding bitListBody
+pub list-complete : (bs : List Bool) (n : ℕ) → length bs ≤ n → bit_list_body (marked bs) n ≡ Bits (length bs)
+unfolding bit_list_body
 list-complete bs n h =
     let l = length_marked bs in
     let e = num-marked bs in
-    let b = bitNum-bound bs in
+    let b = bit_num-bound bs in
     let p = pow-succ' 2 (length bs) in
     let t = highest-at (8 * length (marked bs)) (num (marked bs)) (length bs) (omega arith) (omega arith) (omega arith) in
     rw (ne_eqb (length (marked bs)) 0 (omega arith), t, eq-eqb (length (marked bs)) (length bs / 8 + 1) l, le-leb (length bs) n h)
@@ -69,11 +69,11 @@ pub record ListBits (l : List ℕ) (n k : ℕ) (bs : List Bool) : Type 0 where
   pub count : length bs ≡ k
   pub limit : k ≤ n
 
-pub list-iff : (l : List ℕ) (n k : ℕ) → Bytes l → (bitListBody l n ≡ Bits k) ↔ ((bs : List Bool) × ListBits l n k bs)
-list-iff l n k b = (
-  (λ (e : bitListBody l n ≡ Bits k).
+pub list_iff : (l : List ℕ) (n k : ℕ) → Bytes l → (bit_list_body l n ≡ Bits k) ↔ ((bs : List Bool) × ListBits l n k bs)
+list_iff l n k b = (
+  (λ (e : bit_list_body l n ≡ Bits k).
       let s = list-sound l n k b e in
-      (bits_of k (num l), record { written = s.0; count = length-bitsOf k (num l); limit = s.1 })),
+      (bits_of k (num l), record { written = s.0; count = length-bits_of k (num l); limit = s.1 })),
   (λ (s : (bs : List Bool) × ListBits l n k bs).
       let e = list-complete s.0 n (rw s.1.count s.1.limit) in
       rw (s.1.written, s.1.count) at e),
@@ -89,35 +89,35 @@ kept true false x e = let w : ◌≡◌ {A = ℕ} 0 1 = cc in absurd (omega arit
 kept false t x e = let w : ◌≡◌ {A = ℕ} 0 1 = cc in absurd (omega arith)
 
 -- Where n bits are accepted there are bytes for them; for none there is one.
-pub vector-says : (l : List ℕ) (n : ℕ) → bitVectorBody l n ≡ Fine → bytesFor n ≤ length l
-unfolding bitVectorBody
+pub vector-says : (l : List ℕ) (n : ℕ) → bit_vector_body l n ≡ Fine → bytes_for_lem n ≤ length l
+unfolding bit_vector_body
 vector-says l n e = ⊎_elim none some (eq-zero-or-pos n)
   where
-    none : n ≡ 0 → bytesFor n ≤ length l
+    none : n ≡ 0 → bytes_for_lem n ≤ length l
     none z = rw z (omega arith)
 
-    some : 0 < n → bytesFor n ≤ length l
+    some : 0 < n → bytes_for_lem n ≤ length l
     some p =
         let f = rw (ne_eqb n 0 (omega arith)) at e in
-        let k = kept (eqb (length l) (bytesFor n)) (ltb (num l) (2 ^ n)) _ f in
-        let q : length l ≡ bytesFor n = eqb-true _ _ k.0 in
+        let k = kept (eqb (length l) (bytes_for_lem n)) (ltb (num l) (2 ^ n)) _ f in
+        let q : length l ≡ bytes_for_lem n = eqb-true _ _ k.0 in
         omega arith
 
-pub vector-sound : (l : List ℕ) (n : ℕ) → Bytes l → 1 ≤ n → bitVectorBody l n ≡ Fine → pack (bits_of n (num l)) ≡ l
-unfolding bitVectorBody
+pub vector-sound : (l : List ℕ) (n : ℕ) → Bytes l → 1 ≤ n → bit_vector_body l n ≡ Fine → pack (bits_of n (num l)) ≡ l
+unfolding bit_vector_body
 vector-sound l n b h e =
     let f = rw (ne_eqb n 0 (omega arith)) at e in
-    let k = kept (eqb (length l) (bytesFor n)) (ltb (num l) (2 ^ n)) _ f in
+    let k = kept (eqb (length l) (bytes_for_lem n)) (ltb (num l) (2 ^ n)) _ f in
     pack-bits l n b (eqb-true _ _ k.0) (ltb-true _ _ k.1)
 
-pub vector-complete : (bs : List Bool) → 1 ≤ length bs → bitVectorBody (pack bs) (length bs) ≡ Fine
-unfolding bitVectorBody
+pub vector-complete : (bs : List Bool) → 1 ≤ length bs → bit_vector_body (pack bs) (length bs) ≡ Fine
+unfolding bit_vector_body
 vector-complete bs h =
-    let b = bitNum-bound bs in
+    let b = bit_num-bound bs in
     let e = num-pack bs in
     rw (
       ne_eqb (length bs) 0 (omega arith),
-      eq-eqb (length (pack bs)) (bytesFor (length bs)) (length-pack bs),
+      eq-eqb (length (pack bs)) (bytes_for_lem (length bs)) (length-pack bs),
       lt-ltb (num (pack bs)) (2 ^ length bs)
           (omega arith),
     )
@@ -127,10 +127,10 @@ pub record VectorBits (l : List ℕ) (n : ℕ) (bs : List Bool) : Type 0 where
   pub written : pack bs ≡ l
   pub count : length bs ≡ n
 
-pub vector-iff : (l : List ℕ) (n : ℕ) → Bytes l → 1 ≤ n → (bitVectorBody l n ≡ Fine) ↔ ((bs : List Bool) × VectorBits l n bs)
-vector-iff l n b h = (
-  (λ (e : bitVectorBody l n ≡ Fine).
-      (bits_of n (num l), record { written = vector-sound l n b h e; count = length-bitsOf n (num l) })),
+pub vector_iff : (l : List ℕ) (n : ℕ) → Bytes l → 1 ≤ n → (bit_vector_body l n ≡ Fine) ↔ ((bs : List Bool) × VectorBits l n bs)
+vector_iff l n b h = (
+  (λ (e : bit_vector_body l n ≡ Fine).
+      (bits_of n (num l), record { written = vector-sound l n b h e; count = length-bits_of n (num l) })),
   (λ (s : (bs : List Bool) × VectorBits l n bs).
       let e = vector-complete s.0 (rw s.1.count h) in
       rw (s.1.written, s.1.count) at e),

@@ -12,124 +12,124 @@ use lib.Pow.{pow_pos, pow_mono, pow-add}
 use lib.Pow as Pow
 use lib.ListN.{length, get_or, set, take, drop, replicate, length-replicate, length-set, length-take}
 use Rattle.standard.specs.Bytes.{Bytes, le, num}
-use Rattle.standard.specs.Bits.{bit, bitNum, packs}
+use Rattle.standard.specs.Bits.{bit, bit_num, packs}
 use Rattle.standard.proofs.Bytes.{length-le, bytes_le, num-le}
-use Rattle.standard.proofs.Bits.{bits_of, length-bitsOf, bitNum-bitsOf, bitNum-low, bitsOf-bitNum, bitNum-bound, packs-le, pow-bytes, num-packs}
+use Rattle.standard.proofs.Bits.{bits_of, length-bits_of, bit_num-bits_of, bit_num-low, bits_of-bit_num, bit_num-bound, packs-le, pow_bytes, num-packs}
 use Rattle.bitfield.specs.declared.raw.Op.{Op}
 use Rattle.bitfield.specs.declared.raw.Op.TheVariants.{And, Or, AndNot, Not}
 use Rattle.bitfield.specs.declared.Top.TheVariants.{At, Nothing}
 use Rattle.bitfield.specs.declared.Field.{Field}
-use Rattle.bitfield.specs.Body.{bytesFor, highest}
-use Rattle.bitfield.specs.Bools.{without, noBits, moved, widened, count, noneSet}
+use Rattle.bitfield.specs.Body.{bytes_for_lem, highest}
+use Rattle.bitfield.specs.Bools.{without, no_bits, moved, widened, count, none_set}
 use Rattle.bitfield.specs.Raw.{op_of, keep, zipped, firsts, Raw}
 use Rattle.bitfield.specs.Facts.{Kept, Put, Used, TopOf}
-use Rattle.bitfield.specs.Held.{bitsIn, held, opBits, opLength, merged}
+use Rattle.bitfield.specs.Held.{bits_in, held, op_bits, op_length, merged}
 use Rattle.bitfield.proofs.Bools as Bools
 use Rattle.bitfield.proofs.Bodies.{cut_below}
-use Rattle.bitfield.proofs.Tops.{highest-none, highest-at, top-number}
-use Rattle.bitfield.proofs.Numbers.{Bytewise, and-bytewise, or-bytewise, and-not-bytewise, firsts-le, firsts-not, raw-le, le-zero, le-short}
+use Rattle.bitfield.proofs.Tops.{highest-none, highest-at, top_number}
+use Rattle.bitfield.proofs.Numbers.{Bytewise, and_bytewise, or_bytewise, and_not_bytewise, firsts-le, firsts_not, raw-le, le-zero, le-short}
 
 -- What a well formed field's bits say
-pub bits-number : (l : List ℕ) (len : ℕ) → Kept l len → bitNum (bitsIn l len) ≡ num l
-unfolding bitsIn
-bits-number l len k = bitNum-bitsOf len (num l) k.small
+pub bits-number : (l : List ℕ) (len : ℕ) → Kept l len → bit_num (bits_in l len) ≡ num l
+unfolding bits_in
+bits-number l len k = bit_num-bits_of len (num l) k.small
 
-pub bits-length : (l : List ℕ) (len : ℕ) → length (bitsIn l len) ≡ len
-unfolding bitsIn
-bits-length l len = length-bitsOf len (num l)
+pub bits-length : (l : List ℕ) (len : ℕ) → length (bits_in l len) ≡ len
+unfolding bits_in
+bits-length l len = length-bits_of len (num l)
 
 pub raw_of-le : (z : ℕ) → Raw (le 256 z)
 raw_of-le z = record { long = length-le 256 z; bytes = bytes_le 256 z }
 
 -- The tie: the bytes are the bits packed, and the bits of packed bits are those bits.
-pub kept-packs : (l : List ℕ) (len : ℕ) → Kept l len → l ≡ packs 256 (bitsIn l len)
-kept-packs l len k = raw-le l k.raw ∙ ap (le 256) (sym (bits-number l len k)) ∙ sym (packs-le 256 (bitsIn l len))
+pub kept-packs : (l : List ℕ) (len : ℕ) → Kept l len → l ≡ packs 256 (bits_in l len)
+kept-packs l len k = raw-le l k.raw ∙ ap (le 256) (sym (bits-number l len k)) ∙ sym (packs-le 256 (bits_in l len))
 
 pub packs-kept : (bs : List Bool) → length bs ≤ 2048 → Kept (packs 256 bs) (length bs)
 packs-kept bs h =
     record {
-      raw = rw (packs-le 256 bs) (raw_of-le (bitNum bs));
+      raw = rw (packs-le 256 bs) (raw_of-le (bit_num bs));
       few = h;
-      small = rw (num-packs 256 bs h) (bitNum-bound bs);
+      small = rw (num-packs 256 bs h) (bit_num-bound bs);
     }
 
-pub packs-bits : (bs : List Bool) → length bs ≤ 2048 → bitsIn (packs 256 bs) (length bs) ≡ bs
-unfolding bitsIn
-packs-bits bs h = rw (num-packs 256 bs h) (bitsOf-bitNum bs)
+pub packs-bits : (bs : List Bool) → length bs ≤ 2048 → bits_in (packs 256 bs) (length bs) ≡ bs
+unfolding bits_in
+packs-bits bs h = rw (num-packs 256 bs h) (bits_of-bit_num bs)
 
 -- Bytes that say the number of some bits hold those bits.
-pub as-held : (bs : List Bool) (l : List ℕ) (len : ℕ) → l ≡ le 256 (bitNum bs) → len ≡ length bs → record { bytes = l; len = len } ≡ held bs
+pub as_held : (bs : List Bool) (l : List ℕ) (len : ℕ) → l ≡ le 256 (bit_num bs) → len ≡ length bs → record { bytes = l; len = len } ≡ held bs
 unfolding held
-as-held bs l len e h = rw (e, h, ← packs-le 256 bs)
+as_held bs l len e h = rw (e, h, ← packs-le 256 bs)
 
 -- Numbers below the end fit the bytes in use.
-in_use : (len : ℕ) → 2 ^ len ≤ 256 ^ bytesFor len
-in_use len = rw (pow-bytes (bytesFor len)) (pow_mono (omega arith))
+in_use : (len : ℕ) → 2 ^ len ≤ 256 ^ bytes_for_lem len
+in_use len = rw (pow_bytes (bytes_for_lem len)) (pow_mono (omega arith))
 
 fits_in : (i z len : ℕ) → len ≤ 8 * i → z < 2 ^ len → z < 256 ^ i
-fits_in i z len h b = rw (pow-bytes i) (lt_of_lt_of_le b (pow_mono h))
+fits_in i z len h b = rw (pow_bytes i) (lt_of_lt_of_le b (pow_mono h))
 
-use-bound : (len : ℕ) → len ≤ 2048 → bytesFor len ≤ 256
+use-bound : (len : ℕ) → len ≤ 2048 → bytes_for_lem len ≤ 256
 use-bound len h = omega arith
 
-all-bytes : (len z : ℕ) → len ≤ 2048 → z < 256 ^ bytesFor len → num (le 256 z) ≡ z
+all-bytes : (len z : ℕ) → len ≤ 2048 → z < 256 ^ bytes_for_lem len → num (le 256 z) ≡ z
 all-bytes len z h b = num-le 256 z (lt_of_lt_of_le b (pow-le-pow_right {n = 256} (omega arith) (use-bound len h)))
 
 -- Two fields put together by bytes: before the last byte is cut, and after
 pub record Merged (op : Op) (a : List ℕ) (la : ℕ) (b : List ℕ) (lb z : ℕ) : Type 0 where
-  pub bytes : firsts (op_of op) (bytesFor (opLength op la lb)) a b ≡ le 256 z
-  pub small : z < 256 ^ bytesFor (opLength op la lb)
-  pub number : z % 2 ^ opLength op la lb ≡ bitNum (opBits op (bitsIn a la) (bitsIn b lb))
-  pub count : length (opBits op (bitsIn a la) (bitsIn b lb)) ≡ opLength op la lb
+  pub bytes : firsts (op_of op) (bytes_for_lem (op_length op la lb)) a b ≡ le 256 z
+  pub small : z < 256 ^ bytes_for_lem (op_length op la lb)
+  pub number : z % 2 ^ op_length op la lb ≡ bit_num (op_bits op (bits_in a la) (bits_in b lb))
+  pub count : length (op_bits op (bits_in a la) (bits_in b lb)) ≡ op_length op la lb
 
 module _ (op : Op) (w : Bytewise (op_of op))
-    (law : (xs ys : List Bool) → bitNum (opBits op xs ys) ≡ op_of op (bitNum xs) (bitNum ys))
-    (count : (xs ys : List Bool) → length (opBits op xs ys) ≡ opLength op (length xs) (length ys)) where
+    (law : (xs ys : List Bool) → bit_num (op_bits op xs ys) ≡ op_of op (bit_num xs) (bit_num ys))
+    (count : (xs ys : List Bool) → length (op_bits op xs ys) ≡ op_length op (length xs) (length ys)) where
   -- the bits' law and the bytes' law, over any operation that works on each byte by itself
   module _ (a : List ℕ) (la : ℕ) (b : List ℕ) (lb : ℕ) (ka : Kept a la) (kb : Kept b lb) where
-    op-number : bitNum (opBits op (bitsIn a la) (bitsIn b lb)) ≡ op_of op (num a) (num b)
-    op-number = rw (law (bitsIn a la) (bitsIn b lb), bits-number a la ka, bits-number b lb kb)
+    op_number : bit_num (op_bits op (bits_in a la) (bits_in b lb)) ≡ op_of op (num a) (num b)
+    op_number = rw (law (bits_in a la) (bits_in b lb), bits-number a la ka, bits-number b lb kb)
 
-    op-count : length (opBits op (bitsIn a la) (bitsIn b lb)) ≡ opLength op la lb
-    op-count = rw (count (bitsIn a la) (bitsIn b lb), bits-length a la, bits-length b lb)
+    op_count : length (op_bits op (bits_in a la) (bits_in b lb)) ≡ op_length op la lb
+    op_count = rw (count (bits_in a la) (bits_in b lb), bits-length a la, bits-length b lb)
 
-    op-small : op_of op (num a) (num b) < 2 ^ opLength op la lb
-    op-small = rw (op-number, op-count) at (bitNum-bound (opBits op (bitsIn a la) (bitsIn b lb)))
+    op_small : op_of op (num a) (num b) < 2 ^ op_length op la lb
+    op_small = rw (op_number, op_count) at (bit_num-bound (op_bits op (bits_in a la) (bits_in b lb)))
 
-    by_bytes : opLength op la lb ≤ 2048 → Merged op a la b lb (op_of op (num a) (num b))
+    by_bytes : op_length op la lb ≤ 2048 → Merged op a la b lb (op_of op (num a) (num b))
     by_bytes h =
-        let small = op-small in
-        let m = in_use (opLength op la lb) in
-        let fits : op_of op (num a) (num b) < 256 ^ bytesFor (opLength op la lb) = omega arith in
+        let small = op_small in
+        let m = in_use (op_length op la lb) in
+        let fits : op_of op (num a) (num b) < 256 ^ bytes_for_lem (op_length op la lb) = omega arith in
         record {
-          bytes = firsts-le (op_of op) w (bytesFor (opLength op la lb)) a b ka.raw kb.raw (use-bound _ h) fits;
+          bytes = firsts-le (op_of op) w (bytes_for_lem (op_length op la lb)) a b ka.raw kb.raw (use-bound _ h) fits;
           small = fits;
-          number = mod-eq_of_lt small ∙ sym op-number;
-          count = op-count;
+          number = mod-eq_of_lt small ∙ sym op_number;
+          count = op_count;
         }
 
     -- all 256 bytes put together need no cut
-    all-bytes-held : opLength op la lb ≤ 2048 → merged op a la b lb ≡ held (opBits op (bitsIn a la) (bitsIn b lb))
+    all-bytes-held : op_length op la lb ≤ 2048 → merged op a la b lb ≡ held (op_bits op (bits_in a la) (bits_in b lb))
     all-bytes-held h =
-        let fits = fits_in 256 _ _ h op-small in
-        as-held _ _ _ (firsts-le (op_of op) w 256 a b ka.raw kb.raw (omega arith) fits ∙ ap (le 256) (sym op-number)) (sym op-count)
+        let fits = fits_in 256 _ _ h op_small in
+        as_held _ _ _ (firsts-le (op_of op) w 256 a b ka.raw kb.raw (omega arith) fits ∙ ap (le 256) (sym op_number)) (sym op_count)
 
-not-merged : (a : List ℕ) (la : ℕ) (b : List ℕ) (lb : ℕ) → Kept a la → firsts (op_of Not) (bytesFor la) a b ≡ firsts (op_of Not) (bytesFor la) a a
-    → Merged Not a la b lb (256 ^ bytesFor la - 1 - num a)
-unfolding opLength opBits
-not-merged a la b lb ka same =
-    let xs = bitsIn a la in
-    let f = Bools.bitNum-flipped xs in
+not_merged : (a : List ℕ) (la : ℕ) (b : List ℕ) (lb : ℕ) → Kept a la → firsts (op_of Not) (bytes_for_lem la) a b ≡ firsts (op_of Not) (bytes_for_lem la) a a
+    → Merged Not a la b lb (256 ^ bytes_for_lem la - 1 - num a)
+unfolding op_length op_bits
+not_merged a la b lb ka same =
+    let xs = bits_in a la in
+    let f = Bools.bit_num-flipped xs in
     let g = rw (bits-number a la ka, bits-length a la) at f in
     let s = ka.small in
     let m = in_use la in
     let p = pow_pos la in
-    let e : 256 ^ bytesFor la ≡ 2 ^ (8 * bytesFor la - la) * 2 ^ la =
-    rw (pow-bytes (bytesFor la), ← pow-add 2 (8 * bytesFor la - la) la) (ap (λ (n : ℕ). 2 ^ n) (omega arith)) in
+    let e : 256 ^ bytes_for_lem la ≡ 2 ^ (8 * bytes_for_lem la - la) * 2 ^ la =
+    rw (pow_bytes (bytes_for_lem la), ← pow-add 2 (8 * bytes_for_lem la - la) la) (ap (λ (n : ℕ). 2 ^ n) (omega arith)) in
     record {
-      bytes = same ∙ firsts-not (bytesFor la) a ka.raw (use-bound la ka.few) (omega arith);
+      bytes = same ∙ firsts_not (bytes_for_lem la) a ka.raw (use-bound la ka.few) (omega arith);
       small = omega arith;
-      number = rest (2 ^ (8 * bytesFor la - la)) (2 ^ la) (num a) _ (256 ^ bytesFor la) (pow_pos (8 * bytesFor la - la)) e g;
+      number = rest (2 ^ (8 * bytes_for_lem la - la)) (2 ^ la) (num a) _ (256 ^ bytes_for_lem la) (pow_pos (8 * bytes_for_lem la - la)) e g;
       count = Bools.length-flipped xs ∙ bits-length a la;
     }
   where
@@ -146,25 +146,25 @@ alone [] ys h = refl
 alone (x ∷ xs) [] h = absurd (omega arith)
 alone (x ∷ xs) (y ∷ ys) h = ap (λ (l : List ℕ). (255 - x) ∷ l) (alone xs ys (omega arith))
 
-not-alone : (i : ℕ) (a b : List ℕ) → length a ≡ length b → firsts (op_of Not) i a b ≡ firsts (op_of Not) i a a
+not_alone : (i : ℕ) (a b : List ℕ) → length a ≡ length b → firsts (op_of Not) i a b ≡ firsts (op_of Not) i a a
 unfolding firsts
-not-alone i a b h =
+not_alone i a b h =
     let e : length (take i a) ≡ length (take i b) = rw (length-take i a, length-take i b, h) in
     rw (alone (take i a) (take i b) e)
 
 merged-all : (op : Op) (a : List ℕ) (la : ℕ) (b : List ℕ) (lb : ℕ) → Kept a la → Kept b lb → (z : ℕ) × Merged op a la b lb z
-unfolding opBits opLength op_of
+unfolding op_bits op_length op_of
 merged-all And a la b lb ka kb =
-    (_, by_bytes And and-bytewise Bools.bitNum-both Bools.length_both a la b lb ka kb (omega (arith, ka.few, kb.few)))
+    (_, by_bytes And and_bytewise Bools.bit_num-both Bools.length_both a la b lb ka kb (omega (arith, ka.few, kb.few)))
 merged-all Or a la b lb ka kb =
-    (_, by_bytes Or or-bytewise Bools.bitNum-either Bools.length-either a la b lb ka kb (omega (arith, ka.few, kb.few)))
+    (_, by_bytes Or or_bytewise Bools.bit_num-either Bools.length-either a la b lb ka kb (omega (arith, ka.few, kb.few)))
 merged-all AndNot a la b lb ka kb =
-    (_, by_bytes AndNot and-not-bytewise Bools.bitNum-without Bools.length_without a la b lb ka kb ka.few)
+    (_, by_bytes AndNot and_not_bytewise Bools.bit_num-without Bools.length_without a la b lb ka kb ka.few)
 merged-all Not a la b lb ka kb =
-    (_, not-merged a la b lb ka (not-alone (bytesFor la) a b (ka.raw.long ∙ sym kb.raw.long)))
+    (_, not_merged a la b lb ka (not_alone (bytes_for_lem la) a b (ka.raw.long ∙ sym kb.raw.long)))
 
-pub few-merged : (op : Op) (la lb : ℕ) → la ≤ 2048 → lb ≤ 2048 → opLength op la lb ≤ 2048
-unfolding opLength
+pub few-merged : (op : Op) (la lb : ℕ) → la ≤ 2048 → lb ≤ 2048 → op_length op la lb ≤ 2048
+unfolding op_length
 few-merged And la lb h k = omega arith
 few-merged Or la lb h k = omega arith
 few-merged AndNot la lb h k = h
@@ -172,81 +172,81 @@ few-merged Not la lb h k = h
 
 -- An operation on all 256 bytes of two well formed fields is the operation on their bits.
 abbrev pub Whole : Op → Type 0
-Whole op = (a : List ℕ) (la : ℕ) (b : List ℕ) (lb : ℕ) → Kept a la → Kept b lb → merged op a la b lb ≡ held (opBits op (bitsIn a la) (bitsIn b lb))
+Whole op = (a : List ℕ) (la : ℕ) (b : List ℕ) (lb : ℕ) → Kept a la → Kept b lb → merged op a la b lb ≡ held (op_bits op (bits_in a la) (bits_in b lb))
 
-pub and-whole : Whole And
-unfolding opBits opLength op_of
-and-whole a la b lb ka kb = all-bytes-held And and-bytewise Bools.bitNum-both Bools.length_both a la b lb ka kb (few-merged And la lb ka.few kb.few)
+pub and_whole : Whole And
+unfolding op_bits op_length op_of
+and_whole a la b lb ka kb = all-bytes-held And and_bytewise Bools.bit_num-both Bools.length_both a la b lb ka kb (few-merged And la lb ka.few kb.few)
 
-pub or-whole : Whole Or
-unfolding opBits opLength op_of
-or-whole a la b lb ka kb = all-bytes-held Or or-bytewise Bools.bitNum-either Bools.length-either a la b lb ka kb (few-merged Or la lb ka.few kb.few)
+pub or_whole : Whole Or
+unfolding op_bits op_length op_of
+or_whole a la b lb ka kb = all-bytes-held Or or_bytewise Bools.bit_num-either Bools.length-either a la b lb ka kb (few-merged Or la lb ka.few kb.few)
 
-pub and-not-whole : Whole AndNot
-unfolding opBits opLength op_of
-and-not-whole a la b lb ka kb =
-    all-bytes-held AndNot and-not-bytewise Bools.bitNum-without Bools.length_without a la b lb ka kb (few-merged AndNot la lb ka.few kb.few)
+pub and_not_whole : Whole AndNot
+unfolding op_bits op_length op_of
+and_not_whole a la b lb ka kb =
+    all-bytes-held AndNot and_not_bytewise Bools.bit_num-without Bools.length_without a la b lb ka kb (few-merged AndNot la lb ka.few kb.few)
 
 -- What the last byte's cut asks of a number in bytes, and what it gives
 pub record Cuttable (l : List ℕ) (len : ℕ) : Type 0 where
   pub few : len ≤ 2048
   pub raw : Raw l
-  pub small : num l < 2 ^ (8 * bytesFor len)
+  pub small : num l < 2 ^ (8 * bytes_for_lem len)
 
-cuttable : (l : List ℕ) (len z : ℕ) → len ≤ 2048 → l ≡ le 256 z → z < 256 ^ bytesFor len → Cuttable l len
+cuttable : (l : List ℕ) (len z : ℕ) → len ≤ 2048 → l ≡ le 256 z → z < 256 ^ bytes_for_lem len → Cuttable l len
 cuttable l len z h e b =
-    record { few = h; raw = rw e (raw_of-le z); small = rw (e, all-bytes len z h b, ← pow-bytes (bytesFor len)) b }
+    record { few = h; raw = rw e (raw_of-le z); small = rw (e, all-bytes len z h b, ← pow_bytes (bytes_for_lem len)) b }
 
-cut-number : (l : List ℕ) (len z : ℕ) → len ≤ 2048 → l ≡ le 256 z → z < 256 ^ bytesFor len → num l ≡ z
+cut-number : (l : List ℕ) (len z : ℕ) → len ≤ 2048 → l ≡ le 256 z → z < 256 ^ bytes_for_lem len → num l ≡ z
 cut-number l len z h e b = ap num e ∙ all-bytes len z h b
 
 module _ (op : Op) (a : List ℕ) (la : ℕ) (b : List ℕ) (lb : ℕ) (ka : Kept a la) (kb : Kept b lb) where
-  pub merged-cuttable : Cuttable (firsts (op_of op) (bytesFor (opLength op la lb)) a b) (opLength op la lb)
+  pub merged-cuttable : Cuttable (firsts (op_of op) (bytes_for_lem (op_length op la lb)) a b) (op_length op la lb)
   merged-cuttable =
       let m = merged-all op a la b lb ka kb in
-      cuttable _ (opLength op la lb) m.0 (few-merged op la lb ka.few kb.few) m.1.bytes m.1.small
+      cuttable _ (op_length op la lb) m.0 (few-merged op la lb ka.few kb.few) m.1.bytes m.1.small
 
-  pub merged-held : (l : List ℕ) → l ≡ le 256 (num (firsts (op_of op) (bytesFor (opLength op la lb)) a b) % 2 ^ opLength op la lb)
-      → record { bytes = l; len = opLength op la lb } ≡ held (opBits op (bitsIn a la) (bitsIn b lb))
+  pub merged-held : (l : List ℕ) → l ≡ le 256 (num (firsts (op_of op) (bytes_for_lem (op_length op la lb)) a b) % 2 ^ op_length op la lb)
+      → record { bytes = l; len = op_length op la lb } ≡ held (op_bits op (bits_in a la) (bits_in b lb))
   merged-held l e =
       let m = merged-all op a la b lb ka kb in
-      let n = cut-number _ (opLength op la lb) m.0 (few-merged op la lb ka.few kb.few) m.1.bytes m.1.small in
-      as-held _ l _ (e ∙ ap (λ (z : ℕ). le 256 (z % 2 ^ opLength op la lb)) n ∙ ap (le 256) m.1.number) (sym m.1.count)
+      let n = cut-number _ (op_length op la lb) m.0 (few-merged op la lb ka.few kb.few) m.1.bytes m.1.small in
+      as_held _ l _ (e ∙ ap (λ (z : ℕ). le 256 (z % 2 ^ op_length op la lb)) n ∙ ap (le 256) m.1.number) (sym m.1.count)
 
 -- No bits
-pub zeros-held : (len : ℕ) → record { bytes = replicate 256 0; len = len } ≡ held (noBits len)
+pub zeros-held : (len : ℕ) → record { bytes = replicate 256 0; len = len } ≡ held (no_bits len)
 zeros-held len =
-    as-held (noBits len) (replicate 256 0) len (sym (le-zero 256) ∙ ap (le 256) (sym (Bools.bitNum-noBits len))) (sym (length-replicate len false))
+    as_held (no_bits len) (replicate 256 0) len (sym (le-zero 256) ∙ ap (le 256) (sym (Bools.bit_num-no_bits len))) (sym (length-replicate len false))
 
-pub wider-held : (a : List ℕ) (len m : ℕ) → Kept a len → len ≤ m → record { bytes = a; len = m } ≡ held (widened m (bitsIn a len))
-wider-held a len m k h =
-    let e : bitNum (widened m (bitsIn a len)) ≡ num a = Bools.bitNum-widened m (bitsIn a len) ∙ bits-number a len k in
-    let l : length (bitsIn a len) ≤ m = rw (bits-length a len) h in
-    as-held _ a m (raw-le a k.raw ∙ ap (le 256) (sym e)) (sym (Bools.length-widened m (bitsIn a len) l))
+pub wider_held : (a : List ℕ) (len m : ℕ) → Kept a len → len ≤ m → record { bytes = a; len = m } ≡ held (widened m (bits_in a len))
+wider_held a len m k h =
+    let e : bit_num (widened m (bits_in a len)) ≡ num a = Bools.bit_num-widened m (bits_in a len) ∙ bits-number a len k in
+    let l : length (bits_in a len) ≤ m = rw (bits-length a len) h in
+    as_held _ a m (raw-le a k.raw ∙ ap (le 256) (sym e)) (sym (Bools.length-widened m (bits_in a len) l))
 
 -- Cut twice is cut once.
-cut_twice : (x len : ℕ) → x % 256 ^ bytesFor len % 2 ^ len ≡ x % 2 ^ len
+cut_twice : (x len : ℕ) → x % 256 ^ bytes_for_lem len % 2 ^ len ≡ x % 2 ^ len
 cut_twice x len =
-    let e : 256 ^ bytesFor len ≡ 2 ^ (8 * bytesFor len - len + len) = rw (pow-bytes (bytesFor len)) (ap (λ (n : ℕ). 2 ^ n) (omega arith)) in
-    rw e (Pow.mod-mod-pow x (8 * bytesFor len - len) len)
+    let e : 256 ^ bytes_for_lem len ≡ 2 ^ (8 * bytes_for_lem len - len + len) = rw (pow_bytes (bytes_for_lem len)) (ap (λ (n : ℕ). 2 ^ n) (omega arith)) in
+    rw e (Pow.mod-mod-pow x (8 * bytes_for_lem len - len) len)
 
-cut-bound : (x len : ℕ) → x % 256 ^ bytesFor len < 256 ^ bytesFor len
-cut-bound x len = mod-lt x (one-le-pow (bytesFor len) 256 (omega arith))
+cut-bound : (x len : ℕ) → x % 256 ^ bytes_for_lem len < 256 ^ bytes_for_lem len
+cut-bound x len = mod-lt x (one-le-pow (bytes_for_lem len) 256 (omega arith))
 
-pub part-cuttable : (l : List ℕ) (len x : ℕ) → len ≤ 2048 → l ≡ le 256 (x % 256 ^ bytesFor len) → Cuttable l len
-part-cuttable l len x h e = cuttable l len (x % 256 ^ bytesFor len) h e (cut-bound x len)
+pub part-cuttable : (l : List ℕ) (len x : ℕ) → len ≤ 2048 → l ≡ le 256 (x % 256 ^ bytes_for_lem len) → Cuttable l len
+part-cuttable l len x h e = cuttable l len (x % 256 ^ bytes_for_lem len) h e (cut-bound x len)
 
-part_cut : (l m : List ℕ) (len x : ℕ) → len ≤ 2048 → l ≡ le 256 (x % 256 ^ bytesFor len) → m ≡ le 256 (num l % 2 ^ len) → m ≡ le 256 (x % 2 ^ len)
+part_cut : (l m : List ℕ) (len x : ℕ) → len ≤ 2048 → l ≡ le 256 (x % 256 ^ bytes_for_lem len) → m ≡ le 256 (num l % 2 ^ len) → m ≡ le 256 (x % 2 ^ len)
 part_cut l m len x h e c =
-    let n = cut-number l len (x % 256 ^ bytesFor len) h e (cut-bound x len) in
+    let n = cut-number l len (x % 256 ^ bytes_for_lem len) h e (cut-bound x len) in
     c ∙ ap (λ (z : ℕ). le 256 (z % 2 ^ len)) n ∙ ap (le 256) (cut_twice x len)
 
-pub moved-held : (a l m : List ℕ) (len n : ℕ) → Kept a len → l ≡ le 256 ((num a * 2 ^ n) % 256 ^ bytesFor len) → m ≡ le 256 (num l % 2 ^ len)
-    → record { bytes = m; len = len } ≡ held (moved n (bitsIn a len))
+pub moved-held : (a l m : List ℕ) (len n : ℕ) → Kept a len → l ≡ le 256 ((num a * 2 ^ n) % 256 ^ bytes_for_lem len) → m ≡ le 256 (num l % 2 ^ len)
+    → record { bytes = m; len = len } ≡ held (moved n (bits_in a len))
 moved-held a l m len n k e c =
-    let b : bitNum (moved n (bitsIn a len)) ≡ (num a * 2 ^ n) % 2 ^ len =
-    Bools.bitNum-moved n (bitsIn a len) ∙ rw (bits-number a len k, bits-length a len) in
-    as-held _ m len (part_cut l m len (num a * 2 ^ n) k.few e c ∙ ap (le 256) (sym b)) (sym (Bools.length_moved n (bitsIn a len) ∙ bits-length a len))
+    let b : bit_num (moved n (bits_in a len)) ≡ (num a * 2 ^ n) % 2 ^ len =
+    Bools.bit_num-moved n (bits_in a len) ∙ rw (bits-number a len k, bits-length a len) in
+    as_held _ m len (part_cut l m len (num a * 2 ^ n) k.few e c ∙ ap (le 256) (sym b)) (sym (Bools.length_moved n (bits_in a len) ∙ bits-length a len))
 
 -- The first bytes of a slice
 pub take-number : (i : ℕ) (l : List ℕ) → Bytes l → i ≤ length l → take i l ≡ le i (num l)
@@ -274,18 +274,18 @@ le-cut (suc i) z =
     let hi : ((z / 256 % 256 ^ i) * 256 + z % 256) / 256 ≡ z / 256 % 256 ^ i = omega arith in
     rw (e, lo, hi, le-cut i (z / 256))
 
-pub copy-number : (i : ℕ) (l : List ℕ) → Bytes l → i ≤ 256 → i ≤ length l → firsts keep i l l ≡ le 256 (num l % 256 ^ i)
+pub copy_number : (i : ℕ) (l : List ℕ) → Bytes l → i ≤ 256 → i ≤ length l → firsts keep i l l ≡ le 256 (num l % 256 ^ i)
 unfolding firsts
-copy-number i l b h k =
+copy_number i l b h k =
     let e : i + (256 - i) ≡ 256 = omega arith in
     let s = le-short i (256 - i) (num l % 256 ^ i) (mod-lt (num l) (one-le-pow i 256 (omega arith))) in
     rw (zipped-keep (take i l), take-number i l b k, ← le-cut i (num l)) (sym s ∙ ap (λ (n : ℕ). le n (num l % 256 ^ i)) e)
 
-pub read_held : (l c m : List ℕ) (k : ℕ) → Bytes l → k ≤ 2048 → bytesFor k ≤ length l → c ≡ firsts keep (bytesFor k) l l → m ≡ le 256 (num c % 2 ^ k)
+pub read_held : (l c m : List ℕ) (k : ℕ) → Bytes l → k ≤ 2048 → bytes_for_lem k ≤ length l → c ≡ firsts keep (bytes_for_lem k) l l → m ≡ le 256 (num c % 2 ^ k)
     → record { bytes = m; len = k } ≡ held (bits_of k (num l))
 read_held l c m k b h u e d =
-    let f = e ∙ copy-number (bytesFor k) l b (use-bound k h) u in
-    as-held _ m k (part_cut c m k (num l) h f d ∙ ap (le 256) (sym (bitNum-low k (num l)))) (sym (length-bitsOf k (num l)))
+    let f = e ∙ copy_number (bytes_for_lem k) l b (use-bound k h) u in
+    as_held _ m k (part_cut c m k (num l) h f d ∙ ap (le 256) (sym (bit_num-low k (num l)))) (sym (length-bits_of k (num l)))
 
 -- One bit of a number
 pub bits-get : (len x i : ℕ) → i < len → get_or (bits_of len x) i false ≡ eqb (x / 2 ^ i % 2) 1
@@ -302,30 +302,30 @@ bit-of-odd (suc zero) h = refl
 bit-of-odd (suc (suc m)) h = absurd (omega arith)
 
 pub put-held : (a l : List ℕ) (len i : ℕ) (v : Bool) → Kept a len → i < len → Put a i v l
-    → record { bytes = l; len = len } ≡ held (set (bitsIn a len) i v)
-unfolding bitsIn
+    → record { bytes = l; len = len } ≡ held (set (bits_in a len) i v)
+unfolding bits_in
 put-held a l len i v k h p =
     let bs = bits_of len (num a) in
-    let s = Bools.bitNum-set bs i v (rw (length-bitsOf len (num a)) h) in
+    let s = Bools.bit_num-set bs i v (rw (length-bits_of len (num a)) h) in
     let g : bit (get_or bs i false) ≡ num a / 2 ^ i % 2 = rw (bits-get len (num a) i h) (bit-of-odd (num a / 2 ^ i % 2) (omega arith)) in
-    let t = rw (g, bitNum-bitsOf len (num a) k.small) at s in
+    let t = rw (g, bit_num-bits_of len (num a) k.small) at s in
     let n = p.number in
-    let e : num l ≡ bitNum (set bs i v) = omega arith in
-    as-held _ l len (raw-le l p.raw ∙ ap (le 256) e) (sym (length-set bs i v ∙ length-bitsOf len (num a)))
+    let e : num l ≡ bit_num (set bs i v) = omega arith in
+    as_held _ l len (raw-le l p.raw ∙ ap (le 256) e) (sym (length-set bs i v ∙ length-bits_of len (num a)))
 
 -- What lies behind the bytes in use
-pub behind : (a : List ℕ) (len : ℕ) → Kept a len → num (drop (bytesFor len) a) ≡ 0
+pub behind : (a : List ℕ) (len : ℕ) → Kept a len → num (drop (bytes_for_lem len) a) ≡ 0
 behind a len k =
     let m = in_use len in
-    let p = pow-bytes (bytesFor len) in
+    let p = pow_bytes (bytes_for_lem len) in
     let s = k.small in
-    let h : bytesFor len ≤ length a = rw k.raw.long (use-bound len k.few) in
-    let b : num a < 2 ^ (8 * bytesFor len + 0) = rw (add-zero (8 * bytesFor len)) (omega arith) in
-    let c = cut_below a (bytesFor len) 0 k.raw.bytes h b in
+    let h : bytes_for_lem len ≤ length a = rw k.raw.long (use-bound len k.few) in
+    let b : num a < 2 ^ (8 * bytes_for_lem len + 0) = rw (add-zero (8 * bytes_for_lem len)) (omega arith) in
+    let c = cut_below a (bytes_for_lem len) 0 k.raw.bytes h b in
     omega arith
 
-pub count_held : (a : List ℕ) (len : ℕ) → Kept a len → ones (num a) ≡ count (bitsIn a len)
-count_held a len k = rw (← bits-number a len k) (sym (Bools.count_ones (bitsIn a len)))
+pub count_held : (a : List ℕ) (len : ℕ) → Kept a len → ones (num a) ≡ count (bits_in a len)
+count_held a len k = rw (← bits-number a len k) (sym (Bools.count_ones (bits_in a len)))
 
 -- What lies behind the words in use
 pub behind-words : (a : List ℕ) (len : ℕ) → Kept a len → num (drop (8 * ((len + 63) / 64)) a) ≡ 0
@@ -338,19 +338,19 @@ behind-words a len k =
     let c = cut_below a w 0 k.raw.bytes h (omega arith) in
     omega arith
 
-pub none-held : (a : List ℕ) (len : ℕ) → Kept a len → eqb (num (drop 0 a)) 0 ≡ noneSet (bitsIn a len)
-none-held a len k = ap (λ (n : ℕ). eqb n 0) (sym (bits-number a len k)) ∙ sym (Bools.none_number (bitsIn a len))
+pub none-held : (a : List ℕ) (len : ℕ) → Kept a len → eqb (num (drop 0 a)) 0 ≡ none_set (bits_in a len)
+none-held a len k = ap (λ (n : ℕ). eqb n 0) (sym (bits-number a len k)) ∙ sym (Bools.none_number (bits_in a len))
 
 -- The highest bit
-pub highest-none-held : (a : List ℕ) (len : ℕ) → Used a 0 → Nothing ≡ highest (bitsIn a len)
-unfolding bitsIn
+pub highest-none-held : (a : List ℕ) (len : ℕ) → Used a 0 → Nothing ≡ highest (bits_in a len)
+unfolding bits_in
 highest-none-held a len u = let z = u.zeros in sym (rw z (highest-none len))
 
 pub highest-held : (a : List ℕ) (len i h : ℕ) → Kept a len → i < length a → num (drop (suc i) a) ≡ 0 → TopOf (get_or a i 0) h →
-    At (8 * i + h) ≡ highest (bitsIn a len)
-unfolding bitsIn
+    At (8 * i + h) ≡ highest (bits_in a len)
+unfolding bits_in
 highest-held a len i h k b z t =
-    let q = top-number a i h k.raw.bytes b z t in
+    let q = top_number a i h k.raw.bytes b z t in
     let s = k.small in
     let no : len ≤ 8 * i + h → ⊥ = λ (n : len ≤ 8 * i + h). let p = pow_mono n in omega (arith, q.0) in
     sym (highest-at len (num a) (8 * i + h) (omega arith) q.0 q.1)
@@ -358,12 +358,12 @@ highest-held a len i h k b z t =
 -- What is made is well formed.
 pub held-raw : (f : Field) (bs : List Bool) → f ≡ held bs → Raw f.bytes
 unfolding held
-held-raw f bs e = rw (ap (λ (g : Field). g.bytes) e, packs-le 256 bs) (raw_of-le (bitNum bs))
+held-raw f bs e = rw (ap (λ (g : Field). g.bytes) e, packs-le 256 bs) (raw_of-le (bit_num bs))
 
-pub none_left : (f : Field) (a b : List ℕ) (la lb : ℕ) → Kept a la → Kept b lb → f ≡ held (opBits AndNot (bitsIn a la) (bitsIn b lb))
-    → eqb (num (drop 0 f.bytes)) 0 ≡ noneSet (without (bitsIn a la) (bitsIn b lb))
-unfolding held opBits
+pub none_left : (f : Field) (a b : List ℕ) (la lb : ℕ) → Kept a la → Kept b lb → f ≡ held (op_bits AndNot (bits_in a la) (bits_in b lb))
+    → eqb (num (drop 0 f.bytes)) 0 ≡ none_set (without (bits_in a la) (bits_in b lb))
+unfolding held op_bits
 none_left f a b la lb ka kb e =
-    let bs = without (bitsIn a la) (bitsIn b lb) in
-    let l : length bs ≤ 2048 = rw (Bools.length_without (bitsIn a la) (bitsIn b lb), bits-length a la) ka.few in
+    let bs = without (bits_in a la) (bits_in b lb) in
+    let l : length bs ≤ 2048 = rw (Bools.length_without (bits_in a la) (bits_in b lb), bits-length a la) ka.few in
     rw (ap (λ (g : Field). g.bytes) e, num-packs 256 bs l) (sym (Bools.none_number bs))

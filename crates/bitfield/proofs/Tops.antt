@@ -16,8 +16,8 @@ use lib.ListN.{length, get_or, take, drop, length-take, take-append-drop}
 use lib.Seq.{drop-length, drop-cons, take-suc, length-take-le}
 use Rattle.standard.specs.Bytes.{Bytes, num}
 use Rattle.standard.proofs.Bytes.{bytes_take, num-bound}
-use Rattle.standard.proofs.Bits.{bits_of, num-append, pow-bytes, top_from, top_to}
-use Rattle.bitfield.specs.Body.{onTop, highest, allBits}
+use Rattle.standard.proofs.Bits.{bits_of, num-append, pow_bytes, top_from, top_to}
+use Rattle.bitfield.specs.Body.{on_top, highest, all_bits}
 use Rattle.bitfield.specs.Facts.{Used, TopOf}
 use Rattle.bitfield.specs.declared.Top.{Top}
 use Rattle.bitfield.specs.declared.Top.TheVariants.{At, Nothing}
@@ -57,8 +57,8 @@ highest-says k n h b e = ⊎_elim zeros some (eq-zero-or-pos n)
         rw q (t.2, t.3)
 
 -- The number of bytes is that of those in use.
-pub num-used : (l : List ℕ) (r : ℕ) → r ≤ length l → num (drop r l) ≡ 0 → num l ≡ num (take r l)
-num-used l r h z =
+pub num_used : (l : List ℕ) (r : ℕ) → r ≤ length l → num (drop r l) ≡ 0 → num l ≡ num (take r l)
+num_used l r h z =
     let e = num-append (take r l) (drop r l) in
     let f : num l ≡ num (take r l ++ drop r l) = rw (take-append-drop r l) in
     let g : 256 ^ length (take r l) * num (drop r l) ≡ 0 = rw z (omega arith) in
@@ -73,25 +73,25 @@ zero-before l (suc i) h b z e =
     let g = rw q at e in
     rw (q, drop-cons l i 0 b, g, z)
 
-pub top-number : (l : List ℕ) (i h : ℕ) → Bytes l → i < length l → num (drop (suc i) l) ≡ 0 → TopOf (get_or l i 0) h
+pub top_number : (l : List ℕ) (i h : ℕ) → Bytes l → i < length l → num (drop (suc i) l) ≡ 0 → TopOf (get_or l i 0) h
     → (2 ^ (8 * i + h) ≤ num l) × (num l < 2 ^ suc (8 * i + h))
-top-number l i h b k z t =
-    let e : num l ≡ num (take i l ++ (get_or l i 0 ∷ [])) = num-used l (suc i) k z ∙ ap num (take-suc l i 0 k) in
+top_number l i h b k z t =
+    let e : num l ≡ num (take i l ++ (get_or l i 0 ∷ [])) = num_used l (suc i) k z ∙ ap num (take-suc l i 0 k) in
     let m : length (take i l) ≡ i = length-take-le i l (omega arith) in
     let f = top_from (take i l) (get_or l i 0) h t.from in
     let g = top_to (take i l) (get_or l i 0) h (bytes_take i l b) t.to in
     rw e (rw m at f, rw m at g)
 
 -- The highest bit of bytes is that of the last one in use.
-pub top-used : (l : List ℕ) (i h : ℕ) → Bytes l → i < length l → num (drop (suc i) l) ≡ 0 → TopOf (get_or l i 0) h
-    → highest (allBits l) ≡ At (8 * i + h)
-top-used l i h b k z t =
+pub top_used : (l : List ℕ) (i h : ℕ) → Bytes l → i < length l → num (drop (suc i) l) ≡ 0 → TopOf (get_or l i 0) h
+    → highest (all_bits l) ≡ At (8 * i + h)
+top_used l i h b k z t =
     let s = t.small in
-    let q = top-number l i h b k z t in
+    let q = top_number l i h b k z t in
     highest-at (8 * length l) (num l) (8 * i + h) (omega arith) q.0 q.1
 
-pub top-unused : (l : List ℕ) → num l ≡ 0 → highest (allBits l) ≡ Nothing
-top-unused l z = rw z (highest-none (8 * length l))
+pub top_unused : (l : List ℕ) → num l ≡ 0 → highest (all_bits l) ≡ Nothing
+top_unused l z = rw z (highest-none (8 * length l))
 
 -- What an index says of all elements, as a fact of the list
 pub bytes-known : (l : List ℕ) → ((i : ℕ) → Fits w8 (get_or l i 0)) → Bytes l
@@ -109,15 +109,15 @@ pub used_all : (l : List ℕ) → num (drop (length l) l) ≡ 0
 unfolding num
 used_all l = ap num (drop-length l)
 
-pub used-upto : (l : List ℕ) (i : ℕ) → i ≤ length l → num (drop i l) ≡ 0 → (get_or l (i - 1) 0 ≡ 0 → ⊥) → Used l i
-used-upto l i h z n = record { upto = h; zeros = z; last = λ (p : 0 < i). omega arith }
+pub used_upto : (l : List ℕ) (i : ℕ) → i ≤ length l → num (drop i l) ≡ 0 → (get_or l (i - 1) 0 ≡ 0 → ⊥) → Used l i
+used_upto l i h z n = record { upto = h; zeros = z; last = λ (p : 0 < i). omega arith }
 
-pub used-none : (l : List ℕ) → num l ≡ 0 → Used l 0
-used-none l z = record { upto = omega arith; zeros = z; last = λ (p : 0 < 0). omega arith }
+pub used_none : (l : List ℕ) → num l ≡ 0 → Used l 0
+used_none l z = record { upto = omega arith; zeros = z; last = λ (p : 0 < 0). omega arith }
 
 -- What `leading_zeros` counts, and the highest bit, make eight.
-pub top-counted : (x : ℕ) → 0 < x → x < 256 → (count_leading_zeros 8 x ≤ 7) × TopOf x (7 - count_leading_zeros 8 x)
-top-counted x p b =
+pub top_counted : (x : ℕ) → 0 < x → x < 256 → (count_leading_zeros 8 x ≤ 7) × TopOf x (7 - count_leading_zeros 8 x)
+top_counted x p b =
     let t = leading_top 8 x p b in
     let e : 7 - count_leading_zeros 8 x ≡ t.0 = omega (arith, t.1) in
     (omega (arith, t.1), rw e (record { small = omega (arith, t.1); from = t.2; to = t.3 }))

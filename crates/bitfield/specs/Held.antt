@@ -2,9 +2,9 @@
 use Rattle.std.specs.Prelude.{List, [], ◌++◌, Bool, ℕ, ◌+◌, min, max, eqb, leb, ltb, length, drop}
 use Rattle.standard.specs.Bits.{packs, bits_of}
 use Rattle.standard.specs.Bytes.{num}
-use Rattle.standard.specs.Choice.{pick, andAlso}
+use Rattle.standard.specs.Choice.{pick, and_also}
 use Rattle.standard.specs.declared.Refusal.TheVariants.{OutOfBounds, InvalidByteCount, OverLimit, NoRoom, BadState, LimitsDiffer}
-use Rattle.bitfield.specs.Body.{bytesFor}
+use Rattle.bitfield.specs.Body.{bytes_for_lem}
 use Rattle.bitfield.specs.Bools.{both, either, without, flipped}
 use Rattle.bitfield.specs.Raw.{op_of, firsts, clean}
 use Rattle.bitfield.specs.declared.raw.Op.{Op}
@@ -23,52 +23,52 @@ use Rattle.bitfield.specs.declared.Field.{Field}
 use Rattle.bitfield.specs.declared.Outcome.{Outcome}
 
 -- The bits that a bitfield's bytes hold
-unfoldable pub bitsIn : List ℕ → ℕ → List Bool
-bitsIn bytes len = bits_of len (num bytes)
+unfoldable pub bits_in : List ℕ → ℕ → List Bool
+bits_in bytes len = bits_of len (num bytes)
 
 -- Bits as they are held: in 256 bytes, with their number
 unfoldable pub held : List Bool → Field
 held bs = record { bytes = packs 256 bs; len = length bs }
 
 -- Raw bytes as they are written: at least one
-unfoldable pub rawBytes : List Bool → List ℕ
-rawBytes bs = packs (max 1 (bytesFor (length bs))) bs
+unfoldable pub raw_bytes_lem : List Bool → List ℕ
+raw_bytes_lem bs = packs (max 1 (bytes_for_lem (length bs))) bs
 
 -- What is done with two bitfields, by what is done with their bytes
-unfoldable pub opBits : Op → List Bool → List Bool → List Bool
-opBits And xs ys = both xs ys
-opBits Or xs ys = either xs ys
-opBits AndNot xs ys = without xs ys
-opBits Not xs ys = flipped xs
+unfoldable pub op_bits : Op → List Bool → List Bool → List Bool
+op_bits And xs ys = both xs ys
+op_bits Or xs ys = either xs ys
+op_bits AndNot xs ys = without xs ys
+op_bits Not xs ys = flipped xs
 
-unfoldable pub opLength : Op → ℕ → ℕ → ℕ
-opLength And n m = min n m
-opLength Or n m = max n m
-opLength AndNot n m = n
-opLength Not n m = n
+unfoldable pub op_length : Op → ℕ → ℕ → ℕ
+op_length And n m = min n m
+op_length Or n m = max n m
+op_length AndNot n m = n
+op_length Not n m = n
 
 -- All bytes of two fields put together, and how many bits come out
 abbrev pub merged : Op → List ℕ → ℕ → List ℕ → ℕ → Field
-merged op a la b lb = record { bytes = firsts (op_of op) 256 a b; len = opLength op la lb }
+merged op a la b lb = record { bytes = firsts (op_of op) 256 a b; len = op_length op la lb }
 
 -- 14: a limit above 2,048
 unfoldable pub limited : ℕ → Told
 limited n = pick (leb n 2048) Fine (Refused (OverLimit n 2048))
 
 -- 23 for a field that is not well formed, then 14
-unfoldable pub oneTold : Bool → ℕ → Told
-oneTold good n = pick good (limited n) (Refused BadState)
+unfoldable pub one_told_lem : Bool → ℕ → Told
+one_told_lem good n = pick good (limited n) (Refused BadState)
 
 -- 23 for either field, 24 for unlike limits, then 14
-unfoldable pub twoTold : Bool → ℕ → ℕ → Told
-twoTold good n m = pick good (pick (eqb n m) (limited n) (Refused LimitsDiffer)) (Refused BadState)
+unfoldable pub two_told_lem : Bool → ℕ → ℕ → Told
+two_told_lem good n m = pick good (pick (eqb n m) (limited n) (Refused LimitsDiffer)) (Refused BadState)
 
 -- A bit list is well formed with at most n bits, a bit vector with n bits, and neither above 2,048 or with a bit set behind its end.
-abbrev pub listGood : List ℕ → ℕ → ℕ → Bool
-listGood bytes len n = andAlso (leb len n) (clean bytes len)
+abbrev pub list_good : List ℕ → ℕ → ℕ → Bool
+list_good bytes len n = and_also (leb len n) (clean bytes len)
 
-abbrev pub vectorGood : List ℕ → ℕ → ℕ → Bool
-vectorGood bytes len n = andAlso (eqb len n) (clean bytes len)
+abbrev pub vector_good : List ℕ → ℕ → ℕ → Bool
+vector_good bytes len n = and_also (eqb len n) (clean bytes len)
 
 -- 9: no such bit
 unfoldable pub inside : ℕ → ℕ → Told
@@ -79,8 +79,8 @@ unfoldable pub up_to : ℕ → ℕ → Told
 up_to k most = pick (leb k most) Fine (Refused (OutOfBounds k most))
 
 -- 12: a limit below the old one
-unfoldable pub notBelow : ℕ → ℕ → Told
-notBelow m n = pick (leb n m) Fine (Refused (InvalidByteCount m (n + 1)))
+unfoldable pub not_below : ℕ → ℕ → Told
+not_below m n = pick (leb n m) Fine (Refused (InvalidByteCount m (n + 1)))
 
 -- 22: no room
 unfoldable pub room_for : ℕ → ℕ → Told
@@ -96,18 +96,18 @@ abbrev pub outcome : Told → Field → Outcome
 outcome Fine f = record { field = f; told = Fine }
 outcome (Refused x) f = record { field = held []; told = Refused x }
 
-abbrev pub bitAnswer : Told → Bool → BitResult
-bitAnswer Fine x = Is x
-bitAnswer (Refused y) x = NoBit y
+abbrev pub bit_answer : Told → Bool → BitResult
+bit_answer Fine x = Is x
+bit_answer (Refused y) x = NoBit y
 
-abbrev pub countAnswer : Told → ℕ → CountResult
-countAnswer Fine k = Count k
-countAnswer (Refused y) k = NoCount y
+abbrev pub count_answer : Told → ℕ → CountResult
+count_answer Fine k = Count k
+count_answer (Refused y) k = NoCount y
 
-abbrev pub topAnswer : Told → Top → HighestBit
-topAnswer Fine (At i) = AtBit i
-topAnswer Fine Nothing = NoneSet
-topAnswer (Refused y) t = NoTop y
+abbrev pub top_answer : Told → Top → HighestBit
+top_answer Fine (At i) = AtBit i
+top_answer Fine Nothing = NoneSet
+top_answer (Refused y) t = NoTop y
 
 -- A buffer afterwards: bytes at its front and the rest kept, or as it was
 abbrev pub written : Told → List ℕ → List ℕ → List ℕ

@@ -2,11 +2,11 @@
 use Rattle.std.specs.Prelude.{List, [], Bool, false, ℕ, length, get_or, set}
 use Rattle.standard.specs.Bits.{marked, bits_of}
 use Rattle.standard.specs.Bytes.{num}
-use Rattle.standard.specs.Choice.{andAlso}
-use Rattle.bitfield.specs.Body.{highest, bitListBody}
-use Rattle.bitfield.specs.Bools.{both, either, without, flipped, noBits, moved, widened, count, noneSet, subset}
-use Rattle.bitfield.specs.Held.{bitsIn, held, merged, limited, oneTold, twoTold, listGood, inside, up_to, notBelow, room_for, and_then, bitAnswer}
-use Rattle.bitfield.specs.Held.{countAnswer, topAnswer, written}
+use Rattle.standard.specs.Choice.{and_also}
+use Rattle.bitfield.specs.Body.{highest, bit_list_body}
+use Rattle.bitfield.specs.Bools.{both, either, without, flipped, no_bits, moved, widened, count, none_set, subset}
+use Rattle.bitfield.specs.Held.{bits_in, held, merged, limited, one_told_lem, two_told_lem, list_good, inside, up_to, not_below, room_for, and_then, bit_answer}
+use Rattle.bitfield.specs.Held.{count_answer, top_answer, written}
 use Rattle.bitfield.specs.declared.BodyBits.{BodyBits}
 use Rattle.bitfield.specs.declared.BodyBits.TheVariants.{Bits, Refused as NoBody}
 use Rattle.standard.specs.declared.Told.{Told}
@@ -22,96 +22,96 @@ use Rattle.bitfield.specs.declared.ListResult.{ListResult}
 
 -- The bits of a list
 abbrev pub bits : BitList → List Bool
-bits a = bitsIn a.bytes a.len
+bits a = bits_in a.bytes a.len
 
 -- 23, 14
-unfoldable pub listTold : BitList → Told
-listTold a = oneTold (listGood a.bytes a.len a.n) a.n
+unfoldable pub list_told : BitList → Told
+list_told a = one_told_lem (list_good a.bytes a.len a.n) a.n
 
 -- 23, 24, 14
-unfoldable pub listsTold : BitList → BitList → Told
-listsTold a b = twoTold (andAlso (listGood a.bytes a.len a.n) (listGood b.bytes b.len b.n)) a.n b.n
+unfoldable pub lists_told : BitList → BitList → Told
+lists_told a b = two_told_lem (and_also (list_good a.bytes a.len a.n) (list_good b.bytes b.len b.n)) a.n b.n
 
 abbrev pub of_list : Field → ℕ → BitList
 of_list f n = record { bytes = f.bytes; len = f.len; n = n }
 
 -- The list where there is no old one
-abbrev pub noList : BitList
-noList = of_list (held []) 0
+abbrev pub no_list : BitList
+no_list = of_list (held []) 0
 
 -- The new list with these bits and this limit, or the old one with a refusal
-abbrev pub listMade : Told → BitList → Field → ℕ → ListResult
-listMade Fine old f n = record { field = of_list f n; told = Fine }
-listMade (Refused x) old f n = record { field = old; told = Refused x }
+abbrev pub list_made : Told → BitList → Field → ℕ → ListResult
+list_made Fine old f n = record { field = of_list f n; told = Fine }
+list_made (Refused x) old f n = record { field = old; told = Refused x }
 
-abbrev pub listAnswer : Told → BitList → List Bool → ℕ → ListResult
-listAnswer told old bs n = listMade told old (held bs) n
+abbrev pub list_answer : Told → BitList → List Bool → ℕ → ListResult
+list_answer told old bs n = list_made told old (held bs) n
 
-unfoldable pub listWithCapacity : ℕ → ℕ → ListResult
-listWithCapacity k n = listAnswer (and_then (limited n) (up_to k n)) noList (noBits k) n
+unfoldable pub list_with_capacity : ℕ → ℕ → ListResult
+list_with_capacity k n = list_answer (and_then (limited n) (up_to k n)) no_list (no_bits k) n
 
 -- What a body's test says, as an answer
-abbrev pub ofBody : Told → BodyBits → List ℕ → ℕ → ListResult
-ofBody (Refused x) body l n = record { field = noList; told = Refused x }
-ofBody Fine (NoBody x) l n = record { field = noList; told = Refused x }
-ofBody Fine (Bits k) l n = listAnswer Fine noList (bits_of k (num l)) n
+abbrev pub of_body : Told → BodyBits → List ℕ → ℕ → ListResult
+of_body (Refused x) body l n = record { field = no_list; told = Refused x }
+of_body Fine (NoBody x) l n = record { field = no_list; told = Refused x }
+of_body Fine (Bits k) l n = list_answer Fine no_list (bits_of k (num l)) n
 
-unfoldable pub listFromBytes : List ℕ → ℕ → ListResult
-listFromBytes l n = ofBody (limited n) (bitListBody l n) l n
+unfoldable pub list_from_bytes : List ℕ → ℕ → ListResult
+list_from_bytes l n = of_body (limited n) (bit_list_body l n) l n
 
 -- into_bytes: whether it went well, for a buffer of so many bytes
-unfoldable pub listRoom : BitList → ℕ → Told
-listRoom a room = and_then (listTold a) (room_for (length (marked (bits a))) room)
+unfoldable pub list_room : BitList → ℕ → Told
+list_room a room = and_then (list_told a) (room_for (length (marked (bits a))) room)
 
-unfoldable pub listIntoBytes : BitList → ℕ → CountResult
-listIntoBytes a room = countAnswer (listRoom a room) (length (marked (bits a)))
+unfoldable pub list_into_bytes : BitList → ℕ → CountResult
+list_into_bytes a room = count_answer (list_room a room) (length (marked (bits a)))
 
-unfoldable pub listBuffer : BitList → List ℕ → List ℕ
-listBuffer a out = written (listRoom a (length out)) (marked (bits a)) out
+unfoldable pub list_buffer : BitList → List ℕ → List ℕ
+list_buffer a out = written (list_room a (length out)) (marked (bits a)) out
 
 -- What a private call made, as an answer
-abbrev pub listOutcome : BitList → Outcome → ℕ → ListResult
-listOutcome old o n = listMade o.told old o.field n
+abbrev pub list_outcome : BitList → Outcome → ℕ → ListResult
+list_outcome old o n = list_made o.told old o.field n
 
 -- intersection, union and difference as the bytes have them, with what the first tests said
-unfoldable pub listMerge : Op → Told → BitList → BitList → ListResult
-listMerge op told a b = listMade told a (merged op a.bytes a.len b.bytes b.len) a.n
+unfoldable pub list_merge : Op → Told → BitList → BitList → ListResult
+list_merge op told a b = list_made told a (merged op a.bytes a.len b.bytes b.len) a.n
 
-unfoldable pub listIntersection : BitList → BitList → ListResult
-listIntersection a b = listAnswer (listsTold a b) a (both (bits a) (bits b)) a.n
+unfoldable pub list_intersection : BitList → BitList → ListResult
+list_intersection a b = list_answer (lists_told a b) a (both (bits a) (bits b)) a.n
 
-unfoldable pub listUnion : BitList → BitList → ListResult
-listUnion a b = listAnswer (listsTold a b) a (either (bits a) (bits b)) a.n
+unfoldable pub list_union : BitList → BitList → ListResult
+list_union a b = list_answer (lists_told a b) a (either (bits a) (bits b)) a.n
 
-unfoldable pub listDifference : BitList → BitList → ListResult
-listDifference a b = listAnswer (listsTold a b) a (without (bits a) (bits b)) a.n
+unfoldable pub list_difference : BitList → BitList → ListResult
+list_difference a b = list_answer (lists_told a b) a (without (bits a) (bits b)) a.n
 
-unfoldable pub listIsSubset : BitList → BitList → BitResult
-listIsSubset a b = bitAnswer (listsTold a b) (subset (bits a) (bits b))
+unfoldable pub list_is_subset : BitList → BitList → BitResult
+list_is_subset a b = bit_answer (lists_told a b) (subset (bits a) (bits b))
 
-unfoldable pub listResize : BitList → ℕ → ListResult
-listResize a m = listAnswer (and_then (listTold a) (and_then (limited m) (notBelow m a.n))) a (widened m (bits a)) m
+unfoldable pub list_resize : BitList → ℕ → ListResult
+list_resize a m = list_answer (and_then (list_told a) (and_then (limited m) (not_below m a.n))) a (widened m (bits a)) m
 
-unfoldable pub listCloneZeroed : BitList → ListResult
-listCloneZeroed a = listAnswer (listTold a) a (noBits a.len) a.n
+unfoldable pub list_clone_zeroed : BitList → ListResult
+list_clone_zeroed a = list_answer (list_told a) a (no_bits a.len) a.n
 
-unfoldable pub listSet : BitList → ℕ → Bool → ListResult
-listSet a i v = listAnswer (and_then (listTold a) (inside i a.len)) a (set (bits a) i v) a.n
+unfoldable pub list_set : BitList → ℕ → Bool → ListResult
+list_set a i v = list_answer (and_then (list_told a) (inside i a.len)) a (set (bits a) i v) a.n
 
-unfoldable pub listGet : BitList → ℕ → BitResult
-listGet a i = bitAnswer (and_then (listTold a) (inside i a.len)) (get_or (bits a) i false)
+unfoldable pub list_get : BitList → ℕ → BitResult
+list_get a i = bit_answer (and_then (list_told a) (inside i a.len)) (get_or (bits a) i false)
 
-unfoldable pub listHighestSetBit : BitList → HighestBit
-listHighestSetBit a = topAnswer (listTold a) (highest (bits a))
+unfoldable pub list_highest_set_bit : BitList → HighestBit
+list_highest_set_bit a = top_answer (list_told a) (highest (bits a))
 
-unfoldable pub listIsZero : BitList → BitResult
-listIsZero a = bitAnswer (listTold a) (noneSet (bits a))
+unfoldable pub list_is_zero : BitList → BitResult
+list_is_zero a = bit_answer (list_told a) (none_set (bits a))
 
-unfoldable pub listNumSetBits : BitList → CountResult
-listNumSetBits a = countAnswer (listTold a) (count (bits a))
+unfoldable pub list_num_set_bits : BitList → CountResult
+list_num_set_bits a = count_answer (list_told a) (count (bits a))
 
-unfoldable pub listNot : BitList → ListResult
-listNot a = listAnswer (listTold a) a (flipped (bits a)) a.n
+unfoldable pub list_not : BitList → ListResult
+list_not a = list_answer (list_told a) a (flipped (bits a)) a.n
 
-unfoldable pub listShiftUp : BitList → ℕ → ListResult
-listShiftUp a k = listAnswer (and_then (listTold a) (up_to k a.len)) a (moved k (bits a)) a.n
+unfoldable pub list_shift_up : BitList → ℕ → ListResult
+list_shift_up a k = list_answer (and_then (list_told a) (up_to k a.len)) a (moved k (bits a)) a.n

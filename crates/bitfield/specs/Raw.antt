@@ -2,7 +2,7 @@
 use Rattle.std.specs.Prelude.{◌≡◌, List, [], ◌∷◌, ◌++◌, Bool, ℕ, zero, suc, ◌+◌, ◌-◌, ◌*◌, ◌/◌, ◌%◌, ◌^◌, leb, ltb, length, take, drop, replicate}
 use Rattle.std.specs.Int.Bits.{bit_and, bit_or}
 use Rattle.standard.specs.Bytes.{Bytes, num}
-use Rattle.standard.specs.Choice.{andAlso}
+use Rattle.standard.specs.Choice.{and_also}
 use Rattle.bitfield.specs.declared.raw.Op.{Op}
 use Rattle.bitfield.specs.declared.raw.Op.TheVariants.{And, Or, AndNot, Not}
 
@@ -28,7 +28,7 @@ firsts f i xs ys = zipped f (take i xs) (take i ys) ++ replicate (256 - i) 0
 
 -- At most 2,048 bits, and nothing set from bit len on
 unfoldable pub clean : List ℕ → ℕ → Bool
-clean l len = andAlso (leb len 2048) (ltb (num l) (2 ^ len))
+clean l len = and_also (leb len 2048) (ltb (num l) (2 ^ len))
 
 -- The bits of the last byte in use: as many as are left for it, 1 to 8, and none where no byte is in use
 unfoldable pub mask_of : ℕ → ℕ

@@ -1,7 +1,7 @@
 // Bodies of a message: whether bytes are those of a bit list or of a bit vector. Nothing is copied.
 ghost use Rattle.std.specs.Prelude.{◌≡◌, ℕ, ◌+◌, ◌-◌, ◌*◌, ◌/◌, ◌<◌, ◌≤◌, length, get_or, drop};
 ghost use Rattle.standard.specs.Bytes.{Bytes, num};
-ghost use Rattle.bitfield.specs.Body.{bitListBody, bitVectorBody, bytesFor, listBits, within};
+ghost use Rattle.bitfield.specs.Body.{bit_list_body, bit_vector_body, bytes_for_lem, list_bits_lem, within};
 ghost use Rattle.bitfield.specs.Facts.{Used, TopOf};
 
 use super::BodyBits;
@@ -32,7 +32,7 @@ pub(crate) fn top_bit(x: u8) -> usize
 
 // The bytes that n bits need.
 pub(crate) fn bytes_for(n: usize) -> usize
-    ensures { result ≡ bytesFor n }
+    ensures { result ≡ bytes_for_lem n }
 {
     let q = n / 8;
     if n % 8 == 0 { q } else { q + 1 }
@@ -41,7 +41,7 @@ pub(crate) fn bytes_for(n: usize) -> usize
 // The number of bits before bit h of byte i, where it is at most n.
 fn list_bits(i: usize, h: usize, n: usize) -> BodyBits
     requires { h < 8 }
-    ensures { result ≡ listBits (8 * i + h) n }
+    ensures { result ≡ list_bits_lem (8 * i + h) n }
 {
     let q = n / 8;
     if q < i {
@@ -58,7 +58,7 @@ fn list_bits(i: usize, h: usize, n: usize) -> BodyBits
 // A bit list's body whose last byte is zero is none.
 fn unmarked(bytes: &[u8]) -> BodyBits
     requires { (0 < length bytes.now) × (get_or bytes.now (length bytes.now - 1) 0 ≡ 0) }
-    ensures { (n : ℕ) → result ≡ bitListBody bytes.now n }
+    ensures { (n : ℕ) → result ≡ bit_list_body bytes.now n }
 {
     let used = used_bytes(bytes, bytes.len());
     if used == 0 {
@@ -70,7 +70,7 @@ fn unmarked(bytes: &[u8]) -> BodyBits
 
 // The number of bits of a bit list that has these bytes and at most n bits.
 pub fn bitlist_body(bytes: &[u8], n: usize) -> BodyBits
-    ensures { result ≡ bitListBody bytes.now n }
+    ensures { result ≡ bit_list_body bytes.now n }
 {
     let len = bytes.len();
     if len == 0 {
@@ -101,7 +101,7 @@ fn none_above(bytes: &[u8], n: usize) -> Told
 
 // Whether these bytes are a bit vector of n bits.
 pub fn bitvector_body(bytes: &[u8], n: usize) -> Told
-    ensures { result ≡ bitVectorBody bytes.now n }
+    ensures { result ≡ bit_vector_body bytes.now n }
 {
     let len = bytes.len();
     if n == 0 {

@@ -1,9 +1,9 @@
 // Calls on a field whose first tests are made, whether it is a list's or a vector's: the crate's own tests, and the work.
 ghost use Rattle.std.specs.Prelude.{◌≡◌, [], false, ◌≤◌, get_or, set};
 ghost use Rattle.bitfield.specs.Body.{highest};
-ghost use Rattle.bitfield.specs.Bools.{noBits, flipped, moved, widened, count, noneSet, subset};
+ghost use Rattle.bitfield.specs.Bools.{no_bits, flipped, moved, widened, count, none_set, subset};
 ghost use Rattle.bitfield.specs.Facts.{Kept};
-ghost use Rattle.bitfield.specs.Held.{bitsIn, held, limited, inside, up_to, notBelow, and_then, outcome, bitAnswer, countAnswer, topAnswer};
+ghost use Rattle.bitfield.specs.Held.{bits_in, held, limited, inside, up_to, not_below, and_then, outcome, bit_answer, count_answer, top_answer};
 
 use super::fields::{changed, count_of, highest_of, merged, upward, wider, zeros};
 use super::raw::{Op, bit_at, none_from};
@@ -32,7 +32,7 @@ pub(crate) fn made(field: Field) -> Outcome
 // The complement.
 pub(crate) fn complement(told: Told, a: &[u8; 256], len: usize) -> Outcome
     requires { told ≡ Told.Fine → Kept a.now len }
-    ensures { result ≡ outcome told (held (flipped (bitsIn a.now len))) }
+    ensures { result ≡ outcome told (held (flipped (bits_in a.now len))) }
 {
     match told {
         Told::Fine => made(merged(Op::Not, a, len, a, len)),
@@ -48,7 +48,7 @@ pub(crate) fn subset_told<'a>(
     lb: usize,
 ) -> BitResult
     requires { told ≡ Told.Fine → Kept a.now la × Kept b.now lb }
-    ensures { result ≡ bitAnswer told (subset (bitsIn a.now la) (bitsIn b.now lb)) }
+    ensures { result ≡ bit_answer told (subset (bits_in a.now la) (bits_in b.now lb)) }
 {
     match told {
         Told::Fine => {
@@ -61,7 +61,7 @@ pub(crate) fn subset_told<'a>(
 
 pub(crate) fn set_bit(told: Told, a: &[u8; 256], len: usize, i: usize, v: bool) -> Outcome
     requires { told ≡ Told.Fine → Kept a.now len }
-    ensures { result ≡ outcome (and_then told (inside i len)) (held (set (bitsIn a.now len) i v)) }
+    ensures { result ≡ outcome (and_then told (inside i len)) (held (set (bits_in a.now len) i v)) }
 {
     let all = inside_told(told, i, len);
     match all {
@@ -72,7 +72,7 @@ pub(crate) fn set_bit(told: Told, a: &[u8; 256], len: usize, i: usize, v: bool) 
 
 pub(crate) fn get_bit(told: Told, a: &[u8; 256], len: usize, i: usize) -> BitResult
     requires { told ≡ Told.Fine → Kept a.now len }
-    ensures { result ≡ bitAnswer (and_then told (inside i len)) (get_or (bitsIn a.now len) i false) }
+    ensures { result ≡ bit_answer (and_then told (inside i len)) (get_or (bits_in a.now len) i false) }
 {
     let all = inside_told(told, i, len);
     match all {
@@ -83,7 +83,7 @@ pub(crate) fn get_bit(told: Told, a: &[u8; 256], len: usize, i: usize) -> BitRes
 
 pub(crate) fn shift(told: Told, a: &[u8; 256], len: usize, n: usize) -> Outcome
     requires { told ≡ Told.Fine → Kept a.now len }
-    ensures { result ≡ outcome (and_then told (up_to n len)) (held (moved n (bitsIn a.now len))) }
+    ensures { result ≡ outcome (and_then told (up_to n len)) (held (moved n (bits_in a.now len))) }
 {
     let all = up_to_told(told, n, len);
     match all {
@@ -94,7 +94,7 @@ pub(crate) fn shift(told: Told, a: &[u8; 256], len: usize, n: usize) -> Outcome
 
 pub(crate) fn zero_told(told: Told, a: &[u8; 256], len: usize) -> BitResult
     requires { told ≡ Told.Fine → Kept a.now len }
-    ensures { result ≡ bitAnswer told (noneSet (bitsIn a.now len)) }
+    ensures { result ≡ bit_answer told (none_set (bits_in a.now len)) }
 {
     match told {
         Told::Fine => BitResult::Is(none_from(a, 0)),
@@ -104,7 +104,7 @@ pub(crate) fn zero_told(told: Told, a: &[u8; 256], len: usize) -> BitResult
 
 pub(crate) fn count_told(told: Told, a: &[u8; 256], len: usize) -> CountResult
     requires { told ≡ Told.Fine → Kept a.now len }
-    ensures { result ≡ countAnswer told (count (bitsIn a.now len)) }
+    ensures { result ≡ count_answer told (count (bits_in a.now len)) }
 {
     match told {
         Told::Fine => CountResult::Count(count_of(a, len)),
@@ -114,7 +114,7 @@ pub(crate) fn count_told(told: Told, a: &[u8; 256], len: usize) -> CountResult
 
 pub(crate) fn highest_told(told: Told, a: &[u8; 256], len: usize) -> HighestBit
     requires { told ≡ Told.Fine → Kept a.now len }
-    ensures { result ≡ topAnswer told (highest (bitsIn a.now len)) }
+    ensures { result ≡ top_answer told (highest (bits_in a.now len)) }
 {
     match told {
         Told::Refused(x) => HighestBit::Refused(x),
@@ -130,7 +130,7 @@ pub(crate) fn highest_told(told: Told, a: &[u8; 256], len: usize) -> HighestBit
 
 pub(crate) fn fresh(told: Told, len: usize) -> Outcome
     requires { told ≡ Told.Fine → len ≤ 2048 }
-    ensures { result ≡ outcome told (held (noBits len)) }
+    ensures { result ≡ outcome told (held (no_bits len)) }
 {
     match told {
         Told::Fine => made(zeros(len)),
@@ -140,7 +140,7 @@ pub(crate) fn fresh(told: Told, len: usize) -> Outcome
 
 pub(crate) fn resize_to(told: Told, a: &[u8; 256], len: usize, n: usize, m: usize) -> Outcome
     requires { told ≡ Told.Fine → Kept a.now len × (len ≤ n) × (n ≤ 2048) }
-    ensures { result ≡ outcome (and_then told (and_then (limited m) (notBelow m n))) (held (widened m (bitsIn a.now len))) }
+    ensures { result ≡ outcome (and_then told (and_then (limited m) (not_below m n))) (held (widened m (bits_in a.now len))) }
 {
     let first = limit_after(told, m);
     match first {

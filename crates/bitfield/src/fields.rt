@@ -3,10 +3,10 @@ ghost use Rattle.std.specs.Prelude.{◌≡◌, ◌++◌, ◌+◌, ◌/◌, ◌%�
 ghost use Rattle.standard.specs.Bits.{marked};
 ghost use Rattle.standard.specs.Bytes.{Bytes, num};
 ghost use Rattle.standard.specs.Bits.{bits_of};
-ghost use Rattle.bitfield.specs.Body.{bytesFor, highest};
-ghost use Rattle.bitfield.specs.Bools.{noBits, moved, widened, count};
+ghost use Rattle.bitfield.specs.Body.{bytes_for_lem, highest};
+ghost use Rattle.bitfield.specs.Bools.{no_bits, moved, widened, count};
 ghost use Rattle.bitfield.specs.Facts.{Kept};
-ghost use Rattle.bitfield.specs.Held.{bitsIn, held, opBits, opLength};
+ghost use Rattle.bitfield.specs.Held.{bits_in, held, op_bits, op_length};
 
 use super::body::{bytes_for, top_bit, used_bytes};
 use super::raw::{Op, combine, copy_of, cut, ones_in, put_bit, put_raw, shifted};
@@ -14,7 +14,7 @@ use super::{Field, Top};
 
 // How many bits come out.
 pub(crate) fn op_len(op: Op, la: usize, lb: usize) -> usize
-    ensures { result ≡ opLength op la lb }
+    ensures { result ≡ op_length op la lb }
 {
     match op {
         Op::And => { if la <= lb { la } else { lb } }
@@ -27,7 +27,7 @@ pub(crate) fn op_len(op: Op, la: usize, lb: usize) -> usize
 // Two fields put together, byte by byte.
 pub(crate) fn merged<'a>(op: Op, a: &'a [u8; 256], la: usize, b: &'a [u8; 256], lb: usize) -> Field
     requires { Kept a.now la × Kept b.now lb }
-    ensures { result ≡ held (opBits op (bitsIn a.now la) (bitsIn b.now lb)) }
+    ensures { result ≡ held (op_bits op (bits_in a.now la) (bits_in b.now lb)) }
 {
     let len = op_len(op, la, lb);
     let mut bytes = combine(op, a, b, bytes_for(len));
@@ -38,7 +38,7 @@ pub(crate) fn merged<'a>(op: Op, a: &'a [u8; 256], la: usize, b: &'a [u8; 256], 
 // No bit set.
 pub(crate) fn zeros(len: usize) -> Field
     requires { len ≤ 2048 }
-    ensures { result ≡ held (noBits len) }
+    ensures { result ≡ held (no_bits len) }
 {
     Field {
         bytes: [0u8; 256],
@@ -49,7 +49,7 @@ pub(crate) fn zeros(len: usize) -> Field
 // The same bits, m in all.
 pub(crate) fn wider(a: &[u8; 256], len: usize, m: usize) -> Field
     requires { Kept a.now len × (len ≤ m) × (m ≤ 2048) }
-    ensures { result ≡ held (widened m (bitsIn a.now len)) }
+    ensures { result ≡ held (widened m (bits_in a.now len)) }
 {
     let bytes = *a;
     Field { bytes, len: m }
@@ -58,7 +58,7 @@ pub(crate) fn wider(a: &[u8; 256], len: usize, m: usize) -> Field
 // Every bit n places up.
 pub(crate) fn upward(a: &[u8; 256], len: usize, n: usize) -> Field
     requires { Kept a.now len × (n ≤ len) }
-    ensures { result ≡ held (moved n (bitsIn a.now len)) }
+    ensures { result ≡ held (moved n (bits_in a.now len)) }
 {
     let mut bytes = shifted(a, n, bytes_for(len));
     cut(&mut bytes, len);
@@ -68,7 +68,7 @@ pub(crate) fn upward(a: &[u8; 256], len: usize, n: usize) -> Field
 // Bit i made v.
 pub(crate) fn changed(a: &[u8; 256], len: usize, i: usize, v: bool) -> Field
     requires { Kept a.now len × (i < len) }
-    ensures { result ≡ held (set (bitsIn a.now len) i v) }
+    ensures { result ≡ held (set (bits_in a.now len) i v) }
 {
     let mut bytes = *a;
     put_bit(&mut bytes, i, v);
@@ -77,7 +77,7 @@ pub(crate) fn changed(a: &[u8; 256], len: usize, i: usize, v: bool) -> Field
 
 // The first k bits of some bytes.
 pub(crate) fn read(bytes: &[u8], k: usize) -> Field
-    requires { (k ≤ 2048) × (bytesFor k ≤ length bytes.now) × Bytes bytes.now }
+    requires { (k ≤ 2048) × (bytes_for_lem k ≤ length bytes.now) × Bytes bytes.now }
     ensures { result ≡ held (bits_of k (num bytes.now)) }
 {
     let mut out = copy_of(bytes, bytes_for(k));
@@ -88,7 +88,7 @@ pub(crate) fn read(bytes: &[u8], k: usize) -> Field
 // The highest set bit.
 pub(crate) fn highest_of(a: &[u8; 256], len: usize) -> Top
     requires { Kept a.now len }
-    ensures { result ≡ highest (bitsIn a.now len) }
+    ensures { result ≡ highest (bits_in a.now len) }
 {
     let used = used_bytes(a, bytes_for(len));
     if used == 0 {
@@ -101,7 +101,7 @@ pub(crate) fn highest_of(a: &[u8; 256], len: usize) -> Top
 // How many bits are set.
 pub(crate) fn count_of(a: &[u8; 256], len: usize) -> usize
     requires { Kept a.now len }
-    ensures { result ≡ count (bitsIn a.now len) }
+    ensures { result ≡ count (bits_in a.now len) }
 {
     ones_in(a, (len + 63) / 64)
 }
@@ -119,7 +119,7 @@ fn mark_byte(a: &[u8; 256], len: usize) -> u8
 // Puts the bits and the mark behind them into a buffer, which keeps the rest.
 pub(crate) fn put_marked(out: &mut [u8], a: &[u8; 256], len: usize)
     requires { Kept a.now len × (len / 8 + 1 ≤ length out.old) }
-    ensures { out.new ≡ marked (bitsIn a.now len) ++ drop (len / 8 + 1) out.old }
+    ensures { out.new ≡ marked (bits_in a.now len) ++ drop (len / 8 + 1) out.old }
 {
     let q = len / 8;
     put_raw(out, a, q);

@@ -1,12 +1,12 @@
 // Bit lists, held by value. Each call tests its fields first: 23, 24, 14, then the crate's own tests.
 ghost use Rattle.std.specs.Prelude.{◌≡◌, length};
-ghost use Rattle.standard.specs.Choice.{andAlso};
-ghost use Rattle.bitfield.specs.Held.{oneTold, twoTold, listGood};
+ghost use Rattle.standard.specs.Choice.{and_also};
+ghost use Rattle.bitfield.specs.Held.{one_told_lem, two_told_lem, list_good};
 ghost use Rattle.bitfield.specs.Raw.{Raw};
 ghost use Rattle.bitfield.specs.Facts.{Kept};
-ghost use Rattle.bitfield.specs.Lists.{noList, listOutcome, listWithCapacity, listFromBytes, listIntoBytes, listBuffer};
-ghost use Rattle.bitfield.specs.Lists.{listMerge, listIntersection, listUnion, listDifference, listIsSubset, listResize, listCloneZeroed};
-ghost use Rattle.bitfield.specs.Lists.{listSet, listGet, listHighestSetBit, listIsZero, listNumSetBits, listNot, listShiftUp};
+ghost use Rattle.bitfield.specs.Lists.{no_list, list_outcome, list_with_capacity, list_from_bytes, list_into_bytes, list_buffer};
+ghost use Rattle.bitfield.specs.Lists.{list_merge, list_intersection, list_union, list_difference, list_is_subset, list_resize, list_clone_zeroed};
+ghost use Rattle.bitfield.specs.Lists.{list_set, list_get, list_highest_set_bit, list_is_zero, list_num_set_bits, list_not, list_shift_up};
 
 use super::body::bitlist_body;
 use super::calls::{
@@ -21,7 +21,7 @@ use standard::Told;
 
 fn first_told(bytes: &[u8; 256], len: usize, n: usize) -> Told
     requires { Raw bytes.now }
-    ensures { result ≡ oneTold (listGood bytes.now len n) n }
+    ensures { result ≡ one_told_lem (list_good bytes.now len n) n }
 {
     one_told(is_list(bytes, len, n), n)
 }
@@ -36,7 +36,7 @@ fn pair_told<'a>(
     m: usize,
 ) -> Told
     requires { Raw a.now × Raw b.now }
-    ensures { (result ≡ twoTold (andAlso (listGood a.now la n) (listGood b.now lb m)) n m) ×
+    ensures { (result ≡ two_told_lem (and_also (list_good a.now la n) (list_good b.now lb m)) n m) ×
         (result ≡ Told.Fine → Kept a.now la × Kept b.now lb) }
 {
     two_told(is_list(a, la, n), is_list(b, lb, m), n, m)
@@ -44,7 +44,7 @@ fn pair_told<'a>(
 
 // What a call made, with its limit, or the old field.
 fn result_of(old: BitList, made: Outcome, n: usize) -> ListResult
-    ensures { result ≡ listOutcome old made n }
+    ensures { result ≡ list_outcome old made n }
 {
     let told = made.told;
     match told {
@@ -70,7 +70,7 @@ fn result_of(old: BitList, made: Outcome, n: usize) -> ListResult
 // Two fields put together byte by byte, where the first tests refused nothing. The tests stay with the callers: with them in here this is
 // a call of its own when compiled, both fields are copied once more, and at 64 bits that is slower than the original.
 fn merged_lists(op: Op, told: Told, a: BitList, b: BitList) -> ListResult
-    ensures { result ≡ listMerge op told a b }
+    ensures { result ≡ list_merge op told a b }
 {
     match told {
         Told::Refused(x) => ListResult {
@@ -90,7 +90,7 @@ fn merged_lists(op: Op, told: Told, a: BitList, b: BitList) -> ListResult
 
 // The field where there is no old one.
 fn nothing() -> BitList
-    ensures { result ≡ noList }
+    ensures { result ≡ no_list }
 {
     let field = zeros(0);
     let bytes = field.bytes;
@@ -104,7 +104,7 @@ fn nothing() -> BitList
 impl BitList {
     // So many bits, of at most n, and none of them set.
     pub fn with_capacity(len: usize, n: usize) -> ListResult
-        ensures { result ≡ listWithCapacity len n }
+        ensures { result ≡ list_with_capacity len n }
     {
         let told = up_to_told(limit_told(n), len, n);
         result_of(nothing(), fresh(told, len), n)
@@ -112,7 +112,7 @@ impl BitList {
 
     // The bits of a bit list's serialization.
     pub fn from_bytes(bytes: &[u8], n: usize) -> ListResult
-        ensures { result ≡ listFromBytes bytes.now n }
+        ensures { result ≡ list_from_bytes bytes.now n }
     {
         let told = limit_told(n);
         match told {
@@ -129,7 +129,7 @@ impl BitList {
 
     // Writes the serialization into a buffer, which keeps the rest, and says how many bytes it has.
     pub fn into_bytes(self, out: &mut [u8]) -> CountResult
-        ensures { (result ≡ listIntoBytes self (length out.old)) × (out.new ≡ listBuffer self out.old) }
+        ensures { (result ≡ list_into_bytes self (length out.old)) × (out.new ≡ list_buffer self out.old) }
     {
         let len = self.len;
         let need = len / 8 + 1;
@@ -145,7 +145,7 @@ impl BitList {
 
     // The same bits with the limit m, m of them.
     pub fn resize(self, m: usize) -> ListResult
-        ensures { result ≡ listResize self m }
+        ensures { result ≡ list_resize self m }
     {
         let len = self.len;
         let n = self.n;
@@ -155,7 +155,7 @@ impl BitList {
 
     // As many bits, and none of them set.
     pub fn clone_zeroed(self) -> ListResult
-        ensures { result ≡ listCloneZeroed self }
+        ensures { result ≡ list_clone_zeroed self }
     {
         let len = self.len;
         let n = self.n;
@@ -165,7 +165,7 @@ impl BitList {
 
     // The bits that both have.
     pub fn intersection(self, other: BitList) -> ListResult
-        ensures { result ≡ listIntersection self other }
+        ensures { result ≡ list_intersection self other }
     {
         let len = self.len;
         let its_len = other.len;
@@ -175,7 +175,7 @@ impl BitList {
 
     // The bits that either has.
     pub fn union(self, other: BitList) -> ListResult
-        ensures { result ≡ listUnion self other }
+        ensures { result ≡ list_union self other }
     {
         let len = self.len;
         let its_len = other.len;
@@ -185,7 +185,7 @@ impl BitList {
 
     // The bits that the other one has not.
     pub fn difference(self, other: BitList) -> ListResult
-        ensures { result ≡ listDifference self other }
+        ensures { result ≡ list_difference self other }
     {
         let len = self.len;
         let its_len = other.len;
@@ -195,7 +195,7 @@ impl BitList {
 
     // Whether every set bit is set in the other one.
     pub fn is_subset(self, other: BitList) -> BitResult
-        ensures { result ≡ listIsSubset self other }
+        ensures { result ≡ list_is_subset self other }
     {
         let len = self.len;
         let its_len = other.len;
@@ -205,7 +205,7 @@ impl BitList {
 
     // Bit i made the value.
     pub fn set(self, i: usize, value: bool) -> ListResult
-        ensures { result ≡ listSet self i value }
+        ensures { result ≡ list_set self i value }
     {
         let len = self.len;
         let n = self.n;
@@ -215,7 +215,7 @@ impl BitList {
 
     // Bit i.
     pub fn get(self, i: usize) -> BitResult
-        ensures { result ≡ listGet self i }
+        ensures { result ≡ list_get self i }
     {
         let len = self.len;
         get_bit(first_told(&self.bytes, len, self.n), &self.bytes, len, i)
@@ -223,7 +223,7 @@ impl BitList {
 
     // The highest set bit.
     pub fn highest_set_bit(self) -> HighestBit
-        ensures { result ≡ listHighestSetBit self }
+        ensures { result ≡ list_highest_set_bit self }
     {
         let len = self.len;
         highest_told(first_told(&self.bytes, len, self.n), &self.bytes, len)
@@ -231,7 +231,7 @@ impl BitList {
 
     // Whether no bit is set.
     pub fn is_zero(self) -> BitResult
-        ensures { result ≡ listIsZero self }
+        ensures { result ≡ list_is_zero self }
     {
         let len = self.len;
         zero_told(first_told(&self.bytes, len, self.n), &self.bytes, len)
@@ -239,7 +239,7 @@ impl BitList {
 
     // How many bits are set.
     pub fn num_set_bits(self) -> CountResult
-        ensures { result ≡ listNumSetBits self }
+        ensures { result ≡ list_num_set_bits self }
     {
         let len = self.len;
         count_told(first_told(&self.bytes, len, self.n), &self.bytes, len)
@@ -247,7 +247,7 @@ impl BitList {
 
     // The complement.
     pub fn not(self) -> ListResult
-        ensures { result ≡ listNot self }
+        ensures { result ≡ list_not self }
     {
         let len = self.len;
         let n = self.n;
@@ -258,7 +258,7 @@ impl BitList {
 
     // Every bit k places up; what passes the end is lost.
     pub fn shift_up(self, k: usize) -> ListResult
-        ensures { result ≡ listShiftUp self k }
+        ensures { result ≡ list_shift_up self k }
     {
         let len = self.len;
         let n = self.n;

@@ -4,7 +4,7 @@ ghost use Rattle.std.specs.Prelude.{◌≡◌, ◌++◌, ◌+◌, ◌*◌, ◌/�
 ghost use Rattle.std.specs.Int.Count.{ones};
 ghost use Rattle.standard.specs.Bytes.{Bytes, num, le, four};
 ghost use Rattle.standard.specs.Bits.{bit};
-ghost use Rattle.bitfield.specs.Body.{bytesFor};
+ghost use Rattle.bitfield.specs.Body.{bytes_for_lem};
 ghost use Rattle.bitfield.specs.Raw.{Raw, op_of, keep, firsts, clean, mask_of};
 ghost use Rattle.bitfield.specs.Facts.{Put, Word};
 
@@ -160,7 +160,7 @@ fn last_byte_mask(len: usize) -> u8
 
 // Clears what the last byte in use has behind len bits.
 pub(crate) fn cut(bytes: &mut [u8; 256], len: usize)
-    requires { (len ≤ 2048) × Raw bytes.old × (num bytes.old < 2 ^ (8 * bytesFor len)) }
+    requires { (len ≤ 2048) × Raw bytes.old × (num bytes.old < 2 ^ (8 * bytes_for_lem len)) }
     ensures { bytes.new ≡ le 256 (num bytes.old % 2 ^ len) }
 {
     let used = bytes_for(len);

@@ -1,8 +1,8 @@
 // The tests that come before a call's work, each with its refusal.
 ghost use Rattle.std.specs.Prelude.{◌≡◌, ◌≤◌};
-ghost use Rattle.standard.specs.Choice.{andAlso};
+ghost use Rattle.standard.specs.Choice.{and_also};
 ghost use Rattle.bitfield.specs.Raw.{Raw, clean};
-ghost use Rattle.bitfield.specs.Held.{limited, oneTold, twoTold, listGood, vectorGood, inside, up_to, notBelow, room_for, and_then};
+ghost use Rattle.bitfield.specs.Held.{limited, one_told_lem, two_told_lem, list_good, vector_good, inside, up_to, not_below, room_for, and_then};
 
 use super::raw::is_clean;
 use standard::{Refusal, Told};
@@ -43,7 +43,7 @@ pub(crate) fn up_to_told(told: Told, k: usize, most: usize) -> Told
 // 12
 pub(crate) fn not_below_told(m: usize, n: usize) -> Told
     requires { n ≤ 2048 }
-    ensures { result ≡ notBelow m n }
+    ensures { result ≡ not_below m n }
 {
     if n <= m {
         Told::Fine
@@ -86,7 +86,7 @@ fn and_then(first: Told, next: Told) -> Told
 
 // 23, 14
 pub(crate) fn one_told(good: bool, n: usize) -> Told
-    ensures { result ≡ oneTold good n }
+    ensures { result ≡ one_told_lem good n }
 {
     if good {
         limit_told(n)
@@ -97,7 +97,7 @@ pub(crate) fn one_told(good: bool, n: usize) -> Told
 
 // 23, 24, 14
 pub(crate) fn two_told(first: bool, second: bool, n: usize, m: usize) -> Told
-    ensures { result ≡ twoTold (andAlso first second) n m }
+    ensures { result ≡ two_told_lem (and_also first second) n m }
 {
     if !first {
         return Told::Refused(Refusal::BadState);
@@ -114,21 +114,21 @@ pub(crate) fn two_told(first: bool, second: bool, n: usize, m: usize) -> Told
 
 fn is_good(fits: bool, bytes: &[u8; 256], len: usize) -> bool
     requires { Raw bytes.now }
-    ensures { result ≡ andAlso fits (clean bytes.now len) }
+    ensures { result ≡ and_also fits (clean bytes.now len) }
 {
     if fits { is_clean(bytes, len) } else { false }
 }
 
 pub(crate) fn is_list(bytes: &[u8; 256], len: usize, n: usize) -> bool
     requires { Raw bytes.now }
-    ensures { result ≡ listGood bytes.now len n }
+    ensures { result ≡ list_good bytes.now len n }
 {
     is_good(len <= n, bytes, len)
 }
 
 pub(crate) fn is_vector(bytes: &[u8; 256], len: usize, n: usize) -> bool
     requires { Raw bytes.now }
-    ensures { result ≡ vectorGood bytes.now len n }
+    ensures { result ≡ vector_good bytes.now len n }
 {
     is_good(len == n, bytes, len)
 }

@@ -1,13 +1,13 @@
 // Bit vectors, held by value. Each call tests its fields first: 23, 24, 14, then the crate's own tests.
 ghost use Rattle.std.specs.Prelude.{◌≡◌, max, length};
-ghost use Rattle.bitfield.specs.Body.{bytesFor};
-ghost use Rattle.standard.specs.Choice.{andAlso};
-ghost use Rattle.bitfield.specs.Held.{oneTold, twoTold, vectorGood};
+ghost use Rattle.bitfield.specs.Body.{bytes_for_lem};
+ghost use Rattle.standard.specs.Choice.{and_also};
+ghost use Rattle.bitfield.specs.Held.{one_told_lem, two_told_lem, vector_good};
 ghost use Rattle.bitfield.specs.Raw.{Raw};
 ghost use Rattle.bitfield.specs.Facts.{Kept};
-ghost use Rattle.bitfield.specs.Vectors.{noVector, vectorOutcome, vectorNew, vectorFromBytes, vectorIntoBytes, vectorBuffer};
-ghost use Rattle.bitfield.specs.Vectors.{vectorMerge, vectorIntersection, vectorUnion, vectorDifference, vectorIsSubset};
-ghost use Rattle.bitfield.specs.Vectors.{vectorSet, vectorGet, vectorHighestSetBit, vectorIsZero, vectorNumSetBits, vectorNot, vectorShiftUp};
+ghost use Rattle.bitfield.specs.Vectors.{no_vector, vector_outcome, vector_new, vector_from_bytes, vector_into_bytes, vector_buffer};
+ghost use Rattle.bitfield.specs.Vectors.{vector_merge, vector_intersection, vector_union, vector_difference, vector_is_subset};
+ghost use Rattle.bitfield.specs.Vectors.{vector_set, vector_get, vector_highest_set_bit, vector_is_zero, vector_num_set_bits, vector_not, vector_shift_up};
 
 use super::body::{bitvector_body, bytes_for};
 use super::calls::{
@@ -22,7 +22,7 @@ use standard::Told;
 
 fn first_told(bytes: &[u8; 256], len: usize, n: usize) -> Told
     requires { Raw bytes.now }
-    ensures { result ≡ oneTold (vectorGood bytes.now len n) n }
+    ensures { result ≡ one_told_lem (vector_good bytes.now len n) n }
 {
     one_told(is_vector(bytes, len, n), n)
 }
@@ -37,7 +37,7 @@ fn pair_told<'a>(
     m: usize,
 ) -> Told
     requires { Raw a.now × Raw b.now }
-    ensures { (result ≡ twoTold (andAlso (vectorGood a.now la n) (vectorGood b.now lb m)) n m) ×
+    ensures { (result ≡ two_told_lem (and_also (vector_good a.now la n) (vector_good b.now lb m)) n m) ×
         (result ≡ Told.Fine → Kept a.now la × Kept b.now lb) }
 {
     two_told(is_vector(a, la, n), is_vector(b, lb, m), n, m)
@@ -45,7 +45,7 @@ fn pair_told<'a>(
 
 // What a call made, with its limit, or the old field.
 fn result_of(old: BitVector, made: Outcome, n: usize) -> VectorResult
-    ensures { result ≡ vectorOutcome old made n }
+    ensures { result ≡ vector_outcome old made n }
 {
     let told = made.told;
     match told {
@@ -71,7 +71,7 @@ fn result_of(old: BitVector, made: Outcome, n: usize) -> VectorResult
 // Two fields put together byte by byte, where the first tests refused nothing. The tests stay with the callers: with them in here this is
 // a call of its own when compiled, both fields are copied once more, and at 64 bits that is slower than the original.
 fn merged_vectors(op: Op, told: Told, a: BitVector, b: BitVector) -> VectorResult
-    ensures { result ≡ vectorMerge op told a b }
+    ensures { result ≡ vector_merge op told a b }
 {
     match told {
         Told::Refused(x) => VectorResult {
@@ -91,7 +91,7 @@ fn merged_vectors(op: Op, told: Told, a: BitVector, b: BitVector) -> VectorResul
 
 // The field where there is no old one.
 fn nothing() -> BitVector
-    ensures { result ≡ noVector }
+    ensures { result ≡ no_vector }
 {
     let field = zeros(0);
     let bytes = field.bytes;
@@ -104,7 +104,7 @@ fn nothing() -> BitVector
 
 // Raw bytes are at least one.
 fn raw_len(len: usize) -> usize
-    ensures { result ≡ max 1 (bytesFor len) }
+    ensures { result ≡ max 1 (bytes_for_lem len) }
 {
     if len == 0 { 1 } else { bytes_for(len) }
 }
@@ -112,14 +112,14 @@ fn raw_len(len: usize) -> usize
 impl BitVector {
     // n bits, and none of them set.
     pub fn new(n: usize) -> VectorResult
-        ensures { result ≡ vectorNew n }
+        ensures { result ≡ vector_new n }
     {
         result_of(nothing(), fresh(limit_told(n), n), n)
     }
 
     // The bits of a bit vector's serialization.
     pub fn from_bytes(bytes: &[u8], n: usize) -> VectorResult
-        ensures { result ≡ vectorFromBytes bytes.now n }
+        ensures { result ≡ vector_from_bytes bytes.now n }
     {
         let told = limit_told(n);
         match told {
@@ -136,7 +136,7 @@ impl BitVector {
 
     // Writes the serialization into a buffer, which keeps the rest, and says how many bytes it has.
     pub fn into_bytes(self, out: &mut [u8]) -> CountResult
-        ensures { (result ≡ vectorIntoBytes self (length out.old)) × (out.new ≡ vectorBuffer self out.old) }
+        ensures { (result ≡ vector_into_bytes self (length out.old)) × (out.new ≡ vector_buffer self out.old) }
     {
         let len = self.len;
         let need = raw_len(len);
@@ -152,7 +152,7 @@ impl BitVector {
 
     // The bits that both have.
     pub fn intersection(self, other: BitVector) -> VectorResult
-        ensures { result ≡ vectorIntersection self other }
+        ensures { result ≡ vector_intersection self other }
     {
         let len = self.len;
         let its_len = other.len;
@@ -162,7 +162,7 @@ impl BitVector {
 
     // The bits that either has.
     pub fn union(self, other: BitVector) -> VectorResult
-        ensures { result ≡ vectorUnion self other }
+        ensures { result ≡ vector_union self other }
     {
         let len = self.len;
         let its_len = other.len;
@@ -172,7 +172,7 @@ impl BitVector {
 
     // The bits that the other one has not.
     pub fn difference(self, other: BitVector) -> VectorResult
-        ensures { result ≡ vectorDifference self other }
+        ensures { result ≡ vector_difference self other }
     {
         let len = self.len;
         let its_len = other.len;
@@ -182,7 +182,7 @@ impl BitVector {
 
     // Whether every set bit is set in the other one.
     pub fn is_subset(self, other: BitVector) -> BitResult
-        ensures { result ≡ vectorIsSubset self other }
+        ensures { result ≡ vector_is_subset self other }
     {
         let len = self.len;
         let its_len = other.len;
@@ -192,7 +192,7 @@ impl BitVector {
 
     // Bit i made the value.
     pub fn set(self, i: usize, value: bool) -> VectorResult
-        ensures { result ≡ vectorSet self i value }
+        ensures { result ≡ vector_set self i value }
     {
         let len = self.len;
         let n = self.n;
@@ -202,7 +202,7 @@ impl BitVector {
 
     // Bit i.
     pub fn get(self, i: usize) -> BitResult
-        ensures { result ≡ vectorGet self i }
+        ensures { result ≡ vector_get self i }
     {
         let len = self.len;
         get_bit(first_told(&self.bytes, len, self.n), &self.bytes, len, i)
@@ -210,7 +210,7 @@ impl BitVector {
 
     // The highest set bit.
     pub fn highest_set_bit(self) -> HighestBit
-        ensures { result ≡ vectorHighestSetBit self }
+        ensures { result ≡ vector_highest_set_bit self }
     {
         let len = self.len;
         highest_told(first_told(&self.bytes, len, self.n), &self.bytes, len)
@@ -218,7 +218,7 @@ impl BitVector {
 
     // Whether no bit is set.
     pub fn is_zero(self) -> BitResult
-        ensures { result ≡ vectorIsZero self }
+        ensures { result ≡ vector_is_zero self }
     {
         let len = self.len;
         zero_told(first_told(&self.bytes, len, self.n), &self.bytes, len)
@@ -226,7 +226,7 @@ impl BitVector {
 
     // How many bits are set.
     pub fn num_set_bits(self) -> CountResult
-        ensures { result ≡ vectorNumSetBits self }
+        ensures { result ≡ vector_num_set_bits self }
     {
         let len = self.len;
         count_told(first_told(&self.bytes, len, self.n), &self.bytes, len)
@@ -234,7 +234,7 @@ impl BitVector {
 
     // The complement.
     pub fn not(self) -> VectorResult
-        ensures { result ≡ vectorNot self }
+        ensures { result ≡ vector_not self }
     {
         let len = self.len;
         let n = self.n;
@@ -245,7 +245,7 @@ impl BitVector {
 
     // Every bit k places up; what passes the end is lost.
     pub fn shift_up(self, k: usize) -> VectorResult
-        ensures { result ≡ vectorShiftUp self k }
+        ensures { result ≡ vector_shift_up self k }
     {
         let len = self.len;
         let n = self.n;

@@ -4,20 +4,20 @@ use mathlib.Core.Path.{◌≡◌}
 use contract.Lifetimes.{Lfts}
 use denote.Triple.Clauses.{AtExit}
 use borrow.Fn.Kinds.{Dens, res_t, ended_of}
-use Rattle.standard.proofs.Only.{Only, only-answer}
-use Rattle.cartwhisker.proofs.cartwhisker_check.Kinds as cartwhisker-check-kinds
-use Rattle.cartwhisker.proofs.cartwhisker_check.Reads as cartwhisker-check-reads
-use Rattle.cartwhisker.proofs.cartwhisker_list.Kinds as cartwhisker-list-kinds
-use Rattle.cartwhisker.proofs.cartwhisker_list.Reads as cartwhisker-list-reads
+use Rattle.standard.proofs.Only.{Only, only_answer}
+use Rattle.cartwhisker.proofs.cartwhisker_check.Kinds as cartwhisker_check_kinds
+use Rattle.cartwhisker.proofs.cartwhisker_check.Reads as cartwhisker_check_reads
+use Rattle.cartwhisker.proofs.cartwhisker_list.Kinds as cartwhisker_list_kinds
+use Rattle.cartwhisker.proofs.cartwhisker_list.Reads as cartwhisker_list_reads
 
-pub cartwhisker-check-only : Only cartwhisker-check-kinds.ps cartwhisker-check-kinds.r cartwhisker-check-reads.Post
-cartwhisker-check-only κs a x y e f p q = only-answer _ x y p q
+pub cartwhisker_check_only : Only cartwhisker_check_kinds.ps cartwhisker_check_kinds.r cartwhisker_check_reads.Post
+cartwhisker_check_only κs a x y e f p q = only_answer _ x y p q
 
-pub cartwhisker-list-only : Only cartwhisker-list-kinds.ps cartwhisker-list-kinds.r cartwhisker-list-reads.Post
-cartwhisker-list-only κs a x y e f p q = only-answer _ x y p.0 q.0
+pub cartwhisker_list_only : Only cartwhisker_list_kinds.ps cartwhisker_list_kinds.r cartwhisker_list_reads.Post
+cartwhisker_list_only κs a x y e f p q = only_answer _ x y p.0 q.0
 
-pub cartwhisker-list-leaves :
-    (κs : Lfts 3) (a : Dens κs cartwhisker-list-kinds.ps) (x y : (res_t cartwhisker-list-kinds.r κs).Denot)
-    (e f : AtExit (ended_of 3 cartwhisker-list-kinds.ps cartwhisker-list-kinds.r) κs)
-    → cartwhisker-list-reads.Post κs a x e → cartwhisker-list-reads.Post κs a y f → e.1.1.0.now ≡ f.1.1.0.now
-cartwhisker-list-leaves κs a x y e f p q = only-answer _ _ _ p.1 q.1
+pub cartwhisker_list_leaves :
+    (κs : Lfts 3) (a : Dens κs cartwhisker_list_kinds.ps) (x y : (res_t cartwhisker_list_kinds.r κs).Denot)
+    (e f : AtExit (ended_of 3 cartwhisker_list_kinds.ps cartwhisker_list_kinds.r) κs)
+    → cartwhisker_list_reads.Post κs a x e → cartwhisker_list_reads.Post κs a y f → e.1.1.0.now ≡ f.1.1.0.now
+cartwhisker_list_leaves κs a x y e f p q = only_answer _ _ _ p.1 q.1

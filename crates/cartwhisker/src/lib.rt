@@ -1,13 +1,13 @@
 // The message check and the listing with C calling rules, for a host in another language. Each call gives one number of its answer.
 ghost use Rattle.std.specs.Prelude.{◌≡◌};
-ghost use Rattle.cartwhisker.specs.Calls.{whichOf, checkNumber, listNumber, listBuffer};
+ghost use Rattle.cartwhisker.specs.Calls.{which_of_lem, check_number, list_number, list_buffer};
 
 use message::{Answer, Listed, check, list};
 use standard::Numbers;
 
 // 0 to 4 pick number, a, b, type, start.
 fn which_of(which: u32, n: Numbers, t: usize, start: usize) -> u64
-    ensures { result ≡ whichOf which n t start }
+    ensures { result ≡ which_of_lem which n t start }
 {
     if which == 0 {
         return n.number as u64;
@@ -26,7 +26,7 @@ fn which_of(which: u32, n: Numbers, t: usize, start: usize) -> u64
 
 #[unsafe(no_mangle)]
 pub extern "C" fn cartwhisker_check(layout: &[u8], message: &[u8], which: u32) -> u64
-    ensures { result ≡ checkNumber layout.now message.now which }
+    ensures { result ≡ check_number layout.now message.now which }
 {
     if which > 4 {
         return 0;
@@ -45,8 +45,8 @@ pub extern "C" fn cartwhisker_list(
     records: &mut [u8],
     which: u32,
 ) -> u64
-    ensures value { result ≡ listNumber layout.now message.now records.old which }
-    ensures records_after { records.new ≡ listBuffer layout.now message.now records.old which }
+    ensures value { result ≡ list_number layout.now message.now records.old which }
+    ensures records_after { records.new ≡ list_buffer layout.now message.now records.old which }
 {
     if which > 4 {
         return 0;

@@ -11,7 +11,7 @@ use lib.Seq.{drop-drop}
 use borrow.Author.Tests.{leb-true, ltb-false, le-leb, lt-leb}
 use Rattle.standard.specs.Bytes.{num, num_at, four, word_at}
 use Rattle.standard.specs.Choice.{pick}
-use Rattle.cases.specs.Records.{end_of, goOn, rowEnd, recordEnd, next_of, start_of, body_of, part_of, reach}
+use Rattle.cases.specs.Records.{end_of, go_on_lem, row_end, record_end_lem, next_of, start_of, body_of, part_of, reach}
 use Rattle.cases.specs.declared.Extent.{Extent}
 use Rattle.cases.specs.declared.Extent.TheVariants.{Whole, Cut}
 
@@ -78,25 +78,25 @@ unfolding next_of
 next-further b p h = next-step b p (end_of b p) refl h
 
 -- A step of the walk over a row of parts
-pub row_more : (b : List ℕ) (n p e : ℕ) → 0 < n → Whole e ≡ end_of b p → rowEnd b (n - 1) e ≡ rowEnd b n p
-unfolding rowEnd
+pub row_more : (b : List ℕ) (n p e : ℕ) → 0 < n → Whole e ≡ end_of b p → row_end b (n - 1) e ≡ row_end b n p
+unfolding row_end
 row_more b zero p e h k = absurd (omega arith)
 row_more b (suc n) p e h k = let m : suc n - 1 ≡ n = omega arith in rw (m, ← k)
 
-pub row_cut : (b : List ℕ) (n p : ℕ) → 0 < n → Cut ≡ end_of b p → Cut ≡ rowEnd b n p
-unfolding rowEnd
+pub row_cut : (b : List ℕ) (n p : ℕ) → 0 < n → Cut ≡ end_of b p → Cut ≡ row_end b n p
+unfolding row_end
 row_cut b zero p h k = absurd (omega arith)
 row_cut b (suc n) p h k = rw (← k) refl
 
-pub row-none : (b : List ℕ) (p : ℕ) → Whole p ≡ rowEnd b 0 p
-unfolding rowEnd
+pub row-none : (b : List ℕ) (p : ℕ) → Whole p ≡ row_end b 0 p
+unfolding row_end
 row-none b p = refl
 
 -- A record that is all there ends within the bytes, behind its two words.
 row_step : (b : List ℕ) (n p e : ℕ) (x : Extent) →
     x ≡ end_of b p →
-    Whole e ≡ goOn x (rowEnd b n) →
-    ((q : ℕ) → q ≤ length b → Whole e ≡ rowEnd b n q → (q ≤ e) × (e ≤ length b)) →
+    Whole e ≡ go_on_lem x (row_end b n) →
+    ((q : ℕ) → q ≤ length b → Whole e ≡ row_end b n q → (q ≤ e) × (e ≤ length b)) →
     (p ≤ e) × (e ≤ length b)
 row_step b n p e (Whole q) h k f =
     let w = end-within b p q h in
@@ -104,17 +104,17 @@ row_step b n p e (Whole q) h k f =
     omega arith
 row_step b n p e Cut h k f = let z : ◌≡◌ {A = ℕ} 0 1 = cc in absurd (omega arith)
 
-row_within : (b : List ℕ) (n p e : ℕ) → p ≤ length b → Whole e ≡ rowEnd b n p → (p ≤ e) × (e ≤ length b)
-unfolding rowEnd
+row_within : (b : List ℕ) (n p e : ℕ) → p ≤ length b → Whole e ≡ row_end b n p → (p ≤ e) × (e ≤ length b)
+unfolding row_end
 row_within b zero p e h k = let q : e ≡ p = cc in omega arith
 row_within b (suc n) p e h k = row_step b n p e (end_of b p) refl k (λ q. row_within b n q e)
 
 record-step : (c : Bool) (b : List ℕ) (n e : ℕ) → (c ≡ false → 8 ≤ length b) →
-    Whole e ≡ pick c Cut (rowEnd b n 8) →
+    Whole e ≡ pick c Cut (row_end b n 8) →
     (8 ≤ e) × (e ≤ length b)
 record-step true b n e h k = let z : ◌≡◌ {A = ℕ} 0 1 = cc in absurd (omega arith)
 record-step false b n e h k = row_within b n 8 e (h refl) k
 
-pub record-within : (b : List ℕ) (e : ℕ) → Whole e ≡ recordEnd b → (8 ≤ e) × (e ≤ length b)
-unfolding recordEnd
+pub record-within : (b : List ℕ) (e : ℕ) → Whole e ≡ record_end_lem b → (8 ≤ e) × (e ≤ length b)
+unfolding record_end_lem
 record-within b e h = record-step (ltb (length b) 8) b (word_at b 1) e (ltb-false (length b) 8) h

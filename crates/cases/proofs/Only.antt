@@ -4,56 +4,56 @@ use mathlib.Core.Path.{◌≡◌}
 use contract.Lifetimes.{Lfts}
 use denote.Triple.Clauses.{AtExit}
 use borrow.Fn.Kinds.{Dens, res_t, ended_of}
-use Rattle.standard.proofs.Only.{Only, only-answer}
-use Rattle.cases.proofs.part_end.Kinds as part-end-kinds
+use Rattle.standard.proofs.Only.{Only, only_answer}
+use Rattle.cases.proofs.part_end.Kinds as part-end_kinds
 use Rattle.cases.proofs.part_end.Reads as part-end-reads
-use Rattle.cases.proofs.record_end.Kinds as record-end-kinds
+use Rattle.cases.proofs.record_end.Kinds as record-end_kinds
 use Rattle.cases.proofs.record_end.Reads as record-end-reads
-use Rattle.cases.proofs.number_at.Kinds as number-at-kinds
+use Rattle.cases.proofs.number_at.Kinds as number-at_kinds
 use Rattle.cases.proofs.number_at.Reads as number-at-reads
-use Rattle.cases.proofs.number.Kinds as number-kinds
+use Rattle.cases.proofs.number.Kinds as number_kinds
 use Rattle.cases.proofs.number.Reads as number-reads
-use Rattle.cases.proofs.is_number.Kinds as is-number-kinds
-use Rattle.cases.proofs.is_number.Reads as is-number-reads
-use Rattle.cases.proofs.head_matches.Kinds as head-matches-kinds
-use Rattle.cases.proofs.head_matches.Reads as head-matches-reads
-use Rattle.cases.proofs.refusal_matches.Kinds as refusal-matches-kinds
-use Rattle.cases.proofs.refusal_matches.Reads as refusal-matches-reads
-use Rattle.cases.proofs.is_formed.Kinds as is-formed-kinds
-use Rattle.cases.proofs.is_formed.Reads as is-formed-reads
-use Rattle.cases.proofs.told.Kinds as told-kinds
+use Rattle.cases.proofs.is_number.Kinds as is_number_kinds
+use Rattle.cases.proofs.is_number.Reads as is_number-reads
+use Rattle.cases.proofs.head_matches.Kinds as head_matches_kinds
+use Rattle.cases.proofs.head_matches.Reads as head_matches-reads
+use Rattle.cases.proofs.refusal_matches.Kinds as refusal_matches_kinds
+use Rattle.cases.proofs.refusal_matches.Reads as refusal_matches-reads
+use Rattle.cases.proofs.is_formed.Kinds as is_formed_kinds
+use Rattle.cases.proofs.is_formed.Reads as is_formed-reads
+use Rattle.cases.proofs.told.Kinds as told_kinds
 use Rattle.cases.proofs.told.Reads as told-reads
-use Rattle.cases.proofs.part.Kinds as part-kinds
+use Rattle.cases.proofs.part.Kinds as part_kinds
 use Rattle.cases.proofs.part.Reads as part-reads
 
-pub part-end-only : Only part-end-kinds.ps part-end-kinds.r part-end-reads.Post
-part-end-only κs a x y e f p q = only-answer _ x y p q
+pub part-end_only : Only part-end_kinds.ps part-end_kinds.r part-end-reads.Post
+part-end_only κs a x y e f p q = only_answer _ x y p q
 
-pub record-end-only : Only record-end-kinds.ps record-end-kinds.r record-end-reads.Post
-record-end-only κs a x y e f p q = only-answer _ x y p q
+pub record-end_only : Only record-end_kinds.ps record-end_kinds.r record-end-reads.Post
+record-end_only κs a x y e f p q = only_answer _ x y p q
 
-pub number-at-only : Only number-at-kinds.ps number-at-kinds.r number-at-reads.Post
-number-at-only κs a x y e f p q = only-answer _ x y p q
+pub number-at_only : Only number-at_kinds.ps number-at_kinds.r number-at-reads.Post
+number-at_only κs a x y e f p q = only_answer _ x y p q
 
-pub number-only : Only number-kinds.ps number-kinds.r number-reads.Post
-number-only κs a x y e f p q = only-answer _ x y p q
+pub number_only : Only number_kinds.ps number_kinds.r number-reads.Post
+number_only κs a x y e f p q = only_answer _ x y p q
 
-pub is-number-only : Only is-number-kinds.ps is-number-kinds.r is-number-reads.Post
-is-number-only κs a x y e f p q = only-answer _ x y p q
+pub is_number_only : Only is_number_kinds.ps is_number_kinds.r is_number-reads.Post
+is_number_only κs a x y e f p q = only_answer _ x y p q
 
-pub head-matches-only : Only head-matches-kinds.ps head-matches-kinds.r head-matches-reads.Post
-head-matches-only κs a x y e f p q = only-answer _ x y p q
+pub head_matches_only : Only head_matches_kinds.ps head_matches_kinds.r head_matches-reads.Post
+head_matches_only κs a x y e f p q = only_answer _ x y p q
 
-pub refusal-matches-only : Only refusal-matches-kinds.ps refusal-matches-kinds.r refusal-matches-reads.Post
-refusal-matches-only κs a x y e f p q = only-answer _ x y p q
+pub refusal_matches_only : Only refusal_matches_kinds.ps refusal_matches_kinds.r refusal_matches-reads.Post
+refusal_matches_only κs a x y e f p q = only_answer _ x y p q
 
-pub is-formed-only : Only is-formed-kinds.ps is-formed-kinds.r is-formed-reads.Post
-is-formed-only κs a x y e f p q = only-answer _ x y p q
+pub is_formed_only : Only is_formed_kinds.ps is_formed_kinds.r is_formed-reads.Post
+is_formed_only κs a x y e f p q = only_answer _ x y p q
 
-pub told-only : Only told-kinds.ps told-kinds.r told-reads.Post
-told-only κs a x y e f p q = only-answer _ x y p q
+pub told_only : Only told_kinds.ps told_kinds.r told-reads.Post
+told_only κs a x y e f p q = only_answer _ x y p q
 
-pub part-only :
-    (κs : Lfts 1) (a : Dens κs part-kinds.ps) (x y : (res_t part-kinds.r κs).Denot) (e f : AtExit (ended_of 1 part-kinds.ps part-kinds.r) κs)
+pub part_only :
+    (κs : Lfts 1) (a : Dens κs part_kinds.ps) (x y : (res_t part_kinds.r κs).Denot) (e f : AtExit (ended_of 1 part_kinds.ps part_kinds.r) κs)
     → part-reads.Post κs a x e → part-reads.Post κs a y f → x.now ≡ y.now
-part-only κs a x y e f p q = only-answer _ _ _ p q
+part_only κs a x y e f p q = only_answer _ _ _ p q

@@ -11,18 +11,18 @@ use Rattle.cases.specs.declared.Extent.TheVariants.{Whole, Cut}
 unfoldable pub end_of : List ℕ → ℕ → Extent
 end_of b p = pick (leb (p + 4 + four b p) (length b)) (Whole (p + 4 + four b p)) Cut
 
-abbrev pub goOn : Extent → (ℕ → Extent) → Extent
-goOn (Whole p) f = f p
-goOn Cut f = Cut
+abbrev pub go_on_lem : Extent → (ℕ → Extent) → Extent
+go_on_lem (Whole p) f = f p
+go_on_lem Cut f = Cut
 
 -- where a row of n parts ends that begins at p
-unfoldable pub rowEnd : List ℕ → ℕ → ℕ → Extent
-rowEnd b zero p = Whole p
-rowEnd b (suc n) p = goOn (end_of b p) (rowEnd b n)
+unfoldable pub row_end : List ℕ → ℕ → ℕ → Extent
+row_end b zero p = Whole p
+row_end b (suc n) p = go_on_lem (end_of b p) (row_end b n)
 
 -- where the record ends that begins the bytes: behind its two words, and so many parts
-unfoldable pub recordEnd : List ℕ → Extent
-recordEnd b = pick (ltb (length b) 8) Cut (rowEnd b (word_at b 1) 8)
+unfoldable pub record_end_lem : List ℕ → Extent
+record_end_lem b = pick (ltb (length b) 8) Cut (row_end b (word_at b 1) 8)
 
 abbrev pub reach : Extent → ℕ → ℕ
 reach (Whole e) n = e

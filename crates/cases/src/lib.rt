@@ -4,8 +4,8 @@
 // many bytes. A word is four bytes and a number eight, little-endian.
 ghost use Rattle.std.specs.Prelude.{◌≡◌, ◌+◌, ◌≤◌, length};
 ghost use Rattle.standard.specs.Bytes.{num_at};
-ghost use Rattle.cases.specs.Records.{end_of, next_of, body_of, part_of, recordEnd, number_at, number_of};
-ghost use Rattle.cases.specs.Answers.{agrees, is_number, headMatches, refusalMatches, isFormed, toldOf};
+ghost use Rattle.cases.specs.Records.{end_of, next_of, body_of, part_of, record_end_lem, number_at, number_of};
+ghost use Rattle.cases.specs.Answers.{agrees, is_number, head_matches_lem, refusal_matches_lem, is_formed_lem, told_of};
 
 use standard::words::{four_at, word_at};
 use standard::{Maybe, Refusal};
@@ -59,7 +59,7 @@ pub fn part_end(b: &[u8], p: usize) -> Extent
 
 // How many bytes the record takes that begins the bytes.
 pub fn record_end(b: &[u8]) -> Extent
-    ensures { result ≡ recordEnd b.now }
+    ensures { result ≡ record_end_lem b.now }
 {
     if b.len() < 8 {
         return Extent::Cut;
@@ -166,7 +166,7 @@ pub fn head_matches(
     kind: usize,
     start: usize,
 ) -> bool
-    ensures { result ≡ headMatches head.now number a b kind start }
+    ensures { result ≡ head_matches_lem head.now number a b kind start }
 {
     if head.len() != HEAD {
         return false;
@@ -188,7 +188,7 @@ pub fn head_matches(
 
 // Whether the expected head is that of a refusal without type and start.
 pub fn refusal_matches(head: &[u8], refusal: Refusal) -> bool
-    ensures { result ≡ refusalMatches head.now refusal }
+    ensures { result ≡ refusal_matches_lem head.now refusal }
 {
     let said = refusal.numbers();
     head_matches(head, said.number, said.a, said.b, 0, 0)
@@ -196,7 +196,7 @@ pub fn refusal_matches(head: &[u8], refusal: Refusal) -> bool
 
 // Whether the record has so many parts, with a head after the question's.
 pub fn is_formed(b: &[u8], question: usize, parts: usize) -> bool
-    ensures { result ≡ isFormed b.now question parts }
+    ensures { result ≡ is_formed_lem b.now question parts }
 {
     if word_at(b, 1) != parts {
         return false;
@@ -205,7 +205,7 @@ pub fn is_formed(b: &[u8], question: usize, parts: usize) -> bool
 }
 
 pub fn told(same: bool) -> Verdict
-    ensures { result ≡ toldOf same }
+    ensures { result ≡ told_of same }
 {
     if same {
         Verdict::Same

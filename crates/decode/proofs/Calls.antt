@@ -15,15 +15,15 @@ use Rattle.standard.specs.declared.Told.{Told}
 use Rattle.standard.specs.declared.Refusal.{Refusal}
 use Rattle.standard.specs.declared.Refusal.TheVariants.{TooLarge, BadState, BuilderFull}
 use Rattle.decode.specs.Builder.{step}
-use Rattle.decode.specs.Held.{put, Run, none, more, old, taken, registerItem}
+use Rattle.decode.specs.Held.{put, Run, none, more, old, taken, register_item}
 use Rattle.decode.specs.Heads.{Calls, start, call}
 use Rattle.decode.specs.declared.builder.Progress.{Progress}
 use Rattle.decode.specs.declared.builder.Step.{Step}
 use Rattle.decode.specs.declared.decoder.SszDecoderBuilder.{SszDecoderBuilder}
 use Rattle.decode.specs.declared.decoder.Registered.{Registered}
-use Rattle.decode.proofs.Register.{refused-fine}
-use Rattle.decode.proofs.Reached.{Long, run-recalled}
-use Rattle.decode.proofs.BadState.{register-bad-iff}
+use Rattle.decode.proofs.Register.{refused_fine}
+use Rattle.decode.proofs.Reached.{Long, run_recalled}
+use Rattle.decode.proofs.BadState.{register-bad_iff}
 use Rattle.decode.proofs.Heads.{item-registered}
 
 -- What an accepted call says.
@@ -32,23 +32,23 @@ record Taken (c d : Bool) (s : Step) (h : Head) (b : List ℕ) (x y : SszDecoder
   few : d ≡ true
   progress : Progress
   stepped : s ≡ Step.Next progress
-  state-is : y ≡ put h b x
+  state_is : y ≡ put h b x
 
-old-fine : {A : Type 0} (x y : SszDecoderBuilder) (r : Refusal) → old x r ≡ record { state = y; told = Told.Fine } → A
-old-fine x y r e = refused-fine r (ap (λ (z : Registered). z.told) e)
+old_fine : {A : Type 0} (x y : SszDecoderBuilder) (r : Refusal) → old x r ≡ record { state = y; told = Told.Fine } → A
+old_fine x y r e = refused_fine r (ap (λ (z : Registered). z.told) e)
 
 taken-says : (c d : Bool) (s : Step) (h : Head) (b : List ℕ) (x y : SszDecoderBuilder)
     → pick c (old x TooLarge) (pick d (taken s h b x) (old x (BuilderFull 64))) ≡ record { state = y; told = Told.Fine } → Taken c d s h b x y
-taken-says true d s h b x y e = old-fine x y TooLarge e
-taken-says false false s h b x y e = old-fine x y (BuilderFull 64) e
+taken-says true d s h b x y e = old_fine x y TooLarge e
+taken-says false false s h b x y e = old_fine x y (BuilderFull 64) e
 taken-says false true (Step.Next q) h b x y e =
-    record { short = refl; few = refl; progress = q; stepped = refl; state-is = ap (λ (z : Registered). z.state) (sym e) }
-taken-says false true (Step.Refused r) h b x y e = old-fine x y r e
+    record { short = refl; few = refl; progress = q; stepped = refl; state_is = ap (λ (z : Registered). z.state) (sym e) }
+taken-says false true (Step.Refused r) h b x y e = old_fine x y r e
 
-called : (h : Head) (b : List ℕ) (p : Progress) (x y : SszDecoderBuilder) → Run b p x → registerItem h b x ≡ record { state = y; told = Told.Fine }
+called : (h : Head) (b : List ℕ) (p : Progress) (x y : SszDecoderBuilder) → Run b p x → register_item h b x ≡ record { state = y; told = Told.Fine }
     → Taken (ltb 4294967295 (length b)) (ltb x.count 64) (step h b p) h b x y
-unfolding registerItem
-called h b p x y r e = taken-says (ltb 4294967295 (length b)) (ltb x.count 64) (step h b p) h b x y (rw (run-recalled r) at e)
+unfolding register_item
+called h b p x y r e = taken-says (ltb 4294967295 (length b)) (ltb x.count 64) (step h b p) h b x y (rw (run_recalled r) at e)
 
 below : (b : List ℕ) → ltb 4294967295 (length b) ≡ false → length b < 2 ^ 32
 below b q = let k : length b ≤ 4294967295 = ltb-false _ _ q in omega arith
@@ -57,21 +57,21 @@ run_at : {b : List ℕ} {q : Progress} {x y : SszDecoderBuilder} → x ≡ y →
 run_at e r = rw e r
 
 -- There and back.
-pub calls-run : {b : List ℕ} {x : SszDecoderBuilder} → Calls b x → (p : Progress) × Run b p x
-calls-run start = (_, none)
-calls-run {b} (call h {x} {y} c e) =
-    let r = calls-run c in
+pub calls_run : {b : List ℕ} {x : SszDecoderBuilder} → Calls b x → (p : Progress) × Run b p x
+calls_run start = (_, none)
+calls_run {b} (call h {x} {y} c e) =
+    let r = calls_run c in
     let t = called h b r.0 x y r.1 e in
-    (t.progress, run_at t.state-is (more h r.1 (below b t.short) (ltb-true _ _ t.few) t.stepped))
+    (t.progress, run_at t.state_is (more h r.1 (below b t.short) (ltb-true _ _ t.few) t.stepped))
 
-pub run-calls : {b : List ℕ} {p : Progress} {x : SszDecoderBuilder} → Run b p x → Calls b x
-run-calls none = start
-run-calls {b} (more h {p} {q} {x} r small few e) =
-    call h {x = x} {y = put h b x} (run-calls r) (item-registered h b p x r small few ∙ ap (λ (s : Step). taken s h b x) e)
+pub run_calls : {b : List ℕ} {p : Progress} {x : SszDecoderBuilder} → Run b p x → Calls b x
+run_calls none = start
+run_calls {b} (more h {p} {q} {x} r small few e) =
+    call h {x = x} {y = put h b x} (run_calls r) (item-registered h b p x r small few ∙ ap (λ (s : Step). taken s h b x) e)
 
 -- 23, in terms of the calls alone.
-pub never-called-iff : (b : List ℕ) (x : SszDecoderBuilder) → Long x → (h : Head) → (registerItem h b x ≡ old x BadState) ↔ (Calls b x → ⊥)
-never-called-iff b x l h = (
-  λ e c. (register-bad-iff b x l h).0 e (calls-run c).0 (calls-run c).1,
-  λ never. (register-bad-iff b x l h).1 (λ p r. never (run-calls r)),
+pub never-called_iff : (b : List ℕ) (x : SszDecoderBuilder) → Long x → (h : Head) → (register_item h b x ≡ old x BadState) ↔ (Calls b x → ⊥)
+never-called_iff b x l h = (
+  λ e c. (register-bad_iff b x l h).0 e (calls_run c).0 (calls_run c).1,
+  λ never. (register-bad_iff b x l h).1 (λ p r. never (run_calls r)),
 )

@@ -9,47 +9,47 @@ use Rattle.standard.specs.Parts.{split}
 use Rattle.standard.specs.declared.Head.{Head}
 use Rattle.standard.specs.declared.Told.{Told}
 use Rattle.decode.specs.Builder.{fresh, step, follow, register}
-use Rattle.decode.specs.Held.{new, put, Run, none, more, taken, registerItem}
-use Rattle.decode.specs.Heads.{ifFine, registerAll, toldBy, put_all, state_of}
+use Rattle.decode.specs.Held.{new, put, Run, none, more, taken, register_item}
+use Rattle.decode.specs.Heads.{if_fine, register_all_lem, told_by, put_all, state_of}
 use Rattle.decode.specs.declared.builder.Progress.{Progress}
 use Rattle.decode.specs.declared.builder.Step.{Step}
 use Rattle.decode.specs.declared.decoder.SszDecoderBuilder.{SszDecoderBuilder}
 use Rattle.decode.proofs.Register.{follow-next}
-use Rattle.decode.proofs.Reached.{run-recalled}
+use Rattle.decode.proofs.Reached.{run_recalled}
 
 -- One registration, in a state that a run reaches.
 pub item-registered : (h : Head) (b : List ℕ) (p : Progress) (x : SszDecoderBuilder) → Run b p x → length b < 2 ^ 32 → x.count < 64
-    → registerItem h b x ≡ taken (step h b p) h b x
-unfolding registerItem
-item-registered h b p x r small few = rw (run-recalled r, le-ltb 4294967295 (length b) (omega arith), lt-ltb _ _ few)
+    → register_item h b x ≡ taken (step h b p) h b x
+unfolding register_item
+item-registered h b p x r small few = rw (run_recalled r, le-ltb 4294967295 (length b) (omega arith), lt-ltb _ _ few)
 
 -- All of them: what is told,
 told-next : (s : Step) (h : Head) (hs : List Head) (b : List ℕ) (x : SszDecoderBuilder)
-    → ((y : Progress) → s ≡ Step.Next y → (registerAll hs b (put h b x)).told ≡ toldBy (register hs b y))
-    → (ifFine (taken s h b x).told (registerAll hs b (taken s h b x).state) (taken s h b x)).told ≡ toldBy (follow s (register hs b))
+    → ((y : Progress) → s ≡ Step.Next y → (register_all_lem hs b (put h b x)).told ≡ told_by (register hs b y))
+    → (if_fine (taken s h b x).told (register_all_lem hs b (taken s h b x).state) (taken s h b x)).told ≡ told_by (follow s (register hs b))
 told-next (Step.Next y) h hs b x k = k y refl
 told-next (Step.Refused r) h hs b x k = refl
 
 module _ (b : List ℕ) (small : length b < 2 ^ 32) where
-  pub registers-told : (hs : List Head) (p : Progress) (x : SszDecoderBuilder) → Run b p x → x.count + length hs ≤ 64
-      → (registerAll hs b x).told ≡ toldBy (register hs b p)
-  unfolding registerAll register
-  registers-told [] p x r few = refl
-  registers-told (h ∷ hs) p x r few =
+  pub registers_told : (hs : List Head) (p : Progress) (x : SszDecoderBuilder) → Run b p x → x.count + length hs ≤ 64
+      → (register_all_lem hs b x).told ≡ told_by (register hs b p)
+  unfolding register_all_lem register
+  registers_told [] p x r few = refl
+  registers_told (h ∷ hs) p x r few =
       let one : x.count < 64 = omega arith in
       rw (item-registered h b p x r small one)
       (told-next (step h b p) h hs b x
-      (λ (y : Progress) (e : step h b p ≡ Step.Next y). registers-told hs y (put h b x) (more h r small one e) (omega arith)))
+      (λ (y : Progress) (e : step h b p ≡ Step.Next y). registers_told hs y (put h b x) (more h r small one e) (omega arith)))
 
   -- and the state that they reach, where all are accepted.
-  pub registers-state : (hs : List Head) (p q : Progress) (x : SszDecoderBuilder) → Run b p x → x.count + length hs ≤ 64
-      → register hs b p ≡ Step.Next q → (registerAll hs b x ≡ record { state = put_all hs b x; told = Told.Fine }) × Run b q (put_all hs b x)
-  unfolding registerAll register put_all
-  registers-state [] p q x r few e = let s : p ≡ q = cc in (refl, rw s at r)
-  registers-state (h ∷ hs) p q x r few e =
+  pub registers_state : (hs : List Head) (p q : Progress) (x : SszDecoderBuilder) → Run b p x → x.count + length hs ≤ 64
+      → register hs b p ≡ Step.Next q → (register_all_lem hs b x ≡ record { state = put_all hs b x; told = Told.Fine }) × Run b q (put_all hs b x)
+  unfolding register_all_lem register put_all
+  registers_state [] p q x r few e = let s : p ≡ q = cc in (refl, rw s at r)
+  registers_state (h ∷ hs) p q x r few e =
       let one : x.count < 64 = omega arith in
       let f = follow-next _ _ _ e in
-      let s = registers-state hs f.0 q (put h b x) (more h r small one f.1) (omega arith) f.2 in
+      let s = registers_state hs f.0 q (put h b x) (more h r small one f.1) (omega arith) f.2 in
       (rw (item-registered h b p x r small one, f.1) s.0, s.1)
 
 -- One head more, at the end of a row.
@@ -69,16 +69,16 @@ register-last (k ∷ hs) h b p q r e f =
 -- A state that a run reaches is the one that a fresh run over some heads gives, and has come as far as their fold.
 pub record Fresh (b : List ℕ) (p : Progress) (x : SszDecoderBuilder) : Type 0 where
   pub heads : List Head
-  pub state-is : x ≡ state_of heads b
+  pub state_is : x ≡ state_of heads b
   pub registered : register heads b fresh ≡ Step.Next p
 
-pub run-fresh : {b : List ℕ} {p : Progress} {x : SszDecoderBuilder} → Run b p x → Fresh b p x
+pub run_fresh : {b : List ℕ} {p : Progress} {x : SszDecoderBuilder} → Run b p x → Fresh b p x
 unfolding put_all register
-run-fresh none = record { heads = []; state-is = refl; registered = refl }
-run-fresh {b} (more h {p} {q} {x} r small few e) =
-    let g = run-fresh r in
+run_fresh none = record { heads = []; state_is = refl; registered = refl }
+run_fresh {b} (more h {p} {q} {x} r small few e) =
+    let g = run_fresh r in
     record {
       heads = g.heads ++ (h ∷ []);
-      state-is = ap (put h b) g.state-is ∙ sym (put_last g.heads h b new);
+      state_is = ap (put h b) g.state_is ∙ sym (put_last g.heads h b new);
       registered = register-last g.heads h b fresh p q g.registered e;
     }

@@ -8,9 +8,9 @@ use lib.Dec.{ltb}
 use Rattle.standard.specs.Choice.{pick}
 use Rattle.standard.specs.declared.Told.{Told}
 use Rattle.standard.specs.declared.Refusal.TheVariants.{BadState}
-use Rattle.decode.specs.Reader.{itemTold}
+use Rattle.decode.specs.Reader.{item_told_lem}
 use Rattle.decode.specs.declared.decoder.SszDecoder.{SszDecoder}
-use Rattle.decode.proofs.Register.{refused-fine, past-fine}
+use Rattle.decode.proofs.Register.{refused_fine, past_fine}
 
 -- The range of the item i is one of len bytes.
 pub record Within (d : SszDecoder) (i len : ℕ) : Type 0 where
@@ -19,15 +19,15 @@ pub record Within (d : SszDecoder) (i len : ℕ) : Type 0 where
   pub upright : get_or d.starts i 0 ≤ get_or d.ends i 0
   pub inside : get_or d.ends i 0 ≤ len
 
-pick-fine : (c : Bool) (u : Told) → pick c u (Told.Refused BadState) ≡ Told.Fine → (c ≡ true) × (u ≡ Told.Fine)
-pick-fine true u e = (refl, e)
-pick-fine false u e = refused-fine BadState e
+pick_fine : (c : Bool) (u : Told) → pick c u (Told.Refused BadState) ≡ Told.Fine → (c ≡ true) × (u ≡ Told.Fine)
+pick_fine true u e = (refl, e)
+pick_fine false u e = refused_fine BadState e
 
-pub item-fine : (d : SszDecoder) (i len : ℕ) → itemTold d i len ≡ Told.Fine → Within d i len
-unfolding itemTold
-item-fine d i len e =
-    let p = pick-fine (ltb i d.count) _ e in
-    let q = pick-fine (ltb i 64) _ p.1 in
-    let r = past-fine (ltb (get_or d.ends i 0) (get_or d.starts i 0)) _ _ q.1 in
-    let s = past-fine (ltb len (get_or d.ends i 0)) _ _ r.1 in
+pub item_fine : (d : SszDecoder) (i len : ℕ) → item_told_lem d i len ≡ Told.Fine → Within d i len
+unfolding item_told_lem
+item_fine d i len e =
+    let p = pick_fine (ltb i d.count) _ e in
+    let q = pick_fine (ltb i 64) _ p.1 in
+    let r = past_fine (ltb (get_or d.ends i 0) (get_or d.starts i 0)) _ _ q.1 in
+    let s = past_fine (ltb len (get_or d.ends i 0)) _ _ r.1 in
     record { item = ltb-true _ _ p.0; few = ltb-true _ _ q.0; upright = ltb-false _ _ r.0; inside = ltb-false _ _ s.0 }

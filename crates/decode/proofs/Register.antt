@@ -20,37 +20,37 @@ use Rattle.standard.specs.declared.Maybe.TheVariants.{Just, Nothing}
 use Rattle.standard.specs.declared.Told.{Told}
 use Rattle.standard.specs.declared.Refusal.{Refusal}
 use Rattle.standard.specs.declared.Refusal.TheVariants.{InvalidByteLength, OffsetsAreDecreasing, OffsetOutOfBounds}
-use Rattle.decode.specs.Offsets.{sanitizeOffset}
-use Rattle.decode.specs.Builder.{fresh, orElseJust, behindOffset, step, registerHead, follow, register, buildAt, build, ended, layOut}
+use Rattle.decode.specs.Offsets.{sanitize_offset_lem}
+use Rattle.decode.specs.Builder.{fresh, or_else_just, behind_offset, step, register_head_lem, follow, register, build_at, build, ended, lay_out_lem}
 use Rattle.decode.specs.declared.OffsetResult.{OffsetResult}
 use Rattle.decode.specs.declared.builder.Progress.{Progress}
 use Rattle.decode.specs.declared.builder.Step.{Step}
 
 -- A refusal is no acceptance.
-pub refused-next : {A : Type 0} (r : Refusal) (y : Progress) → Step.Refused r ≡ Step.Next y → A
-refused-next r y e = let z : ◌≡◌ {A = ℕ} 0 1 = cc in absurd (omega arith)
+pub refused_next : {A : Type 0} (r : Refusal) (y : Progress) → Step.Refused r ≡ Step.Next y → A
+refused_next r y e = let z : ◌≡◌ {A = ℕ} 0 1 = cc in absurd (omega arith)
 
-pub refused-fine : {A : Type 0} (r : Refusal) → Told.Refused r ≡ Told.Fine → A
-refused-fine r e = let z : ◌≡◌ {A = ℕ} 0 1 = cc in absurd (omega arith)
+pub refused_fine : {A : Type 0} (r : Refusal) → Told.Refused r ≡ Told.Fine → A
+refused_fine r e = let z : ◌≡◌ {A = ℕ} 0 1 = cc in absurd (omega arith)
 
 pub past : (c : Bool) (r : Refusal) (u : Step) (y : Progress) → pick c (Step.Refused r) u ≡ Step.Next y → (c ≡ false) × (u ≡ Step.Next y)
-past true r u y e = refused-next r y e
+past true r u y e = refused_next r y e
 past false r u y e = (refl, e)
 
-pub past-fine : (c : Bool) (r : Refusal) (u : Told) → pick c (Told.Refused r) u ≡ Told.Fine → (c ≡ false) × (u ≡ Told.Fine)
-past-fine true r u e = refused-fine r e
-past-fine false r u e = (refl, e)
+pub past_fine : (c : Bool) (r : Refusal) (u : Told) → pick c (Told.Refused r) u ≡ Told.Fine → (c ≡ false) × (u ≡ Told.Fine)
+past_fine true r u e = refused_fine r e
+past_fine false r u e = (refl, e)
 
 pub follow-next : (s : Step) (k : Progress → Step) (y : Progress) → follow s k ≡ Step.Next y → (z : Progress) × (s ≡ Step.Next z) × (k z ≡ Step.Next y)
 follow-next (Step.Next z) k y e = (z, refl, e)
-follow-next (Step.Refused r) k y e = refused-next r y e
+follow-next (Step.Refused r) k y e = refused_next r y e
 
-pub ended-fine : (s : Step) (k : Progress → Told) → ended s k ≡ Told.Fine → (z : Progress) × (s ≡ Step.Next z) × (k z ≡ Told.Fine)
-ended-fine (Step.Next z) k e = (z, refl, e)
-ended-fine (Step.Refused r) k e = refused-fine r e
+pub ended_fine : (s : Step) (k : Progress → Told) → ended s k ≡ Told.Fine → (z : Progress) × (s ≡ Step.Next z) × (k z ≡ Told.Fine)
+ended_fine (Step.Next z) k e = (z, refl, e)
+ended_fine (Step.Refused r) k e = refused_fine r e
 
 -- For a progress within bytes below 2^32, one registration is a step.
-pub register-step : (h : Head) (b : List ℕ) (x : Progress) → x.pos ≤ length b → length b < 2 ^ 32 → registerHead h b x ≡ step h b x
+pub register-step : (h : Head) (b : List ℕ) (x : Progress) → x.pos ≤ length b → length b < 2 ^ 32 → register_head_lem h b x ≡ step h b x
 register-step h b x p s = rw (le-ltb _ _ p, le-ltb 4294967295 (length b) (omega arith))
 
 -- The least that the next offset may be.
@@ -60,23 +60,23 @@ floor Nothing = 0
 
 -- the progress behind an offset o
 abbrev pub behind : Progress → ℕ → Progress
-behind x o = record { pos = x.pos + 4; first = orElseJust x.first o; previous = Just o }
+behind x o = record { pos = x.pos + 4; first = or_else_just x.first o; previous = Just o }
 
-tests-next : (c d : Bool) (o : ℕ) (x y : Progress) → behindOffset
+tests-next : (c d : Bool) (o : ℕ) (x y : Progress) → behind_offset
     (pick c (OffsetResult.Refused (OffsetOutOfBounds o)) (pick d (OffsetResult.Refused (OffsetsAreDecreasing o)) (OffsetResult.Offset o))) x ≡
     Step.Next y → (c ≡ false) × (d ≡ false) × (y ≡ behind x o)
-tests-next true d o x y e = refused-next (OffsetOutOfBounds o) y e
-tests-next false true o x y e = refused-next (OffsetsAreDecreasing o) y e
+tests-next true d o x y e = refused_next (OffsetOutOfBounds o) y e
+tests-next false true o x y e = refused_next (OffsetsAreDecreasing o) y e
 tests-next false false o x y e = (refl, refl, cc)
 
-offset-next : (m : Maybe) (o len : ℕ) (x y : Progress) → behindOffset (sanitizeOffset o m len Nothing) x ≡ Step.Next y →
+offset_next : (m : Maybe) (o len : ℕ) (x y : Progress) → behind_offset (sanitize_offset_lem o m len Nothing) x ≡ Step.Next y →
     (o ≤ len) × (floor m ≤ o) × (y ≡ behind x o)
-offset-next (Just n) o len x y e = let q = tests-next (ltb len o) (ltb o n) o x y e in (ltb-false _ _ q.0, ltb-false _ _ q.1, q.2)
-offset-next Nothing o len x y e = let q = tests-next (ltb len o) false o x y e in (ltb-false _ _ q.0, omega arith, q.2)
+offset_next (Just n) o len x y e = let q = tests-next (ltb len o) (ltb o n) o x y e in (ltb-false _ _ q.0, ltb-false _ _ q.1, q.2)
+offset_next Nothing o len x y e = let q = tests-next (ltb len o) false o x y e in (ltb-false _ _ q.0, omega arith, q.2)
 
-offset-passes : (m : Maybe) (o len : ℕ) (x : Progress) → o ≤ len → floor m ≤ o → behindOffset (sanitizeOffset o m len Nothing) x ≡ Step.Next (behind x o)
-offset-passes (Just n) o len x h k = rw (le-ltb _ _ h, le-ltb _ _ k)
-offset-passes Nothing o len x h k = rw (le-ltb _ _ h)
+offset_passes : (m : Maybe) (o len : ℕ) (x : Progress) → o ≤ len → floor m ≤ o → behind_offset (sanitize_offset_lem o m len Nothing) x ≡ Step.Next (behind x o)
+offset_passes (Just n) o len x h k = rw (le-ltb _ _ h, le-ltb _ _ k)
+offset_passes Nothing o len x h k = rw (le-ltb _ _ h)
 
 -- the progress behind an item of n bytes
 abbrev pub beyond : Progress → ℕ → Progress
@@ -91,18 +91,18 @@ module _ (b : List ℕ) (x y : Progress) where
       let l : n ≤ 4294967295 = ltb-false _ _ p.0 in
       (omega arith, ltb-false _ _ q.0, cc q.1)
 
-  pub step-variable : step Variable b x ≡ Step.Next y → (x.pos + 4 ≤ length b) × (four b x.pos ≤ length b) ×
+  pub step_variable : step Variable b x ≡ Step.Next y → (x.pos + 4 ≤ length b) × (four b x.pos ≤ length b) ×
       (floor x.previous ≤ four b x.pos) × (y ≡ behind x (four b x.pos))
   unfolding step
-  step-variable e =
+  step_variable e =
       let p = past (ltb (length b - x.pos) 4) _ _ y e in
-      let q = offset-next x.previous (four b x.pos) (length b) x y p.1 in
+      let q = offset_next x.previous (four b x.pos) (length b) x y p.1 in
       let l : 4 ≤ length b - x.pos = ltb-false _ _ p.0 in
       (omega arith, q.0, q.1, q.2)
 
 pub step-within : (h : Head) (b : List ℕ) (x y : Progress) → step h b x ≡ Step.Next y → y.pos ≤ length b
 step-within (Fixed n) b x y e = rw (step-fixed b x y n e).2 (step-fixed b x y n e).1
-step-within Variable b x y e = rw (step-variable b x y e).3 (step-variable b x y e).0
+step-within Variable b x y e = rw (step_variable b x y e).3 (step_variable b x y e).0
 
 -- From acceptance to ranges.
 register-ranges : (hs : List Head) (b : List ℕ) (x y : Progress) → register hs b x ≡ Step.Next y → floor x.previous ≤ length b →
@@ -115,21 +115,21 @@ register-ranges (Fixed n ∷ hs) b x y e h =
     (s.1, register-ranges hs b (beyond x n) y (rw s.2 at q.2) h)
 register-ranges (Variable ∷ hs) b x y e h =
     let q = follow-next _ _ _ e in
-    let s = step-variable b x q.0 q.1 in
+    let s = step_variable b x q.0 q.1 in
     (s.0, s.1, s.2, register-ranges hs b (behind x (four b x.pos)) y (rw s.3 at q.2) s.1)
 
-register-pos : (hs : List Head) (b : List ℕ) (x y : Progress) → register hs b x ≡ Step.Next y → y.pos ≡ x.pos + portion hs
+register_pos : (hs : List Head) (b : List ℕ) (x y : Progress) → register hs b x ≡ Step.Next y → y.pos ≡ x.pos + portion hs
 unfolding register portion width
-register-pos [] b x y e = let q : x ≡ y = cc in rw (← q, add-zero)
-register-pos (Fixed n ∷ hs) b x y e =
+register_pos [] b x y e = let q : x ≡ y = cc in rw (← q, add-zero)
+register_pos (Fixed n ∷ hs) b x y e =
     let q = follow-next _ _ _ e in
     let s = step-fixed b x q.0 n q.1 in
-    let r = register-pos hs b (beyond x n) y (rw s.2 at q.2) in
+    let r = register_pos hs b (beyond x n) y (rw s.2 at q.2) in
     omega arith
-register-pos (Variable ∷ hs) b x y e =
+register_pos (Variable ∷ hs) b x y e =
     let q = follow-next _ _ _ e in
-    let s = step-variable b x q.0 q.1 in
-    let r = register-pos hs b (behind x (four b x.pos)) y (rw s.3 at q.2) in
+    let s = step_variable b x q.0 q.1 in
+    let r = register_pos hs b (behind x (four b x.pos)) y (rw s.3 at q.2) in
     omega arith
 
 -- The first offset at the end: the one that was there, or that of the first variable head; with none, there was none.
@@ -143,7 +143,7 @@ unfolding Says
 says_same (Just k) len = refl
 says_same Nothing len = refl
 
-says_first : (m : Maybe) (o : ℕ) (f : Maybe) (n len : ℕ) → Says (orElseJust m o) f n len → Says m f o len
+says_first : (m : Maybe) (o : ℕ) (f : Maybe) (n len : ℕ) → Says (or_else_just m o) f n len → Says m f o len
 unfolding Says
 says_first (Just k) o f n len h = h
 says_first Nothing o f n len h = rw h refl
@@ -157,15 +157,15 @@ register-says (Fixed n ∷ hs) b x y e =
     register-says hs b (beyond x n) y (rw s.2 at q.2)
 register-says (Variable ∷ hs) b x y e =
     let q = follow-next _ _ _ e in
-    let s = step-variable b x q.0 q.1 in
+    let s = step_variable b x q.0 q.1 in
     says_first x.first (four b x.pos) y.first _ (length b)
     (register-says hs b (behind x (four b x.pos)) y (rw s.3 at q.2))
 
-build-says : (m : Maybe) (p n len : ℕ) → buildAt m p len ≡ Told.Fine → Says Nothing m n len → n ≡ p
+build-says : (m : Maybe) (p n len : ℕ) → build_at m p len ≡ Told.Fine → Says Nothing m n len → n ≡ p
 unfolding Says
 build-says (Just o) p n len e s =
-    let q = past-fine (ltb o p) _ _ e in
-    let r = past-fine (ltb p o) _ _ q.1 in
+    let q = past_fine (ltb o p) _ _ e in
+    let r = past_fine (ltb p o) _ _ q.1 in
     let i : p ≤ o = ltb-false _ _ q.0 in
     let j : o ≤ p = ltb-false _ _ r.0 in
     omega arith
@@ -173,23 +173,23 @@ build-says Nothing p n len e s = go (eqb p len) refl e
   where
     go : (c : Bool) → eqb p len ≡ c → pick c Told.Fine (Told.Refused (InvalidByteLength len p)) ≡ Told.Fine → n ≡ p
     go true q f = s ∙ sym (eqb-true _ _ q)
-    go false q f = refused-fine (InvalidByteLength len p) f
+    go false q f = refused_fine (InvalidByteLength len p) f
 
-build-passes : (m : Maybe) (p n len : ℕ) → Says Nothing m n len → n ≡ p → buildAt m p len ≡ Told.Fine
+build-passes : (m : Maybe) (p n len : ℕ) → Says Nothing m n len → n ≡ p → build_at m p len ≡ Told.Fine
 unfolding Says
 build-passes (Just o) p n len s e = rw (le-ltb o p (omega arith)) (rw (le-ltb p o (omega arith)))
 build-passes Nothing p n len s e = rw (eq-eqb p len (sym e ∙ s))
 
 module _ (hs : List Head) (b : List ℕ) where
-  pub layout-ranges : layOut hs b ≡ Told.Fine → InRange hs b 0 0
-  unfolding layOut
-  layout-ranges e = let q = ended-fine _ _ e in register-ranges hs b fresh q.0 q.1 (omega arith)
+  pub layout-ranges : lay_out_lem hs b ≡ Told.Fine → InRange hs b 0 0
+  unfolding lay_out_lem
+  layout-ranges e = let q = ended_fine _ _ e in register-ranges hs b fresh q.0 q.1 (omega arith)
 
-  pub layout-next : layOut hs b ≡ Told.Fine → next hs b 0 ≡ portion hs
-  unfolding layOut build
+  pub layout-next : lay_out_lem hs b ≡ Told.Fine → next hs b 0 ≡ portion hs
+  unfolding lay_out_lem build
   layout-next e =
-      let q = ended-fine _ _ e in
-      let p = register-pos hs b fresh q.0 q.1 in
+      let q = ended_fine _ _ e in
+      let p = register_pos hs b fresh q.0 q.1 in
       let s = register-says hs b fresh q.0 q.1 in
       build-says q.0.first q.0.pos (next hs b 0) (length b) q.2 s ∙ omega arith
 
@@ -201,13 +201,13 @@ register-passes [] b x k r = (x, refl)
 register-passes (Fixed n ∷ hs) b x k r =
     rw (le-ltb 4294967295 n (omega (arith, r.0)), le-ltb _ _ r.0) (register-passes hs b (beyond x n) k r.1)
 register-passes (Variable ∷ hs) b x k r =
-    rw (le-ltb (length b - x.pos) 4 (omega (arith, r.0)), offset-passes x.previous (four b x.pos) (length b) x r.1 r.2)
+    rw (le-ltb (length b - x.pos) 4 (omega (arith, r.0)), offset_passes x.previous (four b x.pos) (length b) x r.1 r.2)
     (register-passes hs b (behind x (four b x.pos)) k r.3)
 
-pub layout-passes : (hs : List Head) (b : List ℕ) → length b < 2 ^ 32 → InRange hs b 0 0 → next hs b 0 ≡ portion hs → layOut hs b ≡ Told.Fine
-unfolding layOut build
+pub layout-passes : (hs : List Head) (b : List ℕ) → length b < 2 ^ 32 → InRange hs b 0 0 → next hs b 0 ≡ portion hs → lay_out_lem hs b ≡ Told.Fine
+unfolding lay_out_lem build
 layout-passes hs b k r n =
     let q = register-passes hs b fresh k r in
-    let p = register-pos hs b fresh q.0 q.1 in
+    let p = register_pos hs b fresh q.0 q.1 in
     let s = register-says hs b fresh q.0 q.1 in
     rw q.1 (build-passes q.0.first q.0.pos (next hs b 0) (length b) s (omega arith))

@@ -14,18 +14,18 @@ use Rattle.standard.specs.declared.Head.{Head}
 use Rattle.standard.specs.declared.Head.TheVariants.{Fixed, Variable}
 use Rattle.standard.specs.declared.Told.{Told}
 use Rattle.standard.specs.declared.Refusal.TheVariants.{BadState}
-use Rattle.standard.proofs.Join.{span-ranges}
-use Rattle.decode.specs.Builder.{fresh, register, build, layOut}
-use Rattle.decode.specs.Held.{new, openEnd, put, Run, none}
-use Rattle.decode.specs.Reader.{firstStart, closeEnds, ranges, builtAs, buildItems, itemTold, item_of}
-use Rattle.decode.specs.Heads.{registerAll, put_all, state_of, froms, tos, opens, pieces}
+use Rattle.standard.proofs.Join.{span_ranges}
+use Rattle.decode.specs.Builder.{fresh, register, build, lay_out_lem}
+use Rattle.decode.specs.Held.{new, open_end, put, Run, none}
+use Rattle.decode.specs.Reader.{first_start, close_ends_lem, ranges, built_as, build_items, item_told_lem, item_of}
+use Rattle.decode.specs.Heads.{register_all_lem, put_all, state_of, froms, tos, opens, pieces}
 use Rattle.decode.specs.declared.builder.Progress.{Progress}
 use Rattle.decode.specs.declared.builder.Step.{Step}
 use Rattle.decode.specs.declared.decoder.SszDecoderBuilder.{SszDecoderBuilder}
 use Rattle.decode.specs.declared.decoder.SszDecoder.{SszDecoder}
-use Rattle.decode.proofs.Register.{ended-fine, layout-ranges}
-use Rattle.decode.proofs.Reached.{run-recalled}
-use Rattle.decode.proofs.Heads.{registers-state}
+use Rattle.decode.proofs.Register.{ended_fine, layout-ranges}
+use Rattle.decode.proofs.Reached.{run_recalled}
+use Rattle.decode.proofs.Heads.{registers_state}
 
 -- The record after a row of heads.
 put_count : (hs : List Head) (b : List ℕ) (x : SszDecoderBuilder) → (put_all hs b x).count ≡ x.count + length hs
@@ -52,22 +52,22 @@ put-ends (h ∷ hs) b x =
 
 -- Closing its ends: at the next variable head's offset, or at the end.
 module _ (b r t : List ℕ) (small : length b < 2 ^ 32) where
-  not-open : (n : ℕ) → n ≤ length b → n ≡ openEnd → ⊥
-  not-open n h e = omega arith
+  not_open : (n : ℕ) → n ≤ length b → n ≡ open_end → ⊥
+  not_open n h e = omega arith
 
-  first_next : (hs : List Head) (p k : ℕ) → InRange hs b p k → firstStart (froms hs b p ++ r) (opens hs p ++ t) (length hs) (length b) ≡ next hs b p
-  unfolding firstStart froms opens next width InRange
+  first_next : (hs : List Head) (p k : ℕ) → InRange hs b p k → first_start (froms hs b p ++ r) (opens hs p ++ t) (length hs) (length b) ≡ next hs b p
+  unfolding first_start froms opens next width InRange
   first_next [] p k g = refl
-  first_next (Fixed n ∷ hs) p k g = rw (ne_eqb _ _ (not-open (p + n) g.0)) (first_next hs (p + n) k g.1)
+  first_next (Fixed n ∷ hs) p k g = rw (ne_eqb _ _ (not_open (p + n) g.0)) (first_next hs (p + n) k g.1)
   first_next (Variable ∷ hs) p k g = refl
 
-  close-tos : (hs : List Head) (p k : ℕ) → InRange hs b p k → closeEnds (froms hs b p ++ r) (opens hs p ++ t) (length hs) (length b) ≡ tos hs b p ++ t
-  unfolding closeEnds froms opens tos width InRange
-  close-tos [] p k g = refl
-  close-tos (Fixed n ∷ hs) p k g =
-      rw (ne_eqb _ _ (not-open (p + n) g.0)) (ap (λ (l : List ℕ). (p + n) ∷ l) (close-tos hs (p + n) k g.1))
-  close-tos (Variable ∷ hs) p k g =
-      rw (first_next hs (p + 4) _ g.3) (ap (λ (l : List ℕ). next hs b (p + 4) ∷ l) (close-tos hs (p + 4) _ g.3))
+  close_tos : (hs : List Head) (p k : ℕ) → InRange hs b p k → close_ends_lem (froms hs b p ++ r) (opens hs p ++ t) (length hs) (length b) ≡ tos hs b p ++ t
+  unfolding close_ends_lem froms opens tos width InRange
+  close_tos [] p k g = refl
+  close_tos (Fixed n ∷ hs) p k g =
+      rw (ne_eqb _ _ (not_open (p + n) g.0)) (ap (λ (l : List ℕ). (p + n) ∷ l) (close_tos hs (p + n) k g.1))
+  close_tos (Variable ∷ hs) p k g =
+      rw (first_next hs (p + 4) _ g.3) (ap (λ (l : List ℕ). next hs b (p + 4) ∷ l) (close_tos hs (p + 4) _ g.3))
 
 length-froms : (hs : List Head) (b : List ℕ) (p : ℕ) → length (froms hs b p) ≡ length hs
 unfolding froms
@@ -86,9 +86,9 @@ length-tos (h ∷ hs) b p = ap suc (length-tos hs b (span_of h hs b p).next)
 
 -- The decoder of a row of heads: the spans' starts and ends, then zeros.
 pub record Spans (hs : List Head) (b : List ℕ) (d : SszDecoder) : Type 0 where
-  pub count-is : d.count ≡ length hs
-  pub starts-are : d.starts ≡ froms hs b 0 ++ drop (length hs) (replicate 64 0)
-  pub ends-are : d.ends ≡ tos hs b 0 ++ drop (length hs) (replicate 64 0)
+  pub count_is : d.count ≡ length hs
+  pub starts_are : d.starts ≡ froms hs b 0 ++ drop (length hs) (replicate 64 0)
+  pub ends_are : d.ends ≡ tos hs b 0 ++ drop (length hs) (replicate 64 0)
 
 module _ (hs : List Head) (b : List ℕ) (small : length b < 2 ^ 32) (few : length hs ≤ 64) where
   starts-of : (state_of hs b).starts ≡ froms hs b 0 ++ drop (length hs) (replicate 64 0)
@@ -104,22 +104,22 @@ module _ (hs : List Head) (b : List ℕ) (small : length b < 2 ^ 32) (few : leng
   count_of : (state_of hs b).count ≡ length hs
   count_of = put_count hs b new ∙ omega arith
 
-  spans-of : InRange hs b 0 0 → Spans hs b (ranges (state_of hs b) (length b))
-  spans-of g =
+  spans_of : InRange hs b 0 0 → Spans hs b (ranges (state_of hs b) (length b))
+  spans_of g =
       record {
-        count-is = count_of;
-        starts-are = starts-of;
-        ends-are = rw (starts-of, ends_of, count_of) (close-tos b _ _ small hs 0 0 g);
+        count_is = count_of;
+        starts_are = starts-of;
+        ends_are = rw (starts-of, ends_of, count_of) (close_tos b _ _ small hs 0 0 g);
       }
 
   -- Building the state of these heads tells what laying them out over the bytes tells, and gives their spans.
   module _ (p : Progress) (e : register hs b fresh ≡ Step.Next p) where
     reaches : Run b p (state_of hs b)
-    reaches = (registers-state b small hs fresh p new none (omega arith) e).1
+    reaches = (registers_state b small hs fresh p new none (omega arith) e).1
 
-    pub builds : buildItems b (state_of hs b) ≡ builtAs (layOut hs b) (state_of hs b) (length b)
-    unfolding buildItems layOut
-    builds = rw (run-recalled reaches, le-ltb 4294967295 (length b) (omega arith), e)
+    pub builds : build_items b (state_of hs b) ≡ built_as (lay_out_lem hs b) (state_of hs b) (length b)
+    unfolding build_items lay_out_lem
+    builds = rw (run_recalled reaches, le-ltb 4294967295 (length b) (omega arith), e)
 
 -- The items of a row of heads, one by one.
 pub record ItemAt (b : List ℕ) (from to : ℕ) (s : List ℕ) : Type 0 where
@@ -127,64 +127,64 @@ pub record ItemAt (b : List ℕ) (from to : ℕ) (s : List ℕ) : Type 0 where
   pub inside : to ≤ length b
   pub bytes : take (to - from) (drop from b) ≡ s
 
-span-item : (hs : List Head) (b : List ℕ) (p i : ℕ) → InRange hs b p 0 → i < length hs
+span_item : (hs : List Head) (b : List ℕ) (p i : ℕ) → InRange hs b p 0 → i < length hs
     → ItemAt b (get_or (froms hs b p) i 0) (get_or (tos hs b p) i 0) (get_or (pieces (split hs b p)) i [])
 unfolding froms tos split pieces
-span-item [] b p i g h = absurd (omega arith)
-span-item (k ∷ hs) b p zero g h =
-    let q = span-ranges k hs b p g in
+span_item [] b p i g h = absurd (omega arith)
+span_item (k ∷ hs) b p zero g h =
+    let q = span_ranges k hs b p g in
     record { upright = q.0; inside = q.1; bytes = refl }
-span-item (k ∷ hs) b p (suc i) g h = span-item hs b (span_of k hs b p).next i (span-ranges k hs b p g).2 (omega arith)
+span_item (k ∷ hs) b p (suc i) g h = span_item hs b (span_of k hs b p).next i (span_ranges k hs b p g).2 (omega arith)
 
 module _ (hs : List Head) (b : List ℕ) (d : SszDecoder) (g : Spans hs b d) (r : InRange hs b 0 0) (few : length hs ≤ 64) (i : ℕ)
     (h : i < length hs) where
   start-at : get_or d.starts i 0 ≡ get_or (froms hs b 0) i 0
   start-at =
       let l = length-froms hs b 0 in
-      rw g.starts-are (get_or-append (froms hs b 0) _ 0 i (omega arith))
+      rw g.starts_are (get_or-append (froms hs b 0) _ 0 i (omega arith))
 
   end-at : get_or d.ends i 0 ≡ get_or (tos hs b 0) i 0
   end-at =
       let l = length-tos hs b 0 in
-      rw g.ends-are (get_or-append (tos hs b 0) _ 0 i (omega arith))
+      rw g.ends_are (get_or-append (tos hs b 0) _ 0 i (omega arith))
 
   item-at : ItemAt b (get_or d.starts i 0) (get_or d.ends i 0) (get_or (pieces (split hs b 0)) i [])
-  item-at = rw (start-at, end-at) (span-item hs b 0 i r h)
+  item-at = rw (start-at, end-at) (span_item hs b 0 i r h)
 
-  item-there : itemTold d i (length b) ≡ Told.Fine
-  unfolding itemTold
+  item-there : item_told_lem d i (length b) ≡ Told.Fine
+  unfolding item_told_lem
   item-there =
-      let c = g.count-is in
+      let c = g.count_is in
       let t = item-at in
       rw (lt-ltb i d.count (omega arith), lt-ltb i 64 (omega arith), le-ltb _ _ t.upright, le-ltb _ _ t.inside)
 
   -- Each item is there, and it is the part that the split has.
-  pub item-is-part : (itemTold d i (length b) ≡ Told.Fine) × (item_of d i b ≡ get_or (pieces (split hs b 0)) i [])
-  item-is-part = (item-there, rw item-there item-at.bytes)
+  pub item_is_part : (item_told_lem d i (length b) ≡ Told.Fine) × (item_of d i b ≡ get_or (pieces (split hs b 0)) i [])
+  item_is_part = (item-there, rw item-there item-at.bytes)
 
 -- The whole, where the heads are accepted: registered one by one, built, and read item by item, the bytes come apart as the split has
 -- them, and behind the last item there is none.
 pub record Reads (hs : List Head) (b : List ℕ) : Type 0 where
-  pub registered : registerAll hs b new ≡ record { state = state_of hs b; told = Told.Fine }
-  pub built : buildItems b (state_of hs b) ≡ record { told = Told.Fine; decoder = ranges (state_of hs b) (length b) }
+  pub registered : register_all_lem hs b new ≡ record { state = state_of hs b; told = Told.Fine }
+  pub built : build_items b (state_of hs b) ≡ record { told = Told.Fine; decoder = ranges (state_of hs b) (length b) }
   pub items : (i : ℕ) → i < length hs
-      → (itemTold (ranges (state_of hs b) (length b)) i (length b) ≡ Told.Fine) ×
+      → (item_told_lem (ranges (state_of hs b) (length b)) i (length b) ≡ Told.Fine) ×
       (item_of (ranges (state_of hs b) (length b)) i b ≡ get_or (pieces (split hs b 0)) i [])
-  pub past-last : (i : ℕ) → length hs ≤ i → itemTold (ranges (state_of hs b) (length b)) i (length b) ≡ Told.Refused BadState
+  pub past-last : (i : ℕ) → length hs ≤ i → item_told_lem (ranges (state_of hs b) (length b)) i (length b) ≡ Told.Refused BadState
 
-no_item : (d : SszDecoder) (i len : ℕ) → d.count ≤ i → itemTold d i len ≡ Told.Refused BadState
-unfolding itemTold
+no_item : (d : SszDecoder) (i len : ℕ) → d.count ≤ i → item_told_lem d i len ≡ Told.Refused BadState
+unfolding item_told_lem
 no_item d i len h = rw (le-ltb _ _ h)
 
-pub reads : (hs : List Head) (b : List ℕ) → length b < 2 ^ 32 → length hs ≤ 64 → layOut hs b ≡ Told.Fine → Reads hs b
-unfolding layOut
+pub reads : (hs : List Head) (b : List ℕ) → length b < 2 ^ 32 → length hs ≤ 64 → lay_out_lem hs b ≡ Told.Fine → Reads hs b
+unfolding lay_out_lem
 reads hs b small few e =
-    let q = ended-fine (register hs b fresh) (build (length b)) e in
+    let q = ended_fine (register hs b fresh) (build (length b)) e in
     let r = layout-ranges hs b e in
-    let g = spans-of hs b small few r in
+    let g = spans_of hs b small few r in
     record {
-      registered = (registers-state b small hs fresh q.0 new none (omega arith) q.1).0;
+      registered = (registers_state b small hs fresh q.0 new none (omega arith) q.1).0;
       built = builds hs b small few q.0 q.1 ∙ rw e;
-      items = λ i h. item-is-part hs b _ g r few i h;
-      past-last = λ i h. no_item _ i (length b) (omega (arith, g.count-is));
+      items = λ i h. item_is_part hs b _ g r few i h;
+      past-last = λ i h. no_item _ i (length b) (omega (arith, g.count_is));
     }

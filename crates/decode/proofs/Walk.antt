@@ -20,9 +20,9 @@ use Rattle.standard.specs.declared.Refusal.TheVariants.{BadState}
 use Rattle.decode.specs.declared.builder.Progress.{Progress}
 use Rattle.decode.specs.declared.builder.Step.{Step}
 use Rattle.decode.specs.declared.decoder.SszDecoderBuilder.{SszDecoderBuilder}
-use Rattle.decode.specs.Builder.{fresh, step, registerHead, follow}
-use Rattle.decode.specs.Held.{openEnd, start_of, end_of, bad, zeros, recall, walk, arrived, recalled, Come}
-use Rattle.decode.proofs.Register.{refused-next, past, follow-next, register-step, step-fixed, step-variable, step-within}
+use Rattle.decode.specs.Builder.{fresh, step, register_head_lem, follow}
+use Rattle.decode.specs.Held.{open_end, start_of, end_of, bad, zeros, recall, walk, arrived, recalled, Come}
+use Rattle.decode.proofs.Register.{refused_next, past, follow-next, register-step, step-fixed, step_variable, step-within}
 
 -- All entries of a record from a place on are zero: one entry, and the rest.
 module _ (a : List ℕ) (i : ℕ) (long : length a ≡ 64) where
@@ -30,9 +30,9 @@ module _ (a : List ℕ) (i : ℕ) (long : length a ≡ 64) where
   unfolding zeros
   zeros-more h e = rw (add-one, drop-cons a i 0 (omega arith), eq-eqb _ _ e)
 
-  pub zeros-stop : i < 64 → (get_or a i 0 ≡ 0 → ⊥) → false ≡ zeros (drop i a)
+  pub zeros_stop : i < 64 → (get_or a i 0 ≡ 0 → ⊥) → false ≡ zeros (drop i a)
   unfolding zeros
-  zeros-stop h e = rw (drop-cons a i 0 (omega arith), ne_eqb _ _ e)
+  zeros_stop h e = rw (drop-cons a i 0 (omega arith), ne_eqb _ _ e)
 
   pub zeros-end : 64 ≤ i → true ≡ zeros (drop i a)
   unfolding zeros
@@ -45,35 +45,35 @@ pub record Walking (ss es : List ℕ) (n : ℕ) (b : List ℕ) (x : Progress) (i
   pub within : i ≤ n
   pub same : walk (drop i ss) (drop i es) (n - i) b x ≡ walk ss es n b fresh
 
-pub walking-none : (ss es : List ℕ) (n : ℕ) (b : List ℕ) (x : Progress) → x ≡ fresh → Walking ss es n b x 0
-walking-none ss es n b x e = record { within = omega arith; same = rw (e, sub-zero) }
+pub walking_none : (ss es : List ℕ) (n : ℕ) (b : List ℕ) (x : Progress) → x ≡ fresh → Walking ss es n b x 0
+walking_none ss es n b x e = record { within = omega arith; same = rw (e, sub-zero) }
 
 module _ (ss es : List ℕ) (n : ℕ) (b : List ℕ) (x : Progress) (i : ℕ) (g : Walking ss es n b x i) where
-  pub walking-all : n ≤ i → Step.Next x ≡ walk ss es n b fresh
+  pub walking_all : n ≤ i → Step.Next x ≡ walk ss es n b fresh
   unfolding walk
-  walking-all h =
+  walking_all h =
       let k : n - i ≡ 0 = omega arith in
       rw k at g.same
 
   module _ (h : i < n) (ls : length ss ≡ 64) (le : length es ≡ 64) (small : n ≤ 64) where
-    walk-cons : follow (recall (get_or ss i 0) (get_or es i 0) b x) (walk (drop (suc i) ss) (drop (suc i) es) (n - suc i) b) ≡ walk ss es n b fresh
+    walk_cons : follow (recall (get_or ss i 0) (get_or es i 0) b x) (walk (drop (suc i) ss) (drop (suc i) es) (n - suc i) b) ≡ walk ss es n b fresh
     unfolding walk
-    walk-cons =
+    walk_cons =
         let k : n - i ≡ suc (n - suc i) = omega arith in
         let p : i < length ss = omega arith in
         let q : i < length es = omega arith in
         rw (drop-cons ss i 0 p, drop-cons es i 0 q, k) at g.same
 
-    pub walking-more : (y : Progress) → Step.Next y ≡ recall (get_or ss i 0) (get_or es i 0) b x → Walking ss es n b y (i + 1)
-    walking-more y e = record { within = omega arith; same = rw (add-one) (rw (← e) at walk-cons) }
+    pub walking_more : (y : Progress) → Step.Next y ≡ recall (get_or ss i 0) (get_or es i 0) b x → Walking ss es n b y (i + 1)
+    walking_more y e = record { within = omega arith; same = rw (add-one) (rw (← e) at walk_cons) }
 
-    pub walking-bad : (r : Refusal) → Step.Refused r ≡ recall (get_or ss i 0) (get_or es i 0) b x → Step.Refused r ≡ walk ss es n b fresh
-    walking-bad r e = rw (← e) at walk-cons
+    pub walking_bad : (r : Refusal) → Step.Refused r ≡ recall (get_or ss i 0) (get_or es i 0) b x → Step.Refused r ≡ walk ss es n b fresh
+    walking_bad r e = rw (← e) at walk_cons
 
 -- What an accepted item of the record says.
 pub pick_next : (c : Bool) (u : Step) (y : Progress) → pick c u bad ≡ Step.Next y → (c ≡ true) × (u ≡ Step.Next y)
 pick_next true u y e = (refl, e)
-pick_next false u y e = refused-next BadState y e
+pick_next false u y e = refused_next BadState y e
 
 -- Some head was registered, and the record says what it has to say of it.
 pub record Recalled (s e : ℕ) (b : List ℕ) (x y : Progress) : Type 0 where
@@ -84,24 +84,24 @@ pub record Recalled (s e : ℕ) (b : List ℕ) (x y : Progress) : Type 0 where
   pub stepped : step head b x ≡ Step.Next y
 
 module _ (b : List ℕ) (x y : Progress) where
-  head-next : (h : Head) → registerHead h b x ≡ Step.Next y → (length b < 2 ^ 32) × (step h b x ≡ Step.Next y)
+  head-next : (h : Head) → register_head_lem h b x ≡ Step.Next y → (length b < 2 ^ 32) × (step h b x ≡ Step.Next y)
   head-next h e =
       let p = past (ltb (length b) x.pos) _ _ y e in
       let q = past (ltb 4294967295 (length b)) _ _ y p.1 in
       let l : length b ≤ 4294967295 = ltb-false _ _ q.0 in
       (omega arith, q.1)
 
-  recall-open : (s : ℕ) → pick (eqb s (four b x.pos)) (registerHead Variable b x) bad ≡ Step.Next y → Recalled s openEnd b x y
-  recall-open s e =
-      let p = pick_next (eqb s (four b x.pos)) (registerHead Variable b x) y e in
+  recall_open : (s : ℕ) → pick (eqb s (four b x.pos)) (register_head_lem Variable b x) bad ≡ Step.Next y → Recalled s open_end b x y
+  recall_open s e =
+      let p = pick_next (eqb s (four b x.pos)) (register_head_lem Variable b x) y e in
       let q = head-next Variable p.1 in
       record { head = Variable; start = eqb-true _ _ p.0; end = refl; small = q.0; stepped = q.1 }
 
-  recall-shut : (s e : ℕ) → pick (eqb s x.pos) (pick (ltb e s) bad (registerHead (Fixed (e - s)) b x)) bad ≡ Step.Next y → Recalled s e b x y
+  recall_shut : (s e : ℕ) → pick (eqb s x.pos) (pick (ltb e s) bad (register_head_lem (Fixed (e - s)) b x)) bad ≡ Step.Next y → Recalled s e b x y
   unfolding width
-  recall-shut s e h =
-      let p = pick_next (eqb s x.pos) (pick (ltb e s) bad (registerHead (Fixed (e - s)) b x)) y h in
-      let q = past (ltb e s) BadState (registerHead (Fixed (e - s)) b x) y p.1 in
+  recall_shut s e h =
+      let p = pick_next (eqb s x.pos) (pick (ltb e s) bad (register_head_lem (Fixed (e - s)) b x)) y h in
+      let q = past (ltb e s) BadState (register_head_lem (Fixed (e - s)) b x) y p.1 in
       let r = head-next (Fixed (e - s)) q.1 in
       let i : s ≡ x.pos = eqb-true _ _ p.0 in
       let j : s ≤ e = ltb-false _ _ q.0 in
@@ -109,21 +109,21 @@ module _ (b : List ℕ) (x y : Progress) where
 
   pub recall-says : (s e : ℕ) → recall s e b x ≡ Step.Next y → Recalled s e b x y
   unfolding recall
-  recall-says s e h = go (eqb e openEnd) refl h
+  recall-says s e h = go (eqb e open_end) refl h
     where
-      go : (c : Bool) → eqb e openEnd ≡ c
-          → pick c (pick (eqb s (four b x.pos)) (registerHead Variable b x) bad)
-          (pick (eqb s x.pos) (pick (ltb e s) bad (registerHead (Fixed (e - s)) b x)) bad) ≡ Step.Next y
+      go : (c : Bool) → eqb e open_end ≡ c
+          → pick c (pick (eqb s (four b x.pos)) (register_head_lem Variable b x) bad)
+          (pick (eqb s x.pos) (pick (ltb e s) bad (register_head_lem (Fixed (e - s)) b x)) bad) ≡ Step.Next y
           → Recalled s e b x y
-      go true q k = rw (eqb-true e openEnd q) (recall-open s k)
-      go false q k = recall-shut s e k
+      go true q k = rw (eqb-true e open_end q) (recall_open s k)
+      go false q k = recall_shut s e k
 
 -- Where a walk ends lies within the bytes.
 pub walk-within : (ss es : List ℕ) (n : ℕ) (b : List ℕ) (x y : Progress) → walk ss es n b x ≡ Step.Next y → x.pos ≤ length b → y.pos ≤ length b
 unfolding walk
 walk-within ss es zero b x y e h = let q : x ≡ y = cc in rw (← q) h
-walk-within [] es (suc n) b x y e h = refused-next BadState y e
-walk-within (s ∷ ss) [] (suc n) b x y e h = refused-next BadState y e
+walk-within [] es (suc n) b x y e h = refused_next BadState y e
+walk-within (s ∷ ss) [] (suc n) b x y e h = refused_next BadState y e
 walk-within (s ∷ ss) (t ∷ es) (suc n) b x y e h =
     let q = follow-next _ _ _ e in
     let r = recall-says b x q.0 s t q.1 in
@@ -142,7 +142,7 @@ arrived-next (Step.Next y) n p e =
     let q = pick_next (eqb y.pos n) (Step.Next y) p e in
     let r : y ≡ p = cc q.1 in
     (q.1, ap (λ (z : Progress). z.pos) (sym r) ∙ eqb-true _ _ q.0)
-arrived-next (Step.Refused r) n p e = refused-next BadState p e
+arrived-next (Step.Refused r) n p e = refused_next BadState p e
 
 module _ (x : SszDecoderBuilder) (b : List ℕ) (p : Progress) where
   pub recalled-says : recalled x b ≡ Step.Next p → Tested x b p
@@ -158,20 +158,20 @@ module _ (x : SszDecoderBuilder) (b : List ℕ) (p : Progress) where
   unfolding recalled
   recalled-tested g = rw (le-leb _ _ g.few, g.no-starts, g.no-ends, g.walked, eq-eqb _ _ g.arrives)
 
-  pub recalled-come : recalled x b ≡ Step.Next p → Come p x b
-  recalled-come e =
+  pub recalled_come : recalled x b ≡ Step.Next p → Come p x b
+  recalled_come e =
       let g = recalled-says e in
       record { same = g.arrives; within = walk-within x.starts x.ends x.count b fresh p g.walked (omega arith) }
 
 -- One registration of a state that is reached is a step.
-pub come-step : (h : Head) (b : List ℕ) (p : Progress) (x : SszDecoderBuilder) (r : Step) → Come p x b → length b ≤ 4294967295
-    → r ≡ registerHead h b p → step h b p ≡ r
-come-step h b p x r g l e = sym (register-step h b p g.within (omega arith)) ∙ sym e
+pub come_step : (h : Head) (b : List ℕ) (p : Progress) (x : SszDecoderBuilder) (r : Step) → Come p x b → length b ≤ 4294967295
+    → r ≡ register_head_lem h b p → step h b p ≡ r
+come_step h b p x r g l e = sym (register-step h b p g.within (omega arith)) ∙ sym e
 
-pub step-pos : (h : Head) (b : List ℕ) (x y : Progress) → step h b x ≡ Step.Next y → y.pos ≡ x.pos + width h
+pub step_pos : (h : Head) (b : List ℕ) (x y : Progress) → step h b x ≡ Step.Next y → y.pos ≡ x.pos + width h
 unfolding width
-step-pos (Fixed n) b x y e = rw (step-fixed b x y n e).2
-step-pos Variable b x y e = rw (step-variable b x y e).3
+step_pos (Fixed n) b x y e = rw (step-fixed b x y n e).2
+step_pos Variable b x y e = rw (step_variable b x y e).3
 
-pub come-pos : (h : Head) (b : List ℕ) (p q : Progress) (x : SszDecoderBuilder) → Come p x b → step h b p ≡ Step.Next q → q.pos ≡ x.pos + width h
-come-pos h b p q x g e = rw (← g.same) (step-pos h b p q e)
+pub come_pos : (h : Head) (b : List ℕ) (p q : Progress) (x : SszDecoderBuilder) → Come p x b → step h b p ≡ Step.Next q → q.pos ≡ x.pos + width h
+come_pos h b p q x g e = rw (← g.same) (step_pos h b p q e)

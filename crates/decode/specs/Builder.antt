@@ -11,19 +11,19 @@ use Rattle.standard.specs.declared.Refusal.TheVariants.{InvalidByteLength, Inval
 use Rattle.decode.specs.declared.OffsetResult.{OffsetResult}
 use Rattle.decode.specs.declared.builder.Progress.{Progress}
 use Rattle.decode.specs.declared.builder.Step.{Step}
-use Rattle.decode.specs.Offsets.{sanitizeOffset}
+use Rattle.decode.specs.Offsets.{sanitize_offset_lem}
 
 abbrev pub fresh : Progress
 fresh = record { pos = 0; first = Nothing; previous = Nothing }
 
-abbrev pub orElseJust : Maybe → ℕ → Maybe
-orElseJust (Just k) n = Just k
-orElseJust Nothing n = Just n
+abbrev pub or_else_just : Maybe → ℕ → Maybe
+or_else_just (Just k) n = Just k
+or_else_just Nothing n = Just n
 
 -- The next progress behind an offset that passed, or the offset's refusal.
-abbrev pub behindOffset : OffsetResult → Progress → Step
-behindOffset (OffsetResult.Offset o) x = Step.Next (record { pos = x.pos + 4; first = orElseJust x.first o; previous = Just o })
-behindOffset (OffsetResult.Refused r) x = Step.Refused r
+abbrev pub behind_offset : OffsetResult → Progress → Step
+behind_offset (OffsetResult.Offset o) x = Step.Next (record { pos = x.pos + 4; first = or_else_just x.first o; previous = Just o })
+behind_offset (OffsetResult.Refused r) x = Step.Refused r
 
 -- "Registering a fixed item of length f at position p needs p+f bytes, else 1"; above 4,294,967,295 it is 14.
 -- "Registering a variable one reads an offset (else 2, with the bytes left and 4), then refuses in this order: 7 .., 6": the
@@ -35,11 +35,11 @@ step (Fixed n) b x =
     (Step.Next (record { pos = x.pos + n; first = x.first; previous = x.previous })))
 step Variable b x =
     pick (ltb (length b - x.pos) 4) (Step.Refused (InvalidLengthPrefix (length b - x.pos) 4))
-    (behindOffset (sanitizeOffset (four b x.pos) x.previous (length b) Nothing) x)
+    (behind_offset (sanitize_offset_lem (four b x.pos) x.previous (length b) Nothing) x)
 
 -- One registration, for every progress and all bytes.
-abbrev pub registerHead : Head → List ℕ → Progress → Step
-registerHead h b x =
+abbrev pub register_head_lem : Head → List ℕ → Progress → Step
+register_head_lem h b x =
     pick (ltb (length b) x.pos) (Step.Refused BadState)
     (pick (ltb 4294967295 (length b)) (Step.Refused TooLarge)
     (step h b x))
@@ -56,20 +56,20 @@ register (h ∷ hs) b x = follow (step h b x) (register hs b)
 
 -- "Building: the first offset must equal the fixed portion (4 below it, 5 above it). With no variable field the fixed portion must
 -- be the whole length, else 1."
-abbrev pub buildAt : Maybe → ℕ → ℕ → Told
-buildAt (Just o) p len =
+abbrev pub build_at : Maybe → ℕ → ℕ → Told
+build_at (Just o) p len =
     pick (ltb o p) (Told.Refused (OffsetIntoFixedPortion o))
     (pick (ltb p o) (Told.Refused (OffsetSkipsVariableBytes o))
     Told.Fine)
-buildAt Nothing p len = pick (eqb p len) Told.Fine (Told.Refused (InvalidByteLength len p))
+build_at Nothing p len = pick (eqb p len) Told.Fine (Told.Refused (InvalidByteLength len p))
 
 unfoldable pub build : ℕ → Progress → Told
-build len x = buildAt x.first x.pos len
+build len x = build_at x.first x.pos len
 
 abbrev pub ended : Step → (Progress → Told) → Told
 ended (Step.Next x) k = k x
 ended (Step.Refused r) k = Told.Refused r
 
 -- Registers the heads over b, and builds.
-unfoldable pub layOut : List Head → List ℕ → Told
-layOut hs b = ended (register hs b fresh) (build (length b))
+unfoldable pub lay_out_lem : List Head → List ℕ → Told
+lay_out_lem hs b = ended (register hs b fresh) (build (length b))

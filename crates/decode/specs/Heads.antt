@@ -4,7 +4,7 @@ use Rattle.standard.specs.Types.{width}
 use Rattle.standard.specs.Parts.{Part, piece, span_of}
 use Rattle.standard.specs.declared.Head.{Head}
 use Rattle.standard.specs.declared.Told.{Told}
-use Rattle.decode.specs.Held.{new, end_of, put, registerItem}
+use Rattle.decode.specs.Held.{new, end_of, put, register_item}
 use Rattle.decode.specs.declared.builder.Step.{Step}
 use Rattle.decode.specs.declared.decoder.SszDecoderBuilder.{SszDecoderBuilder}
 use Rattle.decode.specs.declared.decoder.Registered.{Registered}
@@ -12,24 +12,24 @@ use Rattle.decode.specs.declared.decoder.Registered.{Registered}
 -- The states that the builder's own calls over b give, from a new one on, while each is accepted
 pub data Calls (b : List ℕ) : SszDecoderBuilder → Type 0 where
   start : Calls b new
-  call : (h : Head) {x y : SszDecoderBuilder} → Calls b x → registerItem h b x ≡ record { state = y; told = Told.Fine } → Calls b y
+  call : (h : Head) {x y : SszDecoderBuilder} → Calls b x → register_item h b x ≡ record { state = y; told = Told.Fine } → Calls b y
 
 -- Goes on with the next state, unless there is a refusal.
-abbrev pub ifFine : Told → Registered → Registered → Registered
-ifFine Told.Fine next here = next
-ifFine (Told.Refused r) next here = here
+abbrev pub if_fine : Told → Registered → Registered → Registered
+if_fine Told.Fine next here = next
+if_fine (Told.Refused r) next here = here
 
 -- The heads registered one by one, by the builder's own calls
-unfoldable pub registerAll : List Head → List ℕ → SszDecoderBuilder → Registered
-registerAll [] b x = record { state = x; told = Told.Fine }
-registerAll (h ∷ hs) b x =
-    let r = registerItem h b x in
-    ifFine r.told (registerAll hs b r.state) r
+unfoldable pub register_all_lem : List Head → List ℕ → SszDecoderBuilder → Registered
+register_all_lem [] b x = record { state = x; told = Told.Fine }
+register_all_lem (h ∷ hs) b x =
+    let r = register_item h b x in
+    if_fine r.told (register_all_lem hs b r.state) r
 
 -- What the fold over the heads tells
-abbrev pub toldBy : Step → Told
-toldBy (Step.Next y) = Told.Fine
-toldBy (Step.Refused r) = Told.Refused r
+abbrev pub told_by : Step → Told
+told_by (Step.Next y) = Told.Fine
+told_by (Step.Refused r) = Told.Refused r
 
 -- The state after these heads
 unfoldable pub put_all : List Head → List ℕ → SszDecoderBuilder → SszDecoderBuilder

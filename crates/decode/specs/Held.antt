@@ -1,6 +1,6 @@
 -- The builder that holds a record of its items: document 01, module 4. Assumes nothing: these are definitions.
 use Rattle.std.specs.Prelude.{◌≡◌, List, [], ◌∷◌, Bool, true, false, ℕ, zero, suc, ◌+◌, ◌-◌, ◌≤◌, ◌<◌, ◌^◌, length, replicate, set, drop, eqb, ltb, leb}
-use Rattle.standard.specs.Choice.{pick, andAlso}
+use Rattle.standard.specs.Choice.{pick, and_also}
 use Rattle.standard.specs.Bytes.{four}
 use Rattle.standard.specs.Types.{width}
 use Rattle.standard.specs.declared.Head.{Head}
@@ -12,11 +12,11 @@ use Rattle.decode.specs.declared.builder.Progress.{Progress}
 use Rattle.decode.specs.declared.builder.Step.{Step}
 use Rattle.decode.specs.declared.decoder.SszDecoderBuilder.{SszDecoderBuilder}
 use Rattle.decode.specs.declared.decoder.Registered.{Registered}
-use Rattle.decode.specs.Builder.{fresh, step, registerHead, follow}
+use Rattle.decode.specs.Builder.{fresh, step, register_head_lem, follow}
 
 -- What stands for the end of a variable item until the container is built
-abbrev pub openEnd : ℕ
-openEnd = 18446744073709551615
+abbrev pub open_end : ℕ
+open_end = 18446744073709551615
 
 -- Nothing is registered
 abbrev pub new : SszDecoderBuilder
@@ -29,7 +29,7 @@ start_of Variable b p = four b p
 
 abbrev pub end_of : Head → ℕ → ℕ
 end_of (Fixed n) q = q
-end_of Variable q = openEnd
+end_of Variable q = open_end
 
 -- The state with one item more
 abbrev pub put : Head → List ℕ → SszDecoderBuilder → SszDecoderBuilder
@@ -53,9 +53,9 @@ bad = Step.Refused BadState
 
 unfoldable pub recall : ℕ → ℕ → List ℕ → Progress → Step
 recall s e b x =
-    pick (eqb e openEnd)
-    (pick (eqb s (four b x.pos)) (registerHead Variable b x) bad)
-    (pick (eqb s x.pos) (pick (ltb e s) bad (registerHead (Fixed (e - s)) b x)) bad)
+    pick (eqb e open_end)
+    (pick (eqb s (four b x.pos)) (register_head_lem Variable b x) bad)
+    (pick (eqb s x.pos) (pick (ltb e s) bad (register_head_lem (Fixed (e - s)) b x)) bad)
 
 unfoldable pub walk : List ℕ → List ℕ → ℕ → List ℕ → Progress → Step
 walk ss es zero b x = Step.Next x
@@ -65,7 +65,7 @@ walk (s ∷ ss) (e ∷ es) (suc n) b x = follow (recall s e b x) (walk ss es n b
 
 unfoldable pub zeros : List ℕ → Bool
 zeros [] = true
-zeros (x ∷ xs) = andAlso (eqb x 0) (zeros xs)
+zeros (x ∷ xs) = and_also (eqb x 0) (zeros xs)
 
 abbrev pub arrived : Step → ℕ → Step
 arrived (Step.Next y) p = pick (eqb y.pos p) (Step.Next y) bad
@@ -103,10 +103,10 @@ abbrev pub known : Step → Head → List ℕ → SszDecoderBuilder → Register
 known (Step.Next p) h b x = allowed p h b x
 known (Step.Refused r) h b x = old x BadState
 
-unfoldable pub registerItem : Head → List ℕ → SszDecoderBuilder → Registered
-registerItem h b x = known (recalled x b) h b x
+unfoldable pub register_item : Head → List ℕ → SszDecoderBuilder → Registered
+register_item h b x = known (recalled x b) h b x
 
 -- "register_type_parameterized": a length that counts only for a fixed item
-abbrev pub headFor : Bool → ℕ → Head
-headFor true n = Fixed n
-headFor false n = Variable
+abbrev pub head_for : Bool → ℕ → Head
+head_for true n = Fixed n
+head_for false n = Variable

@@ -9,13 +9,13 @@ use Rattle.decode.specs.declared.OffsetResult.{OffsetResult}
 use Rattle.decode.specs.declared.OffsetResult.TheVariants.{Offset, Refused}
 
 -- "An offset is four bytes, little-endian": else 2, with the bytes left and 4
-abbrev pub readOffset : List ℕ → OffsetResult
-readOffset b = pick (ltb (length b) 4) (Refused (InvalidLengthPrefix (length b) 4)) (Offset (four b 0))
+abbrev pub read_offset_lem : List ℕ → OffsetResult
+read_offset_lem b = pick (ltb (length b) 4) (Refused (InvalidLengthPrefix (length b) 4)) (Offset (four b 0))
 
 -- 4: below the fixed bytes, where they are known
-abbrev pub isBelow : ℕ → Maybe → Bool
-isBelow o (Just n) = ltb o n
-isBelow o Nothing = false
+abbrev pub is_below_lem : ℕ → Maybe → Bool
+is_below_lem o (Just n) = ltb o n
+is_below_lem o Nothing = false
 
 -- 5: a first offset that is not at the end of the fixed bytes, where they are known
 abbrev pub skips : ℕ → Maybe → Maybe → Bool
@@ -24,15 +24,15 @@ skips o Nothing (Just n) = not (eqb o n)
 skips o Nothing Nothing = false
 
 -- 6: below the previous offset, where there is one
-abbrev pub isAbove : Maybe → ℕ → Bool
-isAbove (Just p) o = ltb o p
-isAbove Nothing o = false
+abbrev pub is_above_lem : Maybe → ℕ → Bool
+is_above_lem (Just p) o = ltb o p
+is_above_lem Nothing o = false
 
 -- "keeps its four tests in the crate's order: 4, 5, 7, 6"
-abbrev pub sanitizeOffset : ℕ → Maybe → ℕ → Maybe → OffsetResult
-sanitizeOffset o previous len fixed =
-    pick (isBelow o fixed) (Refused (OffsetIntoFixedPortion o))
+abbrev pub sanitize_offset_lem : ℕ → Maybe → ℕ → Maybe → OffsetResult
+sanitize_offset_lem o previous len fixed =
+    pick (is_below_lem o fixed) (Refused (OffsetIntoFixedPortion o))
     (pick (skips o previous fixed) (Refused (OffsetSkipsVariableBytes o))
     (pick (ltb len o) (Refused (OffsetOutOfBounds o))
-    (pick (isAbove previous o) (Refused (OffsetsAreDecreasing o))
+    (pick (is_above_lem previous o) (Refused (OffsetsAreDecreasing o))
     (Offset o))))

@@ -1,6 +1,6 @@
 // Registration as SszDecoderBuilder does it, in numbers alone: where the next head comes, the first offset and the last.
 ghost use Rattle.std.specs.Prelude.{◌≡◌, ◌+◌, ◌≤◌, ◌<◌, ◌^◌, length};
-ghost use Rattle.decode.specs.Builder.{fresh, orElseJust, step, registerHead, build};
+ghost use Rattle.decode.specs.Builder.{fresh, or_else_just, step, register_head_lem, build};
 
 use crate::{OffsetResult, sanitize_offset};
 use standard::words::four_at;
@@ -35,7 +35,7 @@ impl Progress {
 }
 
 fn or_just(known: Maybe, n: usize) -> Maybe
-    ensures { result ≡ orElseJust known n }
+    ensures { result ≡ or_else_just known n }
 {
     match known {
         Maybe::Just(k) => Maybe::Just(k),
@@ -94,7 +94,7 @@ fn register_variable(x: Progress, bytes: &[u8]) -> Step
 
 // Registers an item by its head.
 pub fn register_head(x: Progress, head: Head, bytes: &[u8]) -> Step
-    ensures { result ≡ registerHead head bytes.now x }
+    ensures { result ≡ register_head_lem head bytes.now x }
 {
     if x.pos > bytes.len() {
         return Step::Refused(Refusal::BadState);

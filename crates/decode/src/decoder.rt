@@ -3,8 +3,8 @@
 ghost use Rattle.std.specs.Prelude.{◌≡◌, ◌+◌, ◌≤◌, ◌<◌, drop};
 ghost use Rattle.standard.specs.Types.{width};
 ghost use Rattle.decode.specs.Builder.{fresh};
-ghost use Rattle.decode.specs.Held.{new, start_of, end_of, put, zeros, recall, walk, arrived, recalled, Come, old, allowed, registerItem, headFor};
-ghost use Rattle.decode.specs.Reader.{notBuilt, closedEnd, startFrom, closeEnds, closable, buildItems, itemTold, item_of};
+ghost use Rattle.decode.specs.Held.{new, start_of, end_of, put, zeros, recall, walk, arrived, recalled, Come, old, allowed, register_item, head_for};
+ghost use Rattle.decode.specs.Reader.{not_built_lem, closed_end_lem, start_from_lem, close_ends_lem, closable, build_items, item_told_lem, item_of};
 
 use crate::builder::{Progress, Step, finalize, register_head};
 use standard::words::four_at;
@@ -147,7 +147,7 @@ fn refused(x: SszDecoderBuilder, r: Refusal) -> Registered
 
 // What a refusal to build gives: no ranges.
 fn not_built(r: Refusal) -> Built
-    ensures { result ≡ notBuilt r }
+    ensures { result ≡ not_built_lem r }
 {
     Built {
         told: Told::Refused(r),
@@ -161,14 +161,14 @@ fn not_built(r: Refusal) -> Built
 
 // An open end is closed where the next variable item starts.
 fn closed_end(end: usize, next: usize) -> usize
-    ensures { result ≡ closedEnd end next }
+    ensures { result ≡ closed_end_lem end next }
 {
     if end == OPEN_END { next } else { end }
 }
 
 // Where the items from this one on first have a variable one.
 fn start_from(start: usize, end: usize, next: usize) -> usize
-    ensures { result ≡ startFrom start end next }
+    ensures { result ≡ start_from_lem start end next }
 {
     if end == OPEN_END { start } else { next }
 }
@@ -176,7 +176,7 @@ fn start_from(start: usize, end: usize, next: usize) -> usize
 // Each variable item ends where the next one starts, the last one at the end of the bytes.
 fn close_ends(starts: [usize; 64], ends: [usize; 64], count: usize, len: usize) -> [usize; 64]
     requires { count ≤ 64 }
-    ensures { result ≡ closeEnds starts ends count len }
+    ensures { result ≡ close_ends_lem starts ends count len }
 {
     let mut closed = ends;
     let mut next = len;
@@ -270,7 +270,7 @@ impl SszDecoderBuilder {
     }
 
     fn register(self, head: Head, bytes: &[u8]) -> Registered
-        ensures { result ≡ registerItem head bytes.now self }
+        ensures { result ≡ register_item head bytes.now self }
     {
         let s = self.recall(bytes);
         match s {
@@ -281,14 +281,14 @@ impl SszDecoderBuilder {
 
     // Registers an item of so many bytes.
     pub fn register_fixed(self, len: usize, bytes: &[u8]) -> Registered
-        ensures { result ≡ registerItem (Head.Fixed len) bytes.now self }
+        ensures { result ≡ register_item (Head.Fixed len) bytes.now self }
     {
         self.register(Head::Fixed(len), bytes)
     }
 
     // Registers an item that an offset stands for.
     pub fn register_variable(self, bytes: &[u8]) -> Registered
-        ensures { result ≡ registerItem Head.Variable bytes.now self }
+        ensures { result ≡ register_item Head.Variable bytes.now self }
     {
         self.register(Head::Variable, bytes)
     }
@@ -300,7 +300,7 @@ impl SszDecoderBuilder {
         ssz_fixed_len: usize,
         bytes: &[u8],
     ) -> Registered
-        ensures { result ≡ registerItem (headFor is_ssz_fixed_len ssz_fixed_len) bytes.now self }
+        ensures { result ≡ register_item (head_for is_ssz_fixed_len ssz_fixed_len) bytes.now self }
     {
         if is_ssz_fixed_len {
             self.register_fixed(ssz_fixed_len, bytes)
@@ -341,7 +341,7 @@ impl SszDecoderBuilder {
 
     // The ranges of all items.
     pub fn build(self, bytes: &[u8]) -> Built
-        ensures { result ≡ buildItems bytes.now self }
+        ensures { result ≡ build_items bytes.now self }
     {
         let s = self.recall(bytes);
         match s {
@@ -354,7 +354,7 @@ impl SszDecoderBuilder {
 impl SszDecoder {
     // Whether bytes of this length have the item: past the last, or where its range is not one of theirs, it is 23.
     pub fn item_told(self, index: usize, len: usize) -> Told
-        ensures { result ≡ itemTold self index len }
+        ensures { result ≡ item_told_lem self index len }
     {
         if index >= self.count {
             return Told::Refused(Refusal::BadState);

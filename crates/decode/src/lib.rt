@@ -4,8 +4,8 @@ pub mod decoder;
 pub mod union_selector;
 
 ghost use Rattle.std.specs.Prelude.{◌≡◌};
-ghost use Rattle.decode.specs.Offsets.{isBelow, skips, isAbove, readOffset, sanitizeOffset};
-ghost use Rattle.decode.specs.Unions.{splitUnion, unionBody};
+ghost use Rattle.decode.specs.Offsets.{is_below_lem, skips, is_above_lem, read_offset_lem, sanitize_offset_lem};
+ghost use Rattle.decode.specs.Unions.{split_union, union_body_lem};
 
 use standard::words::four_at;
 use standard::{Maybe, Refusal};
@@ -22,7 +22,7 @@ pub enum OffsetResult {
 
 // Reads the offset that begins the bytes.
 pub fn read_offset(bytes: &[u8]) -> OffsetResult
-    ensures { result ≡ readOffset bytes.now }
+    ensures { result ≡ read_offset_lem bytes.now }
 {
     let len = bytes.len();
     if len < BYTES_PER_LENGTH_OFFSET {
@@ -33,7 +33,7 @@ pub fn read_offset(bytes: &[u8]) -> OffsetResult
 }
 
 fn is_below(offset: usize, bound: Maybe) -> bool
-    ensures { result ≡ isBelow offset bound }
+    ensures { result ≡ is_below_lem offset bound }
 {
     match bound {
         Maybe::Just(n) => offset < n,
@@ -42,7 +42,7 @@ fn is_below(offset: usize, bound: Maybe) -> bool
 }
 
 fn is_above(bound: Maybe, offset: usize) -> bool
-    ensures { result ≡ isAbove bound offset }
+    ensures { result ≡ is_above_lem bound offset }
 {
     match bound {
         Maybe::Just(n) => n > offset,
@@ -70,7 +70,7 @@ pub fn sanitize_offset(
     num_bytes: usize,
     num_fixed_bytes: Maybe,
 ) -> OffsetResult
-    ensures { result ≡ sanitizeOffset offset previous_offset num_bytes num_fixed_bytes }
+    ensures { result ≡ sanitize_offset_lem offset previous_offset num_bytes num_fixed_bytes }
 {
     let into = is_below(offset, num_fixed_bytes);
     if into {
@@ -92,7 +92,7 @@ pub fn sanitize_offset(
 
 // The selector that begins a union's bytes. The body behind it is `union_body`: an enum holds no part of a slice.
 pub fn split_union_bytes(bytes: &[u8]) -> SelectorResult
-    ensures { result ≡ splitUnion bytes.now }
+    ensures { result ≡ split_union bytes.now }
 {
     if bytes.len() == 0 {
         SelectorResult::Refused(Refusal::OutOfBoundsByte(0))
@@ -103,7 +103,7 @@ pub fn split_union_bytes(bytes: &[u8]) -> SelectorResult
 
 // The bytes behind the selector, as a part of the caller's own; none where there is no selector.
 pub fn union_body(bytes: &[u8]) -> &[u8]
-    ensures { result.now ≡ unionBody bytes.now }
+    ensures { result.now ≡ union_body_lem bytes.now }
 {
     if bytes.len() == 0 { bytes } else { &bytes[1..] }
 }

@@ -1,6 +1,6 @@
 // The selector of a union, as union_selector.rs of ethereum_ssz 0.10.4 has it.
 ghost use Rattle.std.specs.Prelude.{◌≡◌, eqb};
-ghost use Rattle.decode.specs.Unions.{selectorOf};
+ghost use Rattle.decode.specs.Unions.{selector_of};
 
 use standard::Refusal;
 
@@ -19,7 +19,7 @@ pub enum SelectorResult {
 
 impl UnionSelector {
     pub fn new(selector: u8) -> SelectorResult
-        ensures { result ≡ selectorOf selector }
+        ensures { result ≡ selector_of selector }
     {
         if selector <= MAX_UNION_SELECTOR {
             SelectorResult::Selector(UnionSelector(selector))

@@ -15,9 +15,9 @@ use Rattle.standard.specs.declared.Head.TheVariants.{Fixed, Variable}
 use Rattle.standard.proofs.Bytes.{length-le}
 use Rattle.standard.proofs.Store.{sets-append}
 use Rattle.standard.proofs.Join.{length-fronts, length-join}
-use Rattle.encode.specs.Encoder.{container as empty, after, appendFixed, appendVariable}
+use Rattle.encode.specs.Encoder.{container as empty, after, append_fixed_lem, append_variable_lem}
 use Rattle.encode.specs.Finish.{finalize}
-use Rattle.encode.specs.Whole.{going, appendAll, closed, ending, encoded, Fitting}
+use Rattle.encode.specs.Whole.{going, append_all_lem, closed, ending, encoded, Fitting}
 use Rattle.encode.specs.declared.encoder.SszEncoder.{SszEncoder}
 use Rattle.encode.specs.declared.encoder.Appended.TheVariants.{Next}
 use Rattle.encode.specs.declared.encoder.Finalized.TheVariants.{Length}
@@ -25,16 +25,16 @@ use Rattle.encode.specs.declared.encoder.Finalized.TheVariants.{Length}
 -- One part, where there is room.
 module _ (x : SszEncoder) (s f v : List ℕ) where
   fixed-next : x.fixed_used + length s ≤ length f → x.variable_used ≤ length v
-      → appendFixed x s f v ≡ Next (after x (x.fixed_used + length s) x.variable_used)
-  unfolding appendFixed
+      → append_fixed_lem x s f v ≡ Next (after x (x.fixed_used + length s) x.variable_used)
+  unfolding append_fixed_lem
   fixed-next h k =
       let i : x.fixed_used ≤ length f = omega arith in
       rw (le-leb _ _ i, le-leb _ _ k, le-leb _ _ h)
 
-  variable-next : x.fixed_used + 4 ≤ length f → x.variable_used + length s ≤ length v → x.offset + x.variable_used ≤ 4294967295
-      → appendVariable x s f v ≡ Next (after x (x.fixed_used + 4) (x.variable_used + length s))
-  unfolding appendVariable
-  variable-next h k o =
+  variable_next : x.fixed_used + 4 ≤ length f → x.variable_used + length s ≤ length v → x.offset + x.variable_used ≤ 4294967295
+      → append_variable_lem x s f v ≡ Next (after x (x.fixed_used + 4) (x.variable_used + length s))
+  unfolding append_variable_lem
+  variable_next h k o =
       let i : x.fixed_used ≤ length f = omega arith in
       let j : x.variable_used ≤ length v = omega arith in
       rw (le-leb _ _ i, le-leb _ _ j, le-leb _ _ o, le-leb _ _ h, le-leb _ _ k)
@@ -48,13 +48,13 @@ record Ahead (xs : List Part) (x : SszEncoder) (f v : List ℕ) : Type 0 where
 -- The parts behind what is used: their fronts in the one buffer, their backs in the other.
 filled : List Part → SszEncoder → List ℕ → List ℕ → Type 0
 filled xs x f v =
-    appendAll xs x f v
+    append_all_lem xs x f v
     ≡ going (after x (x.fixed_used + fixed_lengths xs) (x.variable_used + length (backs xs)))
     (sets f x.fixed_used (fronts xs (x.offset + x.variable_used)))
     (sets v x.variable_used (backs xs))
 
 appends : (xs : List Part) (x : SszEncoder) (f v : List ℕ) → Ahead xs x f v → filled xs x f v
-unfolding filled appendAll fixed_lengths fronts backs
+unfolding filled append_all_lem fixed_lengths fronts backs
 appends [] x f v g = simp add-zero
 appends (piece (Fixed n) s ∷ xs) x f v g =
     let used = x.fixed_used in
@@ -70,7 +70,7 @@ appends (piece Variable s ∷ xs) x f v g =
     let held = x.variable_used in
     let l = simp length-append at g.back in
     let m = simp length-append at g.small in
-    let e = variable-next x s f v (omega (arith, g.front)) (omega arith) (omega arith) in
+    let e = variable_next x s f v (omega (arith, g.front)) (omega arith) (omega arith) in
     let r = appends xs (after x (used + 4) (held + length s)) (sets f used (le 4 (x.offset + held))) (sets v held s) (record {
       front = rw length-sets (omega (arith, g.front));
       back = rw length-sets (omega arith);
@@ -113,9 +113,9 @@ module _ (xs : List Part) (f v : List ℕ) (g : Fitting xs f v) where
   encoded-length = rw all-appended finalized
 
   -- and the fixed buffer has the join at its start, and is else kept.
-  pub encoded-buffer : ending (encoded xs f v) ≡ sets f 0 (join xs)
+  pub encoded_buffer : ending (encoded xs f v) ≡ sets f 0 (join xs)
   unfolding join last
-  encoded-buffer =
+  encoded_buffer =
       let n = fixed_lengths xs in
       let s = sets-append (fronts xs n) (backs xs) f 0 in
       rw (all-appended, finalized, backs-kept) (simp (length-fronts, zero-add) at s)
@@ -125,4 +125,4 @@ pub encodes : (t : ℕ) (ts : Tys) (vs : Vals ts) (f v : List ℕ) → Fitting (
     → (closed (encoded (parts ts vs) f v) ≡ Length (length (serialize (container t ts) vs))) ×
     (ending (encoded (parts ts vs) f v) ≡ sets f 0 (serialize (container t ts) vs))
 unfolding serialize
-encodes t ts vs f v g = (encoded-length (parts ts vs) f v g, encoded-buffer (parts ts vs) f v g)
+encodes t ts vs f v g = (encoded-length (parts ts vs) f v g, encoded_buffer (parts ts vs) f v g)

@@ -7,7 +7,7 @@ use lib.ListN.{take}
 use Rattle.standard.specs.Bytes.{le}
 use Prim.Native.Nat.{ℕ, ◌+◌}
 use Rattle.standard.specs.declared.Refusal.{Refusal}
-use Rattle.encode.specs.Encoder.{appendFixed, appendVariable, append, appended, frontOf, backOf}
+use Rattle.encode.specs.Encoder.{append_fixed_lem, append_variable_lem, append, appended, front_of, back_of}
 use Rattle.encode.specs.Finish.{finalize, finished}
 use Rattle.encode.specs.declared.encoder.SszEncoder.{SszEncoder}
 use Rattle.encode.specs.declared.encoder.Appended.{Appended}
@@ -19,28 +19,28 @@ kept : (a : Appended) (r : Refusal) (o : List ℕ) (at : ℕ) (s : List ℕ) →
 kept a r o at s e = ap (λ (b : Appended). appended b o at s) e
 
 module _ (x : SszEncoder) (s f v : List ℕ) (r : Refusal) where
-  pub append-fixed-refused : appendFixed x s f v ≡ Refused r → appended (appendFixed x s f v) f x.fixed_used s ≡ f
-  append-fixed-refused e = kept (appendFixed x s f v) r f x.fixed_used s e
+  pub append-fixed_refused : append_fixed_lem x s f v ≡ Refused r → appended (append_fixed_lem x s f v) f x.fixed_used s ≡ f
+  append-fixed_refused e = kept (append_fixed_lem x s f v) r f x.fixed_used s e
 
-  pub append-variable-refused :
-      appendVariable x s f v ≡ Refused r
-      → (appended (appendVariable x s f v) f x.fixed_used (le 4 (x.offset + x.variable_used)) ≡ f) ×
-      (appended (appendVariable x s f v) v x.variable_used s ≡ v)
-  append-variable-refused e = (
-    kept (appendVariable x s f v) r f x.fixed_used (le 4 (x.offset + x.variable_used)) e,
-    kept (appendVariable x s f v) r v x.variable_used s e,
+  pub append_variable_refused :
+      append_variable_lem x s f v ≡ Refused r
+      → (appended (append_variable_lem x s f v) f x.fixed_used (le 4 (x.offset + x.variable_used)) ≡ f) ×
+      (appended (append_variable_lem x s f v) v x.variable_used s ≡ v)
+  append_variable_refused e = (
+    kept (append_variable_lem x s f v) r f x.fixed_used (le 4 (x.offset + x.variable_used)) e,
+    kept (append_variable_lem x s f v) r v x.variable_used s e,
   )
 
   -- Of either kind
-  pub append-refused :
+  pub append_refused :
       (k : Bool) → append k x s f v ≡ Refused r
-      → (appended (append k x s f v) f x.fixed_used (frontOf k x s) ≡ f) × (appended (append k x s f v) v x.variable_used (backOf k s) ≡ v)
-  append-refused k e = (
-    kept (append k x s f v) r f x.fixed_used (frontOf k x s) e,
-    kept (append k x s f v) r v x.variable_used (backOf k s) e,
+      → (appended (append k x s f v) f x.fixed_used (front_of k x s) ≡ f) × (appended (append k x s f v) v x.variable_used (back_of k s) ≡ v)
+  append_refused k e = (
+    kept (append k x s f v) r f x.fixed_used (front_of k x s) e,
+    kept (append k x s f v) r v x.variable_used (back_of k s) e,
   )
 
-pub finalize-refused :
+pub finalize_refused :
     (x : SszEncoder) (f v : List ℕ) (r : Refusal) → finalize x f v ≡ Stopped r
     → finished (finalize x f v) f x.fixed_used (take x.variable_used v) ≡ f
-finalize-refused x f v r e = ap (λ (a : Finalized). finished a f x.fixed_used (take x.variable_used v)) e
+finalize_refused x f v r e = ap (λ (a : Finalized). finished a f x.fixed_used (take x.variable_used v)) e

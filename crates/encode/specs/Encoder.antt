@@ -1,7 +1,7 @@
 -- The encoder: document 01, module 5. Assumes nothing: these are definitions.
 use Rattle.std.specs.Prelude.{List, [], Bool, true, false, ℕ, ◌+◌, length, leb}
 use Rattle.std.proofs.lemmas.List.Edits.{sets}
-use Rattle.standard.specs.Choice.{pick, andAlso}
+use Rattle.standard.specs.Choice.{pick, and_also}
 use Rattle.standard.specs.Bytes.{le}
 use Rattle.standard.specs.declared.Refusal.TheVariants.{TooLarge, NoRoom, BadState}
 use Rattle.encode.specs.declared.encoder.SszEncoder.{SszEncoder}
@@ -18,11 +18,11 @@ after x n m = record { offset = x.offset; fixed_used = n; variable_used = m }
 
 -- "23 if a buffer has less than is used": else the answer that follows
 abbrev pub holds : SszEncoder → List ℕ → List ℕ → Bool
-holds x f v = andAlso (leb x.fixed_used (length f)) (leb x.variable_used (length v))
+holds x f v = and_also (leb x.fixed_used (length f)) (leb x.variable_used (length v))
 
 -- An item of fixed size: 22 (bytes used after it, room)
-unfoldable pub appendFixed : SszEncoder → List ℕ → List ℕ → List ℕ → Appended
-appendFixed x s f v =
+unfoldable pub append_fixed_lem : SszEncoder → List ℕ → List ℕ → List ℕ → Appended
+append_fixed_lem x s f v =
     pick (holds x f v)
     (pick (leb (x.fixed_used + length s) (length f))
     (Next (after x (x.fixed_used + length s) x.variable_used))
@@ -30,8 +30,8 @@ appendFixed x s f v =
     (Refused BadState)
 
 -- An item of variable size: "21 if the offset to write (fixed size plus variable bytes used) is 2^32 or more", then 22, "the fixed one first"
-unfoldable pub appendVariable : SszEncoder → List ℕ → List ℕ → List ℕ → Appended
-appendVariable x s f v =
+unfoldable pub append_variable_lem : SszEncoder → List ℕ → List ℕ → List ℕ → Appended
+append_variable_lem x s f v =
     pick (holds x f v)
     (pick (leb (x.offset + x.variable_used) 4294967295)
     (pick (leb (x.fixed_used + 4) (length f))
@@ -49,13 +49,13 @@ appended (Refused r) o at s = o
 
 -- Either kind: what is answered, and what goes into each buffer
 abbrev pub append : Bool → SszEncoder → List ℕ → List ℕ → List ℕ → Appended
-append true x s f v = appendFixed x s f v
-append false x s f v = appendVariable x s f v
+append true x s f v = append_fixed_lem x s f v
+append false x s f v = append_variable_lem x s f v
 
-abbrev pub frontOf : Bool → SszEncoder → List ℕ → List ℕ
-frontOf true x s = s
-frontOf false x s = le 4 (x.offset + x.variable_used)
+abbrev pub front_of : Bool → SszEncoder → List ℕ → List ℕ
+front_of true x s = s
+front_of false x s = le 4 (x.offset + x.variable_used)
 
-abbrev pub backOf : Bool → List ℕ → List ℕ
-backOf true s = []
-backOf false s = s
+abbrev pub back_of : Bool → List ℕ → List ℕ
+back_of true s = []
+back_of false s = s

@@ -7,8 +7,8 @@ use Rattle.standard.specs.declared.Refusal.TheVariants.{TooLarge}
 use Rattle.encode.specs.declared.Encoded.{Encoded}
 
 -- "An offset is four bytes, little-endian"; "`encode_length` above" 4,294,967,295 "is 21"
-abbrev pub encodeLength : ℕ → Encoded
-encodeLength n =
+abbrev pub encode_length_lem : ℕ → Encoded
+encode_length_lem n =
     pick (leb n 4294967295)
     (record { told = Fine; bytes = le 4 n })
     (record { told = Refused TooLarge; bytes = replicate 4 0 })

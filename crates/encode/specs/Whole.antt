@@ -4,7 +4,7 @@ use Rattle.standard.specs.Parts.{Part, piece, fixed_lengths, backs, join}
 use Rattle.standard.specs.declared.Head.{Head}
 use Rattle.standard.specs.declared.Head.TheVariants.{Fixed, Variable}
 use Rattle.standard.specs.declared.Refusal.{Refusal}
-use Rattle.encode.specs.Encoder.{container, append, appended, frontOf, backOf}
+use Rattle.encode.specs.Encoder.{container, append, appended, front_of, back_of}
 use Rattle.encode.specs.Finish.{finalize, finished}
 use Rattle.encode.specs.declared.encoder.SszEncoder.{SszEncoder}
 use Rattle.encode.specs.declared.encoder.Appended.{Appended}
@@ -17,22 +17,22 @@ pub data Held : Type 0 where
   going : SszEncoder → List ℕ → List ℕ → Held
   stopped : Refusal → List ℕ → List ℕ → Held
 
-abbrev pub isFixed : Head → Bool
-isFixed (Fixed n) = true
-isFixed Variable = false
+abbrev pub is_fixed_lem : Head → Bool
+is_fixed_lem (Fixed n) = true
+is_fixed_lem Variable = false
 
 abbrev pub onward : Appended → List ℕ → List ℕ → (SszEncoder → Held) → Held
 onward (Next y) f v k = k y
 onward (Refused r) f v k = stopped r f v
 
 -- The parts appended in order
-unfoldable pub appendAll : List Part → SszEncoder → List ℕ → List ℕ → Held
-appendAll [] x f v = going x f v
-appendAll (piece h s ∷ xs) x f v =
-    let r = append (isFixed h) x s f v in
-    let f' = appended r f x.fixed_used (frontOf (isFixed h) x s) in
-    let v' = appended r v x.variable_used (backOf (isFixed h) s) in
-    onward r f' v' (λ y. appendAll xs y f' v')
+unfoldable pub append_all_lem : List Part → SszEncoder → List ℕ → List ℕ → Held
+append_all_lem [] x f v = going x f v
+append_all_lem (piece h s ∷ xs) x f v =
+    let r = append (is_fixed_lem h) x s f v in
+    let f' = appended r f x.fixed_used (front_of (is_fixed_lem h) x s) in
+    let v' = appended r v x.variable_used (back_of (is_fixed_lem h) s) in
+    onward r f' v' (λ y. append_all_lem xs y f' v')
 
 -- What `finalize` then answers, and the fixed buffer after it
 abbrev pub closed : Held → Finalized
@@ -45,7 +45,7 @@ ending (stopped r f v) = f
 
 -- The whole: a container whose fixed portion is as long as the parts' own
 abbrev pub encoded : List Part → List ℕ → List ℕ → Held
-encoded xs f v = appendAll xs (container (fixed_lengths xs)) f v
+encoded xs f v = append_all_lem xs (container (fixed_lengths xs)) f v
 
 -- There is room for the parts in both buffers, and each offset fits.
 pub record Fitting (xs : List Part) (f v : List ℕ) : Type 0 where

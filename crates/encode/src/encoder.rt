@@ -3,7 +3,7 @@
 ghost use Rattle.std.specs.Prelude.{◌≡◌, ◌+◌, ◌≤◌, length, take, leb};
 ghost use Rattle.std.proofs.lemmas.List.Edits.{sets};
 ghost use Rattle.standard.specs.Bytes.{le};
-ghost use Rattle.encode.specs.Encoder.{container, appendFixed, appendVariable, append, appended, frontOf, backOf};
+ghost use Rattle.encode.specs.Encoder.{container, append_fixed_lem, append_variable_lem, append, appended, front_of, back_of};
 ghost use Rattle.encode.specs.Finish.{finalize, finished};
 
 use standard::Refusal;
@@ -70,7 +70,7 @@ impl SszEncoder {
 
     // Appends an item of fixed size: its bytes go into the fixed buffer.
     pub fn append_fixed(self, item: &[u8], fixed: &mut [u8], variable: &[u8]) -> Appended
-        ensures answer { result ≡ appendFixed self item.now fixed.old variable.now }
+        ensures answer { result ≡ append_fixed_lem self item.now fixed.old variable.now }
         ensures front { fixed.new ≡ appended result fixed.old self.fixed_used item.now }
     {
         let used = self.fixed_used;
@@ -95,7 +95,7 @@ impl SszEncoder {
 
     // Appends an item of variable size: its offset goes into the fixed buffer, its bytes into the variable one.
     pub fn append_variable(self, item: &[u8], fixed: &mut [u8], variable: &mut [u8]) -> Appended
-        ensures answer { result ≡ appendVariable self item.now fixed.old variable.old }
+        ensures answer { result ≡ append_variable_lem self item.now fixed.old variable.old }
         ensures front { fixed.new ≡ appended result fixed.old self.fixed_used (le 4 (self.offset + self.variable_used)) }
         ensures back { variable.new ≡ appended result variable.old self.variable_used item.now }
     {
@@ -137,8 +137,8 @@ impl SszEncoder {
         variable: &mut [u8],
     ) -> Appended
         ensures answer { result ≡ append is_ssz_fixed_len self item.now fixed.old variable.old }
-        ensures front { fixed.new ≡ appended result fixed.old self.fixed_used (frontOf is_ssz_fixed_len self item.now) }
-        ensures back { variable.new ≡ appended result variable.old self.variable_used (backOf is_ssz_fixed_len item.now) }
+        ensures front { fixed.new ≡ appended result fixed.old self.fixed_used (front_of is_ssz_fixed_len self item.now) }
+        ensures back { variable.new ≡ appended result variable.old self.variable_used (back_of is_ssz_fixed_len item.now) }
     {
         if is_ssz_fixed_len {
             self.append_fixed(item, fixed, variable)

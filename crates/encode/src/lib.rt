@@ -2,7 +2,7 @@
 pub mod encoder;
 
 ghost use Rattle.std.specs.Prelude.{◌≡◌};
-ghost use Rattle.encode.specs.Lengths.{encodeLength};
+ghost use Rattle.encode.specs.Lengths.{encode_length_lem};
 
 use standard::{Refusal, Told};
 
@@ -18,7 +18,7 @@ pub struct Encoded {
 }
 
 pub fn encode_length(len: usize) -> Encoded
-    ensures { result ≡ encodeLength len }
+    ensures { result ≡ encode_length_lem len }
 {
     if len <= MAX_LENGTH_VALUE {
         Encoded {

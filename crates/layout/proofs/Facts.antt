@@ -12,11 +12,11 @@ use lib.Seq.{get_or_at, set_at}
 use lib.Dec.{eqb, ltb}
 use Rattle.standard.specs.Choice.{pick}
 use Rattle.standard.specs.Bytes.{word_at}
-use Rattle.standard.specs.Types.{Ty, Tys, Opts, boolean, container, union, list, vector, end, field, over, bare, body, head, headAll, heads, joined, width, portion, LegalTy}
+use Rattle.standard.specs.Types.{Ty, Tys, Opts, boolean, container, union, list, vector, end, field, over, bare, body, head, head_all, heads, joined, width, portion, LegalTy}
 use Rattle.standard.specs.declared.Head.{Head}
 use Rattle.standard.specs.declared.Head.TheVariants.{Fixed, Variable}
 use Rattle.standard.proofs.Laws.{fixed-some}
-use Rattle.layout.specs.Tree.{node_of, leafOf, fromNode, fields, options, trees, tree_of, len_of, head_of, lengths, filled}
+use Rattle.layout.specs.Tree.{node_of, leaf_of, from_node, fields, options, trees, tree_of, len_of, head_of, lengths, filled}
 use Rattle.layout.specs.Table.{count}
 use Rattle.layout.specs.Legal.{Lower, LegalNode, Legal}
 use Rattle.layout.specs.declared.Node.{Node}
@@ -40,8 +40,8 @@ unfolding trees tree_of
 trees-get l zero t d h = absurd (omega arith)
 trees-get l (suc n) t d h =
     below_suc (λ (u : ℕ). get_or (trees l (suc n)) u d ≡ tree_of l u) n t
-    (λ u k. get_or-append (trees l n) (fromNode l (trees l n) n (node_of l n) ∷ []) d u (omega (arith, length-trees l n)) ∙ trees-get l n u d k)
-    (get_or_at (trees l n) (fromNode l (trees l n) n (node_of l n)) [] d n (length-trees l n))
+    (λ u k. get_or-append (trees l n) (from_node l (trees l n) n (node_of l n) ∷ []) d u (omega (arith, length-trees l n)) ∙ trees-get l n u d k)
+    (get_or_at (trees l n) (from_node l (trees l n) n (node_of l n)) [] d n (length-trees l n))
     h
 
 -- Their lengths, and the array that they stand in.
@@ -77,13 +77,13 @@ filled-set l n h =
     rw e (filled_more (lengths l n) [] n (64 - suc n) (len_of (head (tree_of l n))) (length-lengths l n))
 
 -- A type's head, from its length.
-head-of-len : (h : Head) → ((n : ℕ) → h ≡ Fixed n → 1 ≤ n) → head_of (len_of h) ≡ h
-head-of-len (Fixed zero) f = absurd (omega (arith, f 0 refl))
-head-of-len (Fixed (suc n)) f = rw (ne_eqb (suc n) 0 (λ (q : suc n ≡ 0). omega arith))
-head-of-len Variable f = refl
+head-of_len : (h : Head) → ((n : ℕ) → h ≡ Fixed n → 1 ≤ n) → head_of (len_of h) ≡ h
+head-of_len (Fixed zero) f = absurd (omega (arith, f 0 refl))
+head-of_len (Fixed (suc n)) f = rw (ne_eqb (suc n) 0 (λ (q : suc n ≡ 0). omega arith))
+head-of_len Variable f = refl
 
-pub head-len : (t : Ty) → LegalTy t → head_of (len_of (head t)) ≡ head t
-head-len t g = head-of-len (head t) (λ n e. fixed-some t n g e)
+pub head_len : (t : Ty) → LegalTy t → head_of (len_of (head t)) ≡ head t
+head_len t g = head-of_len (head t) (λ n e. fixed-some t n g e)
 
 -- What holds of leaves, of containers, of unions, of lists and of vectors holds of every kind.
 pub each-kind : (P : Type 0) (k : ℕ) → k ≤ 9 → (k < 6 → P) → (k ≡ 6 → P) → (k ≡ 7 → P) → (k ≡ 8 → P) → (k ≡ 9 → P) → P
@@ -103,17 +103,17 @@ each-kind P k h leaf six seven eight nine = go (ltb k 6) (eqb k 6) (eqb k 7) (eq
 
 -- What the node says of the tree.
 module _ (l : List ℕ) (t : ℕ) (r : Node) (e : r ≡ node_of l t) where
-  pub as-container : r.kind ≡ 6 → tree_of l t ≡ container t (fields l (trees l t) (r.at + 2) r.second)
-  unfolding tree_of fromNode
-  as-container h = rw (← e, h)
+  pub as_container : r.kind ≡ 6 → tree_of l t ≡ container t (fields l (trees l t) (r.at + 2) r.second)
+  unfolding tree_of from_node
+  as_container h = rw (← e, h)
 
-  pub as-union : r.kind ≡ 7 → tree_of l t ≡ union t (options l (trees l t) (r.at + 2) 0 r.second)
-  unfolding tree_of fromNode
-  as-union h = rw (← e, h)
+  pub as_union : r.kind ≡ 7 → tree_of l t ≡ union t (options l (trees l t) (r.at + 2) 0 r.second)
+  unfolding tree_of from_node
+  as_union h = rw (← e, h)
 
-  pub as-leaf : r.kind < 6 → tree_of l t ≡ leafOf t r
-  unfolding tree_of fromNode
-  as-leaf h =
+  pub as_leaf : r.kind < 6 → tree_of l t ≡ leaf_of t r
+  unfolding tree_of from_node
+  as_leaf h =
       rw (
         ← e,
         ne_eqb r.kind 6 (λ (q : r.kind ≡ 6). omega arith),
@@ -124,27 +124,27 @@ module _ (l : List ℕ) (t : ℕ) (r : Node) (e : r ≡ node_of l t) where
 
   -- a list and a vector, over the lower types, and over the type of their elements
   pub list_over : r.kind ≡ 8 → tree_of l t ≡ list t (get_or (trees l t) r.second (boolean 0)) (word_at l (r.at + 2))
-  unfolding tree_of fromNode
+  unfolding tree_of from_node
   list_over h = rw (← e, h)
 
-  pub as-list : r.kind ≡ 8 → r.second < t → tree_of l t ≡ list t (tree_of l r.second) (word_at l (r.at + 2))
-  as-list h k = list_over h ∙ ap (λ (x : Ty). list t x (word_at l (r.at + 2))) (trees-get l t r.second (boolean 0) k)
+  pub as_list_lem : r.kind ≡ 8 → r.second < t → tree_of l t ≡ list t (tree_of l r.second) (word_at l (r.at + 2))
+  as_list_lem h k = list_over h ∙ ap (λ (x : Ty). list t x (word_at l (r.at + 2))) (trees-get l t r.second (boolean 0) k)
 
   pub vector-over : r.kind ≡ 9 → tree_of l t ≡ vector t (get_or (trees l t) r.second (boolean 0)) (word_at l (r.at + 2))
-  unfolding tree_of fromNode
+  unfolding tree_of from_node
   vector-over h = rw (← e, h)
 
-  pub as-vector : r.kind ≡ 9 → r.second < t → tree_of l t ≡ vector t (tree_of l r.second) (word_at l (r.at + 2))
-  as-vector h k = vector-over h ∙ ap (λ (x : Ty). vector t x (word_at l (r.at + 2))) (trees-get l t r.second (boolean 0) k)
+  pub as_vector : r.kind ≡ 9 → r.second < t → tree_of l t ≡ vector t (tree_of l r.second) (word_at l (r.at + 2))
+  as_vector h k = vector-over h ∙ ap (λ (x : Ty). vector t x (word_at l (r.at + 2))) (trees-get l t r.second (boolean 0) k)
 
-  pub legal-node : Legal l (t + 1) → LegalNode l t r
+  pub legal_node : Legal l (t + 1) → LegalNode l t r
   unfolding Legal
-  legal-node g = rw e (g t (omega arith))
+  legal_node g = rw e (g t (omega arith))
 
 -- The start word and the kind word of a legal type are there.
 pub legal-words : (l : List ℕ) (t : ℕ) → Legal l (t + 1) → (1 + t < count l) × (word_at l (1 + t) < count l)
 unfolding node_of
-legal-words l t g = let n = legal-node l t (node_of l t) refl g in (n.listed, n.begun)
+legal-words l t g = let n = legal_node l t (node_of l t) refl g in (n.listed, n.begun)
 
 pub legal-below : (l : List ℕ) (t f : ℕ) → f ≤ t → Legal l t → Legal l f
 unfolding Legal
@@ -154,17 +154,17 @@ pub legal-more : (l : List ℕ) (t : ℕ) → Legal l t → LegalNode l t (node_
 unfolding Legal
 legal-more l t g h u k = below_suc (λ (v : ℕ). LegalNode l v (node_of l v)) t u g h (omega arith)
 
-fields-cons : (l : List ℕ) (lower : List Ty) (a left : ℕ) → 0 < left →
+fields_cons : (l : List ℕ) (lower : List Ty) (a left : ℕ) → 0 < left →
     fields l lower a left ≡ field (get_or lower (word_at l a) (boolean 0)) (fields l lower (a + 1) (left - 1))
 unfolding fields
-fields-cons l lower a zero h = absurd (omega arith)
-fields-cons l lower a (suc n) h = let e : suc n - 1 ≡ n = omega arith in rw e
+fields_cons l lower a zero h = absurd (omega arith)
+fields_cons l lower a (suc n) h = let e : suc n - 1 ≡ n = omega arith in rw e
 
 -- The first of some fields, and the rest.
 module _ (l : List ℕ) (t a left : ℕ) (h : word_at l a < t) (p : 0 < left) where
   pub fields_at : fields l (trees l t) a left ≡ field (tree_of l (word_at l a)) (fields l (trees l t) (a + 1) (left - 1))
   fields_at =
-      fields-cons l (trees l t) a left p
+      fields_cons l (trees l t) a left p
       ∙ ap (λ (x : Ty). field x (fields l (trees l t) (a + 1) (left - 1))) (trees-get l t (word_at l a) (boolean 0) h)
 
   pub heads-at : (f : ℕ) → f ≡ word_at l a → heads (fields l (trees l t) a left) ≡ head (tree_of l f) ∷ heads (fields l (trees l t) (a + 1) (left - 1))

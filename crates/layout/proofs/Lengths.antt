@@ -10,34 +10,34 @@ use native.Mathlib.Omega.{arith}
 use borrow.Author.Tests.{lt-ltb, le-ltb, lt-leb, le-leb, ne_eqb}
 use lib.ListN.{get_or, set}
 use lib.Dec.{eqb, ltb, leb}
-use Rattle.layout.specs.Table.{count, mayName, refs, counted, many, containerEnd, vectorEnd}
+use Rattle.layout.specs.Table.{count, may_name_lem, refs, counted, many, container_end_lem, vector_end_lem}
 use Rattle.standard.specs.Choice.{pick}
 use Rattle.standard.specs.Bytes.{word_at}
-use Rattle.standard.specs.Types.{Ty, Tys, boolean, end, field, head, headAll, heads, joined, width, portion, LegalTy}
+use Rattle.standard.specs.Types.{Ty, Tys, boolean, end, field, head, head_all, heads, joined, width, portion, LegalTy}
 use Rattle.standard.specs.declared.Head.{Head}
 use Rattle.standard.specs.declared.Head.TheVariants.{Fixed, Variable}
 use Rattle.standard.proofs.Laws.{fixed-some}
-use Rattle.layout.specs.Tree.{node_of, leafOf, fields, trees, tree_of, len_of, head_of, filled}
+use Rattle.layout.specs.Tree.{node_of, leaf_of, fields, trees, tree_of, len_of, head_of, filled}
 use Rattle.layout.specs.Legal.{LegalNode, Legal}
-use Rattle.layout.specs.Steps.{Known, leafLen, sizesOf, Lengthened, Ended}
+use Rattle.layout.specs.Steps.{Known, leaf_len_lem, sizes_of, Lengthened, Ended}
 use Rattle.layout.specs.declared.Node.{Node}
 use Rattle.layout.specs.declared.Sizes.{Sizes}
 use Rattle.layout.specs.declared.Checked.{Checked}
 use Rattle.layout.specs.declared.Checked.TheVariants.{Bad, Upto}
-use Rattle.layout.proofs.Facts.{trees-get, fields_at, fields-none, filled-set, head-len, as-container, legal-node}
-use Rattle.layout.proofs.Tables.{Adding, adding-next, adding-end, bad-upto, may-lower, refs-wrong, refs-lower, refs-cut}
-use Rattle.layout.proofs.Tables.{Counted, counted-says, element-lower, known-len, known-head, known_small}
-use Rattle.layout.proofs.Trees.{legal-tree, len-small, leaf-length, vector-len, all-portion}
+use Rattle.layout.proofs.Facts.{trees-get, fields_at, fields-none, filled-set, head_len, as_container, legal_node}
+use Rattle.layout.proofs.Tables.{Adding, adding-next, adding-end, bad-upto, may_lower, refs-wrong, refs-lower, refs-cut}
+use Rattle.layout.proofs.Tables.{Counted, counted-says, element-lower, known_len, known-head, known_small}
+use Rattle.layout.proofs.Trees.{legal_tree, len_small, leaf-length, vector_len, all-portion}
 
 width_small : (m : ℕ) → m < 2 ^ 32 → width (head_of m) < 2 ^ 32
 unfolding width
 width_small zero h = omega arith
 width_small (suc m) h = rw (ne_eqb (suc m) 0 (λ (z : suc m ≡ 0). omega arith)) h
 
-len-width : (m : ℕ) → m ≤ width (head_of m)
+len_width : (m : ℕ) → m ≤ width (head_of m)
 unfolding width
-len-width zero = omega arith
-len-width (suc m) = rw (ne_eqb (suc m) 0 (λ (z : suc m ≡ 0). omega arith)) (omega arith)
+len_width zero = omega arith
+len_width (suc m) = rw (ne_eqb (suc m) 0 (λ (z : suc m ≡ 0). omega arith)) (omega arith)
 
 joined-zero : (h : Head) → joined (Fixed 0) h ≡ h
 unfolding joined
@@ -50,126 +50,126 @@ joined-add n k (Fixed m) = ap Fixed (omega arith)
 joined-add n k Variable = refl
 
 -- The head of the fields so far, each of them fixed or not, with that of the rest
-abbrev withRest : Bool → ℕ → Head → Head
-withRest fixed sum h = pick fixed (joined (Fixed sum) h) Variable
+abbrev with_rest : Bool → ℕ → Head → Head
+with_rest fixed sum h = pick fixed (joined (Fixed sum) h) Variable
 
-with-next : (fixed : Bool) (sum k : ℕ) (h : Head) → withRest fixed sum (joined (Fixed k) h) ≡ withRest fixed (sum + k) h
-with-next true sum k h = joined-add sum k h
-with-next false sum k h = refl
+with_next : (fixed : Bool) (sum k : ℕ) (h : Head) → with_rest fixed sum (joined (Fixed k) h) ≡ with_rest fixed (sum + k) h
+with_next true sum k h = joined-add sum k h
+with_next false sum k h = refl
 
-with-variable : (fixed : Bool) (sum : ℕ) (h : Head) → withRest fixed sum (joined Variable h) ≡ Variable
+with_variable : (fixed : Bool) (sum : ℕ) (h : Head) → with_rest fixed sum (joined Variable h) ≡ Variable
 unfolding joined
-with-variable true sum h = refl
-with-variable false sum h = refl
+with_variable true sum h = refl
+with_variable false sum h = refl
 
-with-end : (fixed : Bool) (sum : ℕ) → len_of (withRest fixed sum (Fixed 0)) ≡ pick fixed sum 0
+with_end : (fixed : Bool) (sum : ℕ) → len_of (with_rest fixed sum (Fixed 0)) ≡ pick fixed sum 0
 unfolding joined
-with-end true sum = omega arith
-with-end false sum = refl
+with_end true sum = omega arith
+with_end false sum = refl
 
 pub record Taking (l : List ℕ) (t known a₀ n : ℕ) (lens : List ℕ) (a left sum : ℕ) (fixed : Bool) : Type 0 where
   pub found : lens ≡ filled l known
   pub adding : Adding l t a₀ n a left sum
-  pub same : withRest fixed sum (headAll (fields l (trees l t) a left)) ≡ headAll (fields l (trees l t) a₀ n)
+  pub same : with_rest fixed sum (head_all (fields l (trees l t) a left)) ≡ head_all (fields l (trees l t) a₀ n)
 
-pub taking-start : (l : List ℕ) (t known a₀ n : ℕ) (lens : List ℕ) → lens ≡ filled l known → Taking l t known a₀ n lens a₀ n 0 true
-taking-start l t known a₀ n lens f =
+pub taking_start : (l : List ℕ) (t known a₀ n : ℕ) (lens : List ℕ) → lens ≡ filled l known → Taking l t known a₀ n lens a₀ n 0 true
+taking_start l t known a₀ n lens f =
     record { found = f; adding = record { tests = refl; some = omega arith; place = refl; bound = omega arith; same = omega arith }; same = joined-zero _ }
 
 module _ (l : List ℕ) (t known a₀ n : ℕ) (lens : List ℕ) (a left sum : ℕ) (fixed : Bool) (f k : ℕ) (s : Taking l t known a₀ n lens a left sum fixed)
     (p : 0 < left) (e : f ≡ word_at l a) (i : t ≤ known) where
   -- a word that names no lower type
-  module _ (j : a < count l) (ok : Bool) (m : ok ≡ mayName f t false) where
-    pub taking-wrong : ok ≡ false → Bad a ≡ refs l t false a₀ n
-    taking-wrong u = refs-wrong l t false a left _ p s.adding.tests f ok j e m u
+  module _ (j : a < count l) (ok : Bool) (m : ok ≡ may_name_lem f t false) where
+    pub taking_wrong : ok ≡ false → Bad a ≡ refs l t false a₀ n
+    taking_wrong u = refs-wrong l t false a left _ p s.adding.tests f ok j e m u
 
     module _ (u : ok ≡ true) where
-      pub taking-lower : f < t
-      taking-lower = may-lower f t false (sym m ∙ u) refl
+      pub taking_lower : f < t
+      taking_lower = may_lower f t false (sym m ∙ u) refl
 
-      pub taking-below : f < known
-      taking-below = omega (arith, taking-lower)
+      pub taking_below : f < known
+      taking_below = omega (arith, taking_lower)
 
       -- what the call for the field leaves in the array
-      pub taking-kept : (lens' : List ℕ) → lens' ≡ filled l (pick (ltb f known) known (known + 1)) → lens' ≡ filled l known
-      taking-kept lens' q = rw (lt-ltb f known taking-below) at q
+      pub taking_kept : (lens' : List ℕ) → lens' ≡ filled l (pick (ltb f known) known (known + 1)) → lens' ≡ filled l known
+      taking_kept lens' q = rw (lt-ltb f known taking_below) at q
 
       module _ (g : Legal l known) (h : k ≡ len_of (head (tree_of l f))) where
-        taking-legal : LegalTy (tree_of l f)
-        taking-legal = legal-tree l known f g taking-below
+        taking_legal : LegalTy (tree_of l f)
+        taking_legal = legal_tree l known f g taking_below
 
-        taking-head : head (tree_of l f) ≡ head_of k
-        taking-head = rw h (sym (head-len (tree_of l f) taking-legal))
+        taking_head : head (tree_of l f) ≡ head_of k
+        taking_head = rw h (sym (head_len (tree_of l f) taking_legal))
 
-        taking-small : k < 2 ^ 32
+        taking_small : k < 2 ^ 32
         unfolding Legal
-        taking-small = rw h (len-small l f (g f taking-below))
+        taking_small = rw h (len_small l f (g f taking_below))
 
-        taking-first : (x : Head) → head (tree_of l f) ≡ x → withRest fixed sum (joined x (headAll (fields l (trees l t) (a + 1) (left - 1)))) ≡
-            headAll (fields l (trees l t) a₀ n)
+        taking_first : (x : Head) → head (tree_of l f) ≡ x → with_rest fixed sum (joined x (head_all (fields l (trees l t) (a + 1) (left - 1)))) ≡
+            head_all (fields l (trees l t) a₀ n)
         unfolding head
-        taking-first x q = rw (← q, e) (rw (fields_at l t a left (rw (← e) taking-lower) p) at s.same)
+        taking_first x q = rw (← q, e) (rw (fields_at l t a left (rw (← e) taking_lower) p) at s.same)
 
         module _ (w : ℕ) (v : w ≡ width (head_of k)) where
-          pub taking-width : w < 2 ^ 32
-          taking-width = rw v (width_small k taking-small)
+          pub taking_width : w < 2 ^ 32
+          taking_width = rw v (width_small k taking_small)
 
-          taking-adding : Adding l t a₀ n (a + 1) (left - 1) (sum + w)
-          taking-adding = adding-next l t a₀ n a left sum f s.adding p e j taking-lower w (rw taking-head v) taking-width
+          taking_adding : Adding l t a₀ n (a + 1) (left - 1) (sum + w)
+          taking_adding = adding-next l t a₀ n a left sum f s.adding p e j taking_lower w (rw taking_head v) taking_width
 
-          pub taking-fixed : (lens' : List ℕ) → lens' ≡ filled l (pick (ltb f known) known (known + 1)) → (k ≡ 0 → ⊥) →
+          pub taking_fixed : (lens' : List ℕ) → lens' ≡ filled l (pick (ltb f known) known (known + 1)) → (k ≡ 0 → ⊥) →
               Taking l t known a₀ n lens' (a + 1) (left - 1) (sum + w) fixed
           unfolding width
-          taking-fixed lens' q z =
+          taking_fixed lens' q z =
               let y : w ≡ k = rw (ne_eqb k 0 z) at v in
               record {
-                found = taking-kept lens' q;
-                adding = taking-adding;
+                found = taking_kept lens' q;
+                adding = taking_adding;
                 same =
-                    rw y (sym (with-next fixed sum k _) ∙ taking-first (Fixed k) (rw (ne_eqb k 0 z) at taking-head));
+                    rw y (sym (with_next fixed sum k _) ∙ taking_first (Fixed k) (rw (ne_eqb k 0 z) at taking_head));
               }
 
-          pub taking-variable : (lens' : List ℕ) → lens' ≡ filled l (pick (ltb f known) known (known + 1)) → k ≡ 0 →
+          pub taking_variable : (lens' : List ℕ) → lens' ≡ filled l (pick (ltb f known) known (known + 1)) → k ≡ 0 →
               Taking l t known a₀ n lens' (a + 1) (left - 1) (sum + w) false
-          taking-variable lens' q z =
-              record { found = taking-kept lens' q; adding = taking-adding; same = sym (with-variable fixed sum _) ∙ taking-first Variable (rw z at taking-head) }
+          taking_variable lens' q z =
+              record { found = taking_kept lens' q; adding = taking_adding; same = sym (with_variable fixed sum _) ∙ taking_first Variable (rw z at taking_head) }
 
-pub taking-end : (l : List ℕ) (t known a₀ n : ℕ) (lens : List ℕ) (a left sum : ℕ) (fixed : Bool) → Taking l t known a₀ n lens a left sum fixed →
-    left ≤ 0 → record { end = Upto a; portion = sum; length = pick fixed sum 0 } ≡ sizesOf (refs l t false a₀ n) (fields l (trees l t) a₀ n)
-unfolding head sizesOf
-taking-end l t known a₀ n lens a left sum fixed s h =
+pub taking_end : (l : List ℕ) (t known a₀ n : ℕ) (lens : List ℕ) (a left sum : ℕ) (fixed : Bool) → Taking l t known a₀ n lens a left sum fixed →
+    left ≤ 0 → record { end = Upto a; portion = sum; length = pick fixed sum 0 } ≡ sizes_of (refs l t false a₀ n) (fields l (trees l t) a₀ n)
+unfolding head sizes_of
+taking_end l t known a₀ n lens a left sum fixed s h =
     let q = rw (fields-none l (trees l t) a left h) at s.same in
-    let y : pick fixed sum 0 ≡ len_of (headAll (fields l (trees l t) a₀ n)) = sym (with-end fixed sum) ∙ ap len_of q in
+    let y : pick fixed sum 0 ≡ len_of (head_all (fields l (trees l t) a₀ n)) = sym (with_end fixed sum) ∙ ap len_of q in
     let d = adding-end l t a₀ n a left sum s.adding h in
     rw (← d.0, ← d.1, y)
 
-pub no-sizes : (x : Checked) (w : ℕ) (ts : Tys) → Bad w ≡ x → record { end = Bad w; portion = 0; length = 0 } ≡ sizesOf x ts
-unfolding sizesOf
+pub no-sizes : (x : Checked) (w : ℕ) (ts : Tys) → Bad w ≡ x → record { end = Bad w; portion = 0; length = 0 } ≡ sizes_of x ts
+unfolding sizes_of
 no-sizes x w ts h = rw (← h)
 
 -- Of fields whose words are accepted, all sizes are those of the fields.
-pub sizes-end : (x : Checked) (ts : Tys) (s : Sizes) → s ≡ sizesOf x ts → s.end ≡ x
-unfolding sizesOf
+pub sizes-end : (x : Checked) (ts : Tys) (s : Sizes) → s ≡ sizes_of x ts → s.end ≡ x
+unfolding sizes_of
 sizes-end (Bad w) ts s e = ap (λ (y : Sizes). y.end) e
 sizes-end (Upto i) ts s e = ap (λ (y : Sizes). y.end) e
 
-module _ (x : Checked) (ts : Tys) (s : Sizes) (i : ℕ) (e : s ≡ sizesOf x ts) (u : x ≡ Upto i) where
-  sizes-known : s ≡ record { end = Upto i; portion = portion (heads ts); length = len_of (headAll ts) }
-  unfolding sizesOf
+module _ (x : Checked) (ts : Tys) (s : Sizes) (i : ℕ) (e : s ≡ sizes_of x ts) (u : x ≡ Upto i) where
+  sizes-known : s ≡ record { end = Upto i; portion = portion (heads ts); length = len_of (head_all ts) }
+  unfolding sizes_of
   sizes-known = rw u at e
 
   pub sizes-portion : s.portion ≡ portion (heads ts)
   sizes-portion = ap (λ (y : Sizes). y.portion) sizes-known
 
-  pub sizes-length : s.length ≡ len_of (headAll ts)
+  pub sizes-length : s.length ≡ len_of (head_all ts)
   sizes-length = ap (λ (y : Sizes). y.length) sizes-known
 
 -- The length of a container is that of its fields.
-pub sizes-len : (l : List ℕ) (t : ℕ) (r : Node) (s : Sizes) (i : ℕ) → r ≡ node_of l t → r.kind ≡ 6 →
-    s ≡ sizesOf (refs l t false (r.at + 2) r.second) (fields l (trees l t) (r.at + 2) r.second) →
+pub sizes_len : (l : List ℕ) (t : ℕ) (r : Node) (s : Sizes) (i : ℕ) → r ≡ node_of l t → r.kind ≡ 6 →
+    s ≡ sizes_of (refs l t false (r.at + 2) r.second) (fields l (trees l t) (r.at + 2) r.second) →
     refs l t false (r.at + 2) r.second ≡ Upto i → s.length ≡ len_of (head (tree_of l t))
 unfolding head
-sizes-len l t r s i e h q u = rw (as-container l t r e h) (sizes-length _ _ s i q u)
+sizes_len l t r s i e h q u = rw (as_container l t r e h) (sizes-length _ _ s i q u)
 
 -- Of a legal container the words are accepted.
 pub legal-refs : (l : List ℕ) (t : ℕ) (r : Node) → LegalNode l t r → r.kind ≡ 6 → refs l t false (r.at + 2) r.second ≡ Upto (r.at + 2 + r.second)
@@ -188,32 +188,32 @@ lengthened l known t r lens f i j b h =
 pub found-set : (l : List ℕ) (t v : ℕ) (lens : List ℕ) → lens ≡ filled l t → t < 64 → v ≡ len_of (head (tree_of l t)) → set lens t v ≡ filled l (t + 1)
 found-set l t v lens f b h = rw (h, f, add-one) (filled-set l t b)
 
-pub sizes-small : (x : Checked) (ts : Tys) (s : Sizes) (i : ℕ) → s ≡ sizesOf x ts → x ≡ Upto i → s.portion ≤ 4294967295 → s.length < 2 ^ 32
+pub sizes-small : (x : Checked) (ts : Tys) (s : Sizes) (i : ℕ) → s ≡ sizes_of x ts → x ≡ Upto i → s.portion ≤ 4294967295 → s.length < 2 ^ 32
 sizes-small x ts s i e u h = omega (arith, sizes-portion x ts s i e u, sizes-length x ts s i e u, all-portion ts)
 
 -- The type t, whose body starts at the word at.
 module _ (l : List ℕ) (t at : ℕ) (w : at ≡ word_at l (1 + t)) where
-  node-here : (k m : ℕ) → k ≡ word_at l at → m ≡ word_at l (at + 1) → record { kind = k; at = at; second = m } ≡ node_of l t
+  node_here : (k m : ℕ) → k ≡ word_at l at → m ≡ word_at l (at + 1) → record { kind = k; at = at; second = m } ≡ node_of l t
   unfolding node_of
-  node-here k m p q = rw (p, q, w)
+  node_here k m p q = rw (p, q, w)
 
-  pub container-len : (n : ℕ) (s : Sizes) (i : ℕ) → word_at l at ≡ 6 → n ≡ word_at l (at + 1) →
-      s ≡ sizesOf (refs l t false (at + 2) n) (fields l (trees l t) (at + 2) n) → refs l t false (at + 2) n ≡ Upto i →
+  pub container_len : (n : ℕ) (s : Sizes) (i : ℕ) → word_at l at ≡ 6 → n ≡ word_at l (at + 1) →
+      s ≡ sizes_of (refs l t false (at + 2) n) (fields l (trees l t) (at + 2) n) → refs l t false (at + 2) n ≡ Upto i →
       s.length ≡ len_of (head (tree_of l t))
-  container-len n s i k m q u = sizes-len l t (record { kind = word_at l at; at = at; second = n }) s i (node-here _ n refl m) k q u
+  container_len n s i k m q u = sizes_len l t (record { kind = word_at l at; at = at; second = n }) s i (node_here _ n refl m) k q u
 
   pub leaf-found : (k m v : ℕ) (lens : List ℕ) → k ≡ word_at l at → m ≡ word_at l (at + 1) → k ≤ 8 → (k ≡ 6 → ⊥) →
-      v ≡ leafLen (record { kind = k; at = at; second = m }) → lens ≡ filled l t → t < 64 → set lens t v ≡ filled l (t + 1)
-  leaf-found k m v lens p q i z h f b = found-set l t v lens f b (h ∙ leaf-length l t _ (node-here k m p q) i z)
+      v ≡ leaf_len_lem (record { kind = k; at = at; second = m }) → lens ≡ filled l t → t < 64 → set lens t v ≡ filled l (t + 1)
+  leaf-found k m v lens p q i z h f b = found-set l t v lens f b (h ∙ leaf-length l t _ (node_here k m p q) i z)
 
   -- A boolean's length, a union's and a list's are not said by a further word.
   pub one_found : (lens : List ℕ) → word_at l at ≡ 1 → lens ≡ filled l t → t < 64 → set lens t 1 ≡ filled l (t + 1)
-  unfolding leafOf head
+  unfolding leaf_of head
   one_found lens h f b =
       leaf-found (word_at l at) (word_at l (at + 1)) 1 lens refl refl (omega (arith, h)) (λ (q : word_at l at ≡ 6). omega (arith, h)) (rw h) f b
 
   pub none_found : (lens : List ℕ) → 7 ≤ word_at l at → word_at l at ≤ 8 → lens ≡ filled l t → t < 64 → set lens t 0 ≡ filled l (t + 1)
-  unfolding leafOf head
+  unfolding leaf_of head
   none_found lens i h f b =
       let not : (m : ℕ) → m < 7 → eqb (word_at l at) m ≡ false = λ m u. ne_eqb (word_at l at) m (λ (q : word_at l at ≡ m). omega arith) in
       leaf-found (word_at l at) (word_at l (at + 1)) 0 lens refl refl h (λ (q : word_at l at ≡ 6). omega arith)
@@ -231,53 +231,53 @@ module _ (lens l : List ℕ) (t at e n f : ℕ) (g : Known lens l t) (r : Upto e
   elements-count : Counted l (at + 1) 4294967295 n
   elements-count = counted-says l (at + 1) 4294967295 n (sym k)
 
-  pub elements-len : at ≡ word_at l (1 + t) → word_at l at ≡ 9 → n * get_or lens f 0 ≡ len_of (head (tree_of l t))
-  elements-len b z =
+  pub elements_len : at ≡ word_at l (1 + t) → word_at l at ≡ 9 → n * get_or lens f 0 ≡ len_of (head (tree_of l t))
+  elements_len b z =
       let two : at + 1 + 1 ≡ at + 2 = omega arith in
       let m = rw two at elements-count.word in
-      let len = vector-len l t (record { kind = 9; at = at; second = f }) (node-here l t at b 9 f (sym z) q) refl element-below in
-      rw (m, known-len lens l t g f element-below) (sym len)
+      let len = vector_len l t (record { kind = 9; at = at; second = f }) (node_here l t at b 9 f (sym z) q) refl element-below in
+      rw (m, known_len lens l t g f element-below) (sym len)
 
   module _ (w : ℕ) (v : w ≡ width (head_of (get_or lens f 0))) where
     element-width : w ≡ width (head (tree_of l f))
     element-width = v ∙ ap width (known-head lens l t g f element-below)
 
-    pub elements-fit : n * w < 2 ^ 64
-    elements-fit =
+    pub elements_fit : n * w < 2 ^ 64
+    elements_fit =
         let x = mul-le-mul_right w elements-count.few in
         let y : w < 2 ^ 32 = rw v (width_small (get_or lens f 0) element-small) in
         omega arith
 
     elements-less : n * get_or lens f 0 ≤ n * w
-    elements-less = mul-le-mul_left n (rw v (len-width (get_or lens f 0)))
+    elements-less = mul-le-mul_left n (rw v (len_width (get_or lens f 0)))
 
-    pub elements-len-fits : n * get_or lens f 0 < 2 ^ 64
-    elements-len-fits = omega (arith, elements-less, elements-fit)
+    pub elements_len_fits : n * get_or lens f 0 < 2 ^ 64
+    elements_len_fits = omega (arith, elements-less, elements_fit)
 
     pub elements-small : n * w ≤ 4294967295 → n * get_or lens f 0 < 2 ^ 32
     elements-small h = omega (arith, elements-less)
 
-    vector-tests : vectorEnd l t at ≡ pick (leb (n * w) 4294967295) (Upto (at + 3)) (Bad at)
-    unfolding vectorEnd
+    vector-tests : vector_end_lem l t at ≡ pick (leb (n * w) 4294967295) (Upto (at + 3)) (Bad at)
+    unfolding vector_end_lem
     vector-tests = rw (← r, ← k, ← q, trees-get l t f (boolean 0) element-below, ← element-width)
 
-    pub vector-wide : 4294967295 < n * w → Bad at ≡ vectorEnd l t at
-    vector-wide h = rw (vector-tests, lt-leb _ _ h)
+    pub vector_wide : 4294967295 < n * w → Bad at ≡ vector_end_lem l t at
+    vector_wide h = rw (vector-tests, lt-leb _ _ h)
 
-    pub vector-ends : n * w ≤ 4294967295 → Upto (at + 3) ≡ vectorEnd l t at
+    pub vector-ends : n * w ≤ 4294967295 → Upto (at + 3) ≡ vector_end_lem l t at
     vector-ends h = rw (vector-tests, le-leb _ _ h)
 
 -- A legal vector, whose element has the length k.
 module _ (l : List ℕ) (known t : ℕ) (r : Node) (e : r ≡ node_of l t) (g : Legal l (t + 1)) (h : r.kind ≡ 9) where
   pub vector-lower : r.second < t
-  vector-lower = (legal-node l t r e g).element (omega arith)
+  vector-lower = (legal_node l t r e g).element (omega arith)
 
   module _ (n k : ℕ) (q : n ≡ word_at l (r.at + 2)) (m : k ≡ len_of (head (tree_of l r.second))) where
     vector-length : n * k ≡ len_of (head (tree_of l t))
-    vector-length = rw (q, m) (sym (vector-len l t r e h vector-lower))
+    vector-length = rw (q, m) (sym (vector_len l t r e h vector-lower))
 
     pub vector-small : n * k < 2 ^ 32
-    vector-small = rw vector-length (len-small l t (legal-node l t (node_of l t) refl g))
+    vector-small = rw vector-length (len_small l t (legal_node l t (node_of l t) refl g))
 
     pub vector-found : (lens : List ℕ) → lens ≡ filled l (pick (ltb r.second known) known (known + 1)) → t ≤ known → known ≤ t → t < 64 →
         Lengthened l known t (n * k) (set lens t (n * k))
@@ -291,8 +291,8 @@ ended-bad l t w x lens h = record { gives = h; found = λ e q. bad-upto w e q }
 
 -- A container whose words are not all there ends nowhere: one of them is the first bad word.
 pub ended-cut : (l : List ℕ) (t at n : ℕ) (x : Checked) (lens : List ℕ) → counted l at 64 ≡ Upto n → count l < at + 2 + n →
-    x ≡ refs l t false (at + 2) n → Ended l t (containerEnd l t at) x lens
-unfolding containerEnd many
+    x ≡ refs l t false (at + 2) n → Ended l t (container_end_lem l t at) x lens
+unfolding container_end_lem many
 ended-cut l t at n (Bad w) lens c h e = ended-bad l t w _ lens (rw (c, ← e))
 ended-cut l t at n (Upto i) lens c h e =
     absurd (refs-cut l t n (at + 2) i (omega (arith, (counted-says l at 64 n c).there)) h (sym e))

@@ -4,20 +4,20 @@ use mathlib.Core.Path.{◌≡◌}
 use contract.Lifetimes.{Lfts}
 use denote.Triple.Clauses.{AtExit}
 use borrow.Fn.Kinds.{Dens, res_t, ended_of}
-use Rattle.standard.proofs.Only.{Only, only-answer}
-use Rattle.layout.proofs.layout_check.Kinds as layout-check-kinds
-use Rattle.layout.proofs.layout_check.Reads as layout-check-reads
-use Rattle.layout.proofs.table_of.Kinds as table-of-kinds
-use Rattle.layout.proofs.table_of.Reads as table-of-reads
+use Rattle.standard.proofs.Only.{Only, only_answer}
+use Rattle.layout.proofs.layout_check.Kinds as layout_check_kinds
+use Rattle.layout.proofs.layout_check.Reads as layout_check_reads
+use Rattle.layout.proofs.table_of.Kinds as table_of_kinds
+use Rattle.layout.proofs.table_of.Reads as table_of-reads
 
-pub layout-check-only : Only layout-check-kinds.ps layout-check-kinds.r layout-check-reads.Post
-layout-check-only κs a x y e f p q = only-answer _ x y p q
+pub layout_check_only : Only layout_check_kinds.ps layout_check_kinds.r layout_check_reads.Post
+layout_check_only κs a x y e f p q = only_answer _ x y p q
 
-pub table-of-only : Only table-of-kinds.ps table-of-kinds.r table-of-reads.Post
-table-of-only κs a x y e f p q = only-answer _ x y p.0 q.0
+pub table_of_only : Only table_of_kinds.ps table_of_kinds.r table_of-reads.Post
+table_of_only κs a x y e f p q = only_answer _ x y p.0 q.0
 
-pub table-of-leaves :
-    (κs : Lfts 2) (a : Dens κs table-of-kinds.ps) (x y : (res_t table-of-kinds.r κs).Denot)
-    (e f : AtExit (ended_of 2 table-of-kinds.ps table-of-kinds.r) κs)
-    → table-of-reads.Post κs a x e → table-of-reads.Post κs a y f → e.0.now ≡ f.0.now
-table-of-leaves κs a x y e f p q = only-answer _ _ _ p.1 q.1
+pub table_of_leaves :
+    (κs : Lfts 2) (a : Dens κs table_of_kinds.ps) (x y : (res_t table_of_kinds.r κs).Denot)
+    (e f : AtExit (ended_of 2 table_of_kinds.ps table_of_kinds.r) κs)
+    → table_of-reads.Post κs a x e → table_of-reads.Post κs a y f → e.0.now ≡ f.0.now
+table_of_leaves κs a x y e f p q = only_answer _ _ _ p.1 q.1

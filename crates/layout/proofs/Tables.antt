@@ -8,32 +8,32 @@ use native.Mathlib.Omega.{arith}
 use borrow.Author.Tests.{eqb-true, eqb-false, ltb-true, ltb-false, leb-true, lt-ltb, le-ltb, ne_eqb, eq-eqb, le-leb, lt-leb}
 use lib.ListN.{length, get_or, replicate}
 use lib.Dec.{eqb, leb, ltb}
-use Rattle.standard.specs.Choice.{pick, andAlso, or_else}
+use Rattle.standard.specs.Choice.{pick, and_also, or_else}
 use Rattle.standard.specs.Bytes.{Bytes, word_at}
 use Rattle.standard.specs.Types.{Ty, Tys, boolean, head, heads, width, portion, LegalTy}
 use Rattle.standard.specs.declared.Head.{Head}
 use Rattle.standard.proofs.Bytes.{word_bound}
 use Rattle.layout.specs.Tree.{node_of, fields, trees, tree_of, len_of, head_of, lengths, filled}
-use Rattle.layout.specs.Table.{onward, count, mayName, refs, counted, many, containerEnd, listEnd, vectorEnd, leafWord, leafEnd, bodyEnd, typesEnd, types_of, table_of, lengthsOf}
+use Rattle.layout.specs.Table.{onward, count, may_name_lem, refs, counted, many, container_end_lem, list_end_lem, vector_end_lem, leaf_word, leaf_end_lem, body_end_lem, types_end_lem, types_of, table_of, lengths_of}
 use Rattle.layout.specs.Legal.{Lower, LowerOrBare, LegalNode, Legal}
 use Rattle.layout.specs.Steps.{Known, Typed, Tabled}
 use Rattle.layout.specs.declared.Node.{Node}
 use Rattle.layout.specs.declared.Checked.{Checked}
 use Rattle.layout.specs.declared.Checked.TheVariants.{Bad, Upto}
-use Rattle.layout.proofs.Facts.{trees-get, each-kind, fields-none, heads-at, lower-here, lower-rest, filled-get, length-filled, head-len, legal-below, legal-more}
-use Rattle.layout.proofs.Trees.{legal-tree, len-small}
+use Rattle.layout.proofs.Facts.{trees-get, each-kind, fields-none, heads-at, lower-here, lower-rest, filled-get, length-filled, head_len, legal-below, legal-more}
+use Rattle.layout.proofs.Trees.{legal_tree, len_small}
 
 -- A found length, as a head.
 module _ (lens l : List ℕ) (k : ℕ) (g : Known lens l k) (f : ℕ) (h : f < k) where
-  pub known-len : get_or lens f 0 ≡ len_of (head (tree_of l f))
-  known-len = rw g.found (filled-get l k f h)
+  pub known_len : get_or lens f 0 ≡ len_of (head (tree_of l f))
+  known_len = rw g.found (filled-get l k f h)
 
   pub known-head : head_of (get_or lens f 0) ≡ head (tree_of l f)
-  known-head = ap head_of known-len ∙ head-len (tree_of l f) (legal-tree l k f g.legal h)
+  known-head = ap head_of known_len ∙ head_len (tree_of l f) (legal_tree l k f g.legal h)
 
   pub known_small : get_or lens f 0 < 2 ^ 32
   unfolding Legal
-  known_small = rw known-len (len-small l f (g.legal f h))
+  known_small = rw known_len (len_small l f (g.legal f h))
 
 pub known-length : (lens l : List ℕ) (k : ℕ) → Known lens l k → length lens ≡ 64
 known-length lens l k g = ap length g.found ∙ length-filled l k g.few
@@ -47,11 +47,11 @@ pub below-nine : (k : ℕ) → k ≤ 9 → (k ≡ 9 → ⊥) → k ≤ 8
 below-nine k h n = omega arith
 
 -- The loop of `refs_end`.
-pub refs-cons : (l : List ℕ) (t : ℕ) (none : Bool) (a left : ℕ) → 0 < left →
-    refs l t none a left ≡ pick (ltb a (count l)) (pick (mayName (word_at l a) t none) (refs l t none (a + 1) (left - 1)) (Bad a)) (Bad (count l))
+pub refs_cons : (l : List ℕ) (t : ℕ) (none : Bool) (a left : ℕ) → 0 < left →
+    refs l t none a left ≡ pick (ltb a (count l)) (pick (may_name_lem (word_at l a) t none) (refs l t none (a + 1) (left - 1)) (Bad a)) (Bad (count l))
 unfolding refs
-refs-cons l t none a zero h = absurd (omega arith)
-refs-cons l t none a (suc n) h = let e : suc n - 1 ≡ n = omega arith in rw e
+refs_cons l t none a zero h = absurd (omega arith)
+refs_cons l t none a (suc n) h = let e : suc n - 1 ≡ n = omega arith in rw e
 
 pub refs-none : (l : List ℕ) (t : ℕ) (none : Bool) (a left : ℕ) → left ≤ 0 → refs l t none a left ≡ Upto a
 unfolding refs
@@ -59,15 +59,15 @@ refs-none l t none a zero h = refl
 refs-none l t none a (suc n) h = absurd (omega arith)
 
 module _ (l : List ℕ) (t : ℕ) (none : Bool) (a left : ℕ) (x : Checked) (p : 0 < left) (e : refs l t none a left ≡ x) where
-  pub refs-missing : count l ≤ a → Bad (count l) ≡ x
-  refs-missing h = rw (refs-cons l t none a left p, le-ltb _ _ h) at e
+  pub refs_missing : count l ≤ a → Bad (count l) ≡ x
+  refs_missing h = rw (refs_cons l t none a left p, le-ltb _ _ h) at e
 
-  module _ (w : ℕ) (ok : Bool) (h : a < count l) (q : w ≡ word_at l a) (r : ok ≡ mayName w t none) where
+  module _ (w : ℕ) (ok : Bool) (h : a < count l) (q : w ≡ word_at l a) (r : ok ≡ may_name_lem w t none) where
     pub refs-wrong : ok ≡ false → Bad a ≡ x
-    refs-wrong s = rw (refs-cons l t none a left p, lt-ltb _ _ h, ← q, ← r, s) at e
+    refs-wrong s = rw (refs_cons l t none a left p, lt-ltb _ _ h, ← q, ← r, s) at e
 
     pub refs-next : ok ≡ true → refs l t none (a + 1) (left - 1) ≡ x
-    refs-next s = rw (refs-cons l t none a left p, lt-ltb _ _ h, ← q, ← r, s) at e
+    refs-next s = rw (refs_cons l t none a left p, lt-ltb _ _ h, ← q, ← r, s) at e
 
 -- The loop of `fields_len`: what is added to the fixed portion, and what is left to add and to test.
 pub record Adding (l : List ℕ) (t a₀ n a left sum : ℕ) : Type 0 where
@@ -102,49 +102,49 @@ upto-onward : (x : Checked) (k : ℕ → Checked) (e : ℕ) → onward x k ≡ U
 upto-onward (Bad w) k e h = let z : ◌≡◌ {A = ℕ} 0 1 = cc in absurd (omega arith)
 upto-onward (Upto i) k e h = (i, refl, h)
 
-pub upto-inj : (i j : ℕ) → Upto i ≡ Upto j → i ≡ j
-upto-inj i j g = cc
+pub upto_inj : (i j : ℕ) → Upto i ≡ Upto j → i ≡ j
+upto_inj i j g = cc
 
 pub bad-upto : {A : Type 0} (i e : ℕ) → Bad i ≡ Upto e → A
 bad-upto i e h = let z : ◌≡◌ {A = ℕ} 0 1 = cc in absurd (omega arith)
 
-both_true : (a b : Bool) → andAlso a b ≡ true → (a ≡ true) × (b ≡ true)
+both_true : (a b : Bool) → and_also a b ≡ true → (a ≡ true) × (b ≡ true)
 both_true true b h = (refl, h)
 both_true false b h = let z : ◌≡◌ {A = ℕ} 0 1 = cc in absurd (omega arith)
 
-pub may-lower : (w t : ℕ) (none : Bool) → mayName w t none ≡ true → none ≡ false → w < t
-may-lower w t none h q = go (ltb w t) refl (rw q at h)
+pub may_lower : (w t : ℕ) (none : Bool) → may_name_lem w t none ≡ true → none ≡ false → w < t
+may_lower w t none h q = go (ltb w t) refl (rw q at h)
   where
     go : (a : Bool) → ltb w t ≡ a → or_else a false ≡ true → w < t
     go true p r = ltb-true _ _ p
     go false p r = let z : ◌≡◌ {A = ℕ} 0 1 = cc in absurd (omega arith)
 
-may-bare : (w t : ℕ) (none : Bool) → mayName w t none ≡ true → (w ≡ 4294967295 → ⊥) → w < t
-may-bare w t none h q = go (ltb w t) none refl (rw (ne_eqb _ _ q) at h)
+may_bare : (w t : ℕ) (none : Bool) → may_name_lem w t none ≡ true → (w ≡ 4294967295 → ⊥) → w < t
+may_bare w t none h q = go (ltb w t) none refl (rw (ne_eqb _ _ q) at h)
   where
-    go : (a b : Bool) → ltb w t ≡ a → or_else a (andAlso b false) ≡ true → w < t
+    go : (a b : Bool) → ltb w t ≡ a → or_else a (and_also b false) ≡ true → w < t
     go true b p r = ltb-true _ _ p
     go false true p r = let z : ◌≡◌ {A = ℕ} 0 1 = cc in absurd (omega arith)
     go false false p r = let z : ◌≡◌ {A = ℕ} 0 1 = cc in absurd (omega arith)
 
 -- Accepted references are within the table, and each may stand there.
-refs-say : (l : List ℕ) (t : ℕ) (none : Bool) (n a e : ℕ) → a ≤ count l → refs l t none a n ≡ Upto e →
-    (e ≤ count l) × (e ≡ a + n) × ((i : ℕ) → i < n → mayName (word_at l (a + i)) t none ≡ true)
+refs_say : (l : List ℕ) (t : ℕ) (none : Bool) (n a e : ℕ) → a ≤ count l → refs l t none a n ≡ Upto e →
+    (e ≤ count l) × (e ≡ a + n) × ((i : ℕ) → i < n → may_name_lem (word_at l (a + i)) t none ≡ true)
 unfolding refs
-refs-say l t none zero a e k h = (omega (arith, upto-inj a e h), omega (arith, upto-inj a e h), λ i q. absurd (omega arith))
-refs-say l t none (suc n) a e k h =
+refs_say l t none zero a e k h = (omega (arith, upto_inj a e h), omega (arith, upto_inj a e h), λ i q. absurd (omega arith))
+refs_say l t none (suc n) a e k h =
     let p = upto_left (ltb a (count l)) _ (count l) e h in
-    let q = upto_left (mayName (word_at l a) t none) (refs l t none (a + 1) n) a e p.1 in
-    let r = refs-say l t none n (a + 1) e (omega (arith, ltb-true a (count l) p.0)) q.1 in
+    let q = upto_left (may_name_lem (word_at l a) t none) (refs l t none (a + 1) n) a e p.1 in
+    let r = refs_say l t none n (a + 1) e (omega (arith, ltb-true a (count l) p.0)) q.1 in
     (r.0, omega (arith, r.1), all q.0 r.2)
   where
-    all : mayName (word_at l a) t none ≡ true → ((i : ℕ) → i < n → mayName (word_at l (a + 1 + i)) t none ≡ true) → (i : ℕ) → i < suc n →
-        mayName (word_at l (a + i)) t none ≡ true
+    all : may_name_lem (word_at l a) t none ≡ true → ((i : ℕ) → i < n → may_name_lem (word_at l (a + 1 + i)) t none ≡ true) → (i : ℕ) → i < suc n →
+        may_name_lem (word_at l (a + i)) t none ≡ true
     all x f zero j = rw add-zero x
     all x f (suc i) j = let s : a + suc i ≡ a + 1 + i = omega arith in rw s (f i (omega arith))
 
 pub refs-cut : (l : List ℕ) (t n a e : ℕ) → a ≤ count l → count l < a + n → refs l t false a n ≡ Upto e → ⊥
-refs-cut l t n a e k h r = let s = refs-say l t false n a e k r in omega (arith, s.0, s.1)
+refs-cut l t n a e k h r = let s = refs_say l t false n a e k r in omega (arith, s.0, s.1)
 
 -- And references to lower types within the table are accepted.
 pub refs-lower : (l : List ℕ) (t n a : ℕ) → Lower l t a n → a + n ≤ count l → refs l t false a n ≡ Upto (a + n)
@@ -162,7 +162,7 @@ pub record Many (l : List ℕ) (t at most : ℕ) (none : Bool) (e : ℕ) : Type 
   pub few : word_at l (at + 1) ≤ most
   pub within : e ≤ count l
   pub ends : e ≡ at + 2 + word_at l (at + 1)
-  pub each : (i : ℕ) → i < word_at l (at + 1) → mayName (word_at l (at + 2 + i)) t none ≡ true
+  pub each : (i : ℕ) → i < word_at l (at + 1) → may_name_lem (word_at l (at + 2 + i)) t none ≡ true
 
 -- An accepted number is the word behind at.
 pub record Counted (l : List ℕ) (at most n : ℕ) : Type 0 where
@@ -176,9 +176,9 @@ unfolding counted
 counted-says l at most n h =
     let w = word_at l (at + 1) in
     let p = upto_left (ltb (at + 1) (count l)) _ (count l) n h in
-    let q = upto_left (andAlso (ltb 0 w) (leb w most)) (Upto w) (at + 1) n p.1 in
+    let q = upto_left (and_also (ltb 0 w) (leb w most)) (Upto w) (at + 1) n p.1 in
     let r = both_true (ltb 0 w) (leb w most) q.0 in
-    let e : n ≡ w = sym (upto-inj w n q.1) in
+    let e : n ≡ w = sym (upto_inj w n q.1) in
     record { there = ltb-true _ _ p.0; word = e; some = rw e (ltb-true _ _ r.0); few = rw e (leb-true _ _ r.1) }
 
 pub many-says : (l : List ℕ) (t at most : ℕ) (none : Bool) (e : ℕ) → many l t at none most ≡ Upto e → Many l t at most none e
@@ -186,34 +186,34 @@ unfolding many
 many-says l t at most none e h =
     let p = upto-onward (counted l at most) (λ n. refs l t none (at + 2) n) e h in
     let k = counted-says l at most p.0 p.1 in
-    let s = rw k.word at (refs-say l t none p.0 (at + 2) e (omega (arith, k.there)) p.2) in
+    let s = rw k.word at (refs_say l t none p.0 (at + 2) e (omega (arith, k.there)) p.2) in
     record { some = rw k.word at k.some; few = rw k.word at k.few; within = s.0; ends = s.1; each = s.2 }
 
 pub many-lower : (l : List ℕ) (t at most e : ℕ) → Many l t at most false e → Lower l t (at + 2) (word_at l (at + 1))
 unfolding Lower
-many-lower l t at most e m = λ i h. may-lower _ t false (m.each i h) refl
+many-lower l t at most e m = λ i h. may_lower _ t false (m.each i h) refl
 
 many-bare : (l : List ℕ) (t at most e : ℕ) → Many l t at most true e → LowerOrBare l t (at + 2) (word_at l (at + 1))
 unfolding LowerOrBare
-many-bare l t at most e m = λ i h q. may-bare _ t true (m.each i h) q
+many-bare l t at most e m = λ i h q. may_bare _ t true (m.each i h) q
 
 -- An accepted body, by its kind.
-container-says : (l : List ℕ) (t at e : ℕ) → containerEnd l t at ≡ Upto e →
+container-says : (l : List ℕ) (t at e : ℕ) → container_end_lem l t at ≡ Upto e →
     Many l t at 64 false e × (portion (heads (fields l (trees l t) (at + 2) (word_at l (at + 1)))) < 2 ^ 32)
-unfolding containerEnd
+unfolding container_end_lem
 container-says l t at e h =
     let p = upto-onward (many l t at false 64) _ e h in
     let q = upto_left (leb (portion (heads (fields l (trees l t) (at + 2) (word_at l (at + 1))))) 4294967295) (Upto p.0) at e p.2 in
-    let w : p.0 ≡ e = upto-inj p.0 e q.1 in
+    let w : p.0 ≡ e = upto_inj p.0 e q.1 in
     let s : portion (heads (fields l (trees l t) (at + 2) (word_at l (at + 1)))) ≤ 4294967295 = leb-true _ _ q.0 in
     (rw w at (many-says l t at 64 false p.0 p.1), omega arith)
 
-leaf-says : (l : List ℕ) (at e : ℕ) → leafEnd l at ≡ Upto e → (leafWord (word_at l at) (word_at l (at + 1)) ≡ true) × (e ≤ count l)
-unfolding leafEnd
+leaf-says : (l : List ℕ) (at e : ℕ) → leaf_end_lem l at ≡ Upto e → (leaf_word (word_at l at) (word_at l (at + 1)) ≡ true) × (e ≤ count l)
+unfolding leaf_end_lem
 leaf-says l at e h =
     let p = upto_left (ltb (at + 1) (count l)) _ (count l) e h in
-    let q = upto_left (leafWord (word_at l at) (word_at l (at + 1))) (Upto (at + 2)) (at + 1) e p.1 in
-    (q.0, omega (arith, upto-inj (at + 2) e q.1, ltb-true (at + 1) (count l) p.0))
+    let q = upto_left (leaf_word (word_at l at) (word_at l (at + 1))) (Upto (at + 2)) (at + 1) e p.1 in
+    (q.0, omega (arith, upto_inj (at + 2) e q.1, ltb-true (at + 1) (count l) p.0))
 
 -- An accepted list or vector: its element's type is lower, and the number behind it is there and ends it.
 pub record Element (l : List ℕ) (t at e : ℕ) : Type 0 where
@@ -225,21 +225,21 @@ pub element-lower : (l : List ℕ) (t a e : ℕ) → refs l t false a 1 ≡ Upto
 unfolding refs
 element-lower l t a e h =
     let p = upto_left (ltb a (count l)) _ (count l) e h in
-    let q = upto_left (mayName (word_at l a) t false) (Upto (a + 1)) a e p.1 in
-    (may-lower _ t false q.0 refl, sym (upto-inj (a + 1) e q.1))
+    let q = upto_left (may_name_lem (word_at l a) t false) (Upto (a + 1)) a e p.1 in
+    (may_lower _ t false q.0 refl, sym (upto_inj (a + 1) e q.1))
 
-list-says : (l : List ℕ) (t at e : ℕ) → listEnd l t at ≡ Upto e → Element l t at e
-unfolding listEnd
+list-says : (l : List ℕ) (t at e : ℕ) → list_end_lem l t at ≡ Upto e → Element l t at e
+unfolding list_end_lem
 list-says l t at e h =
     let p = upto-onward (refs l t false (at + 1) 1) _ e h in
     let x = element-lower l t (at + 1) p.0 p.1 in
     let q = upto_left (ltb p.0 (count l)) (Upto (p.0 + 1)) (count l) e p.2 in
     let i = ltb-true p.0 (count l) q.0 in
-    record { lower = x.0; third = omega (arith, x.1); ends = omega (arith, x.1, upto-inj (p.0 + 1) e q.1) }
+    record { lower = x.0; third = omega (arith, x.1); ends = omega (arith, x.1, upto_inj (p.0 + 1) e q.1) }
 
-vector-says : (l : List ℕ) (t at e : ℕ) → vectorEnd l t at ≡ Upto e →
+vector-says : (l : List ℕ) (t at e : ℕ) → vector_end_lem l t at ≡ Upto e →
     Element l t at e × (1 ≤ word_at l (at + 2)) × (word_at l (at + 2) * width (head (tree_of l (word_at l (at + 1)))) < 2 ^ 32)
-unfolding vectorEnd
+unfolding vector_end_lem
 vector-says l t at e h =
     let p = upto-onward (refs l t false (at + 1) 1) _ e h in
     let f = (element-lower l t (at + 1) p.0 p.1).0 in
@@ -250,7 +250,7 @@ vector-says l t at e h =
     let size = q.0 * width (head (get_or (trees l t) (word_at l (at + 1)) (boolean 0))) in
     let r = upto_left (leb size 4294967295) (Upto (at + 3)) at e q.2 in
     let s : size ≤ 4294967295 = leb-true size 4294967295 r.0 in (
-      record { lower = f; third = omega (arith, k.there); ends = sym (upto-inj (at + 3) e r.1) },
+      record { lower = f; third = omega (arith, k.there); ends = sym (upto_inj (at + 3) e r.1) },
       rw w at k.some,
       narrow q.0 _ _ _ w (trees-get l t (word_at l (at + 1)) (boolean 0) f) (omega arith),
     )
@@ -258,35 +258,35 @@ vector-says l t at e h =
     narrow : (n m : ℕ) (x y : Ty) → n ≡ m → x ≡ y → n * width (head x) < 2 ^ 32 → m * width (head y) < 2 ^ 32
     narrow n m x y e f h = rw (← e, ← f) h
 
-module _ (l : List ℕ) (t at e : ℕ) (h : bodyEnd l t at ≡ Upto e) where
+module _ (l : List ℕ) (t at e : ℕ) (h : body_end_lem l t at ≡ Upto e) where
   body-there : at < count l
-  unfolding bodyEnd
+  unfolding body_end_lem
   body-there = ltb-true _ _ (upto_left (ltb at (count l)) _ (count l) e h).0
 
   -- the answer of a leaf's kind, and of an unknown one
   abbrev at_leaf : ℕ → Checked
-  at_leaf k = pick (eqb k 1) (Upto (at + 1)) (pick (ltb k 6) (leafEnd l at) (Bad at))
+  at_leaf k = pick (eqb k 1) (Upto (at + 1)) (pick (ltb k 6) (leaf_end_lem l at) (Bad at))
 
   -- the answer of the kind
   abbrev at-kind : ℕ → Checked
   at-kind k =
-      pick (eqb k 6) (containerEnd l t at)
-      (pick (eqb k 7) (many l t at true 128) (pick (eqb k 8) (listEnd l t at) (pick (eqb k 9) (vectorEnd l t at) (at_leaf k))))
+      pick (eqb k 6) (container_end_lem l t at)
+      (pick (eqb k 7) (many l t at true 128) (pick (eqb k 8) (list_end_lem l t at) (pick (eqb k 9) (vector_end_lem l t at) (at_leaf k))))
 
   body-kind : (k : ℕ) → word_at l at ≡ k → at-kind k ≡ Upto e
-  unfolding bodyEnd
+  unfolding body_end_lem
   body-kind k q = rw q at (upto_left (ltb at (count l)) _ (count l) e h).1
 
-  six : word_at l at ≡ 6 → containerEnd l t at ≡ Upto e
+  six : word_at l at ≡ 6 → container_end_lem l t at ≡ Upto e
   six k = body-kind 6 k
 
   seven : word_at l at ≡ 7 → many l t at true 128 ≡ Upto e
   seven k = body-kind 7 k
 
-  eight : word_at l at ≡ 8 → listEnd l t at ≡ Upto e
+  eight : word_at l at ≡ 8 → list_end_lem l t at ≡ Upto e
   eight k = body-kind 8 k
 
-  nine : word_at l at ≡ 9 → vectorEnd l t at ≡ Upto e
+  nine : word_at l at ≡ 9 → vector_end_lem l t at ≡ Upto e
   nine k = body-kind 9 k
 
   -- neither a container, a union, a list nor a vector
@@ -299,7 +299,7 @@ module _ (l : List ℕ) (t at e : ℕ) (h : bodyEnd l t at ≡ Upto e) where
         ne_eqb (word_at l at) 9 (λ (q : word_at l at ≡ 9). k (omega arith) (omega arith)),
       ) at (body-kind (word_at l at) refl)
 
-  leaf : word_at l at < 6 → (word_at l at ≡ 1 → ⊥) → leafEnd l at ≡ Upto e
+  leaf : word_at l at < 6 → (word_at l at ≡ 1 → ⊥) → leaf_end_lem l at ≡ Upto e
   leaf k n = rw (ne_eqb _ _ n, lt-ltb _ _ k) at (other (λ (i : 6 ≤ word_at l at) j. omega arith))
 
   body-known : word_at l at ≤ 9
@@ -316,7 +316,7 @@ module _ (l : List ℕ) (t at e : ℕ) (h : bodyEnd l t at ≡ Upto e) where
   body-leaf k = go (eqb (word_at l at) 1) refl
     where
       go : (c : Bool) → eqb (word_at l at) 1 ≡ c → e ≤ count l
-      go true p = omega (arith, upto-inj (at + 1) e (body-kind 1 (eqb-true _ _ p)), body-there)
+      go true p = omega (arith, upto_inj (at + 1) e (body-kind 1 (eqb-true _ _ p)), body-there)
       go false p = (leaf-says l at e (leaf k (eqb-false _ _ p))).1
 
   pub body-within : e ≤ count l
@@ -381,67 +381,67 @@ pub record Checking (l lens : List ℕ) (n t at : ℕ) : Type 0 where
   pub listed : n < count l
   pub within : at ≤ count l
   pub known : Known lens l t
-  pub same : typesEnd l (n - t) t at ≡ typesEnd l n 0 (n + 1)
+  pub same : types_end_lem l (n - t) t at ≡ types_end_lem l n 0 (n + 1)
 
-types-cons : (l : List ℕ) (k t at : ℕ) → 0 < k → typesEnd l k t at ≡
-    pick (eqb (word_at l (1 + t)) at) (onward (bodyEnd l t at) (λ e. typesEnd l (k - 1) (t + 1) e)) (Bad (1 + t))
-unfolding typesEnd
-types-cons l zero t at h = absurd (omega arith)
-types-cons l (suc k) t at h = let e : suc k - 1 ≡ k = omega arith in rw e
+types_cons : (l : List ℕ) (k t at : ℕ) → 0 < k → types_end_lem l k t at ≡
+    pick (eqb (word_at l (1 + t)) at) (onward (body_end_lem l t at) (λ e. types_end_lem l (k - 1) (t + 1) e)) (Bad (1 + t))
+unfolding types_end_lem
+types_cons l zero t at h = absurd (omega arith)
+types_cons l (suc k) t at h = let e : suc k - 1 ≡ k = omega arith in rw e
 
 module _ (l lens : List ℕ) (n t at : ℕ) (g : Checking l lens n t at) (p : t < n) where
-  pub checking-listed : 1 + t < count l
-  checking-listed = omega (arith, g.listed)
+  pub checking_listed : 1 + t < count l
+  checking_listed = omega (arith, g.listed)
 
 module _ (l lens : List ℕ) (n t at : ℕ) (g : Checking l lens n t at) (p : t < n) (w : ℕ) (q : w ≡ word_at l (1 + t)) where
-  pub checking-start : (w ≡ at → ⊥) → Bad (1 + t) ≡ typesEnd l n 0 (n + 1)
-  checking-start k = rw (types-cons l (n - t) t at (omega arith), ← q, ne_eqb _ _ k) at g.same
+  pub checking_start : (w ≡ at → ⊥) → Bad (1 + t) ≡ types_end_lem l n 0 (n + 1)
+  checking_start k = rw (types_cons l (n - t) t at (omega arith), ← q, ne_eqb _ _ k) at g.same
 
   module _ (k : w ≡ at) where
-    checking-body : onward (bodyEnd l t at) (λ e. typesEnd l (n - t - 1) (t + 1) e) ≡ typesEnd l n 0 (n + 1)
-    checking-body = rw (types-cons l (n - t) t at (omega arith), ← q, eq-eqb _ _ k) at g.same
+    checking_body : onward (body_end_lem l t at) (λ e. types_end_lem l (n - t - 1) (t + 1) e) ≡ types_end_lem l n 0 (n + 1)
+    checking_body = rw (types_cons l (n - t) t at (omega arith), ← q, eq-eqb _ _ k) at g.same
 
-    pub checking-bad : (i : ℕ) → Bad i ≡ bodyEnd l t at → Bad i ≡ typesEnd l n 0 (n + 1)
-    checking-bad i h = rw (← h) at checking-body
+    pub checking_bad : (i : ℕ) → Bad i ≡ body_end_lem l t at → Bad i ≡ types_end_lem l n 0 (n + 1)
+    checking_bad i h = rw (← h) at checking_body
 
-    module _ (b : Bytes l) (e : ℕ) (h : Upto e ≡ bodyEnd l t at) where
-      pub checking-legal : Legal l (t + 1)
-      checking-legal = legal-more l t g.known.legal (body-legal l t at e (sym h) b (checking-listed l lens n t at g p) (sym q ∙ k))
+    module _ (b : Bytes l) (e : ℕ) (h : Upto e ≡ body_end_lem l t at) where
+      pub checking_legal : Legal l (t + 1)
+      checking_legal = legal-more l t g.known.legal (body-legal l t at e (sym h) b (checking_listed l lens n t at g p) (sym q ∙ k))
 
-      pub checking-next : (lens' : List ℕ) → n ≤ 64 → lens' ≡ filled l (t + 1) → Checking l lens' n (t + 1) e
-      checking-next lens' m f =
+      pub checking_next : (lens' : List ℕ) → n ≤ 64 → lens' ≡ filled l (t + 1) → Checking l lens' n (t + 1) e
+      checking_next lens' m f =
           let i : n - t - 1 ≡ n - (t + 1) = omega arith in
           record {
             some = omega arith;
             listed = g.listed;
             within = body-within l t at e (sym h);
-            known = record { found = f; legal = checking-legal; few = omega arith };
-            same = rw (← h, i) at checking-body;
+            known = record { found = f; legal = checking_legal; few = omega arith };
+            same = rw (← h, i) at checking_body;
           }
 
-pub checking-end : (l lens : List ℕ) (n t at : ℕ) → Checking l lens n t at → n ≤ t → (Upto at ≡ typesEnd l n 0 (n + 1)) × (lens ≡ filled l n)
-unfolding typesEnd
-checking-end l lens n t at g h =
+pub checking_end : (l lens : List ℕ) (n t at : ℕ) → Checking l lens n t at → n ≤ t → (Upto at ≡ types_end_lem l n 0 (n + 1)) × (lens ≡ filled l n)
+unfolding types_end_lem
+checking_end l lens n t at g h =
     let e : n - t ≡ 0 = omega (arith, g.some) in
     let f : t ≡ n = omega (arith, g.some) in
     (rw e at g.same, rw f at g.known.found)
 
-pub typed-bad : (l : List ℕ) (n i : ℕ) (lens : List ℕ) → Bad i ≡ typesEnd l n 0 (n + 1) → Typed l n (Bad i) lens
+pub typed-bad : (l : List ℕ) (n i : ℕ) (lens : List ℕ) → Bad i ≡ types_end_lem l n 0 (n + 1) → Typed l n (Bad i) lens
 typed-bad l n i lens h = record { gives = h; found = λ e q. bad-upto i e q }
 
 pub tabled-bad : (l : List ℕ) (i : ℕ) (lens : List ℕ) → Bad i ≡ table_of l → Tabled l (Bad i) lens
 tabled-bad l i lens h = record { gives = h; found = λ n q. bad-upto i n q }
 
 pub tabled : (l : List ℕ) (n : ℕ) (lens : List ℕ) → Upto n ≡ table_of l → lens ≡ filled l n → Tabled l (Upto n) lens
-tabled l n lens h f = record { gives = h; found = λ m q. rw (← upto-inj n m q) f }
+tabled l n lens h f = record { gives = h; found = λ m q. rw (← upto_inj n m q) f }
 
 -- The types of an accepted table are legal.
-types-legal : (l : List ℕ) (k t at e : ℕ) → Bytes l → t + k < count l → Legal l t → typesEnd l k t at ≡ Upto e → Legal l (t + k)
-unfolding typesEnd
+types-legal : (l : List ℕ) (k t at e : ℕ) → Bytes l → t + k < count l → Legal l t → types_end_lem l k t at ≡ Upto e → Legal l (t + k)
+unfolding types_end_lem
 types-legal l zero t at e b i g h = rw add-zero g
 types-legal l (suc k) t at e b i g h =
-    let p = upto_left (eqb (word_at l (1 + t)) at) (onward (bodyEnd l t at) (λ i. typesEnd l k (t + 1) i)) (1 + t) e h in
-    let q = upto-onward (bodyEnd l t at) (λ i. typesEnd l k (t + 1) i) e p.1 in
+    let p = upto_left (eqb (word_at l (1 + t)) at) (onward (body_end_lem l t at) (λ i. types_end_lem l k (t + 1) i)) (1 + t) e h in
+    let q = upto-onward (body_end_lem l t at) (λ i. types_end_lem l k (t + 1) i) e p.1 in
     let r = legal-more l t g (body-legal l t at q.0 q.1 b (omega arith) (eqb-true _ _ p.0)) in
     let s : t + 1 + k ≡ t + suc k = omega arith in
     rw s at (types-legal l k (t + 1) q.0 e b (omega arith) r q.2)
@@ -451,15 +451,15 @@ unfolding Legal
 no-types l t h = absurd (omega arith)
 
 -- The number of types, where there is one.
-pub types-say : (l : List ℕ) (n : ℕ) → types_of l ≡ Upto n → (1 ≤ n) × (n ≤ 64) × (n < count l)
+pub types_say : (l : List ℕ) (n : ℕ) → types_of l ≡ Upto n → (1 ≤ n) × (n ≤ 64) × (n < count l)
 unfolding types_of
-types-say l n h =
+types_say l n h =
     let p = upto_left (eqb (length l % 4) 0) _ (count l) n h in
     let q = upto_left (ltb 0 (count l)) _ 0 n p.1 in
-    let r = upto_left (andAlso (ltb 0 (word_at l 0)) (leb (word_at l 0) 64)) _ 0 n q.1 in
+    let r = upto_left (and_also (ltb 0 (word_at l 0)) (leb (word_at l 0) 64)) _ 0 n q.1 in
     let s = upto_left (ltb (word_at l 0) (count l)) (Upto (word_at l 0)) (count l) n r.1 in
     let w = both_true (ltb 0 (word_at l 0)) (leb (word_at l 0) 64) r.0 in
-    let e : word_at l 0 ≡ n = upto-inj (word_at l 0) n s.1 in
+    let e : word_at l 0 ≡ n = upto_inj (word_at l 0) n s.1 in
     let some : 1 ≤ word_at l 0 = omega (arith, ltb-true 0 (word_at l 0) w.0) in
     let few : word_at l 0 ≤ 64 = leb-true (word_at l 0) 64 w.1 in
     let there : word_at l 0 < count l = ltb-true (word_at l 0) (count l) s.0 in
@@ -470,20 +470,20 @@ pub nothing_known : (l : List ℕ) → Known (replicate 64 0) l 0
 unfolding filled lengths
 nothing_known l = record { found = refl; legal = no-types l; few = omega arith }
 
-pub table-legal : (l : List ℕ) (n : ℕ) → Bytes l → table_of l ≡ Upto n → Legal l n × (1 ≤ n) × (n ≤ 64)
+pub table_legal : (l : List ℕ) (n : ℕ) → Bytes l → table_of l ≡ Upto n → Legal l n × (1 ≤ n) × (n ≤ 64)
 unfolding table_of
-table-legal l n b h =
+table_legal l n b h =
     let p = upto-onward (types_of l) _ n h in
-    let q = upto-onward (typesEnd l p.0 0 (p.0 + 1)) _ n p.2 in
+    let q = upto-onward (types_end_lem l p.0 0 (p.0 + 1)) _ n p.2 in
     let r = upto_left (eqb q.0 (count l)) (Upto p.0) q.0 n q.2 in
-    let e : p.0 ≡ n = upto-inj p.0 n r.1 in
-    let s = types-say l p.0 p.1 in
+    let e : p.0 ≡ n = upto_inj p.0 n r.1 in
+    let s = types_say l p.0 p.1 in
     let none : Legal l 0 = no-types l in
     let z : 0 + p.0 ≡ n = omega arith in
     (rw z at (types-legal l p.0 0 (p.0 + 1) q.0 b (omega (arith, s.2)) none q.1), omega (arith, s.0), omega (arith, s.1))
 
 -- What `table_of` leaves.
-pub table-known : (l lens : List ℕ) (n : ℕ) → Bytes l → table_of l ≡ Upto n → lens ≡ lengthsOf (table_of l) l → Known lens l n × (1 ≤ n)
-table-known l lens n b h e =
-    let g = table-legal l n b h in
+pub table_known : (l lens : List ℕ) (n : ℕ) → Bytes l → table_of l ≡ Upto n → lens ≡ lengths_of (table_of l) l → Known lens l n × (1 ≤ n)
+table_known l lens n b h e =
+    let g = table_legal l n b h in
     (record { found = e ∙ rw h; legal = g.0; few = g.2 }, g.1)

@@ -3,7 +3,7 @@ use Rattle.std.specs.Prelude.{ℕ, ◌+◌, ◌*◌, ◌≤◌, ◌<◌, ◌^◌
 use Rattle.standard.specs.Bytes.{word_at}
 use Rattle.standard.specs.Types.{head, width, portion, heads}
 use Rattle.layout.specs.Tree.{node_of, fields, trees, tree_of}
-use Rattle.layout.specs.Table.{count, leafWord}
+use Rattle.layout.specs.Table.{count, leaf_word}
 use Rattle.layout.specs.declared.Node.{Node}
 
 -- The n words from at on name types below t.
@@ -21,7 +21,7 @@ pub record LegalNode (l : List ℕ) (t : ℕ) (n : Node) : Type 0 where
   pub begun : n.at < count l
   pub near : n.at < 2 ^ 32
   pub small : n.second < 2 ^ 32
-  pub leaf : n.kind < 6 → (n.kind ≡ 1 → ⊥) → leafWord n.kind n.second ≡ true
+  pub leaf : n.kind < 6 → (n.kind ≡ 1 → ⊥) → leaf_word n.kind n.second ≡ true
   pub some : 6 ≤ n.kind → n.kind ≤ 7 → 1 ≤ n.second
   pub few : n.kind ≡ 6 → n.second ≤ 64
   pub within : 6 ≤ n.kind → n.kind ≤ 7 → n.at + 2 + n.second ≤ count l

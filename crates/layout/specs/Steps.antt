@@ -2,9 +2,9 @@
 use Rattle.std.specs.Prelude.{ℕ, ◌+◌, ◌≤◌, ◌<◌, ◌^◌, ◌≡◌, List, ltb}
 use Rattle.standard.specs.Choice.{pick}
 use Rattle.standard.specs.Bytes.{word_at}
-use Rattle.standard.specs.Types.{Tys, head, headAll, heads, portion}
-use Rattle.layout.specs.Tree.{leafOf, tree_of, len_of, filled}
-use Rattle.layout.specs.Table.{typesEnd, table_of}
+use Rattle.standard.specs.Types.{Tys, head, head_all, heads, portion}
+use Rattle.layout.specs.Tree.{leaf_of, tree_of, len_of, filled}
+use Rattle.layout.specs.Table.{types_end_lem, table_of}
 use Rattle.layout.specs.Legal.{Legal}
 use Rattle.layout.specs.declared.Node.{Node}
 use Rattle.layout.specs.declared.Sizes.{Sizes}
@@ -18,14 +18,14 @@ pub record Known (lens l : List ℕ) (k : ℕ) : Type 0 where
   pub few : k ≤ 64
 
 -- The fixed length of a type that is no container and no vector
-abbrev pub leafLen : Node → ℕ
-leafLen n = len_of (head (leafOf 0 n))
+abbrev pub leaf_len_lem : Node → ℕ
+leaf_len_lem n = len_of (head (leaf_of 0 n))
 
 -- Where the words of some fields end, what the fields take of a fixed portion, and their length, where 0 stands for variable size; or the
 -- first bad word alone
-unfoldable pub sizesOf : Checked → Tys → Sizes
-sizesOf (Bad w) ts = record { end = Bad w; portion = 0; length = 0 }
-sizesOf (Upto e) ts = record { end = Upto e; portion = portion (heads ts); length = len_of (headAll ts) }
+unfoldable pub sizes_of : Checked → Tys → Sizes
+sizes_of (Bad w) ts = record { end = Bad w; portion = 0; length = 0 }
+sizes_of (Upto e) ts = record { end = Upto e; portion = portion (heads ts); length = len_of (head_all ts) }
 
 -- r is the length of the type t, and lens' has it.
 pub record Lengthened (l : List ℕ) (known t r : ℕ) (lens' : List ℕ) : Type 0 where
@@ -39,7 +39,7 @@ pub record Ended (l : List ℕ) (t : ℕ) (x r : Checked) (lens' : List ℕ) : T
 
 -- r is where the n types end; if they do, lens' has their lengths.
 pub record Typed (l : List ℕ) (n : ℕ) (r : Checked) (lens' : List ℕ) : Type 0 where
-  pub gives : r ≡ typesEnd l n 0 (n + 1)
+  pub gives : r ≡ types_end_lem l n 0 (n + 1)
   pub found : (e : ℕ) → r ≡ Upto e → lens' ≡ filled l n
 
 -- r is what the table l says; if it is legal, lens' has its types' lengths.

@@ -1,8 +1,8 @@
 -- The check of a layout table: document 01, "Order of the check". Assumes nothing: these are definitions.
 use Rattle.std.specs.Prelude.{ℕ, zero, suc, ◌+◌, ◌*◌, ◌/◌, ◌%◌, List, Bool, true, false, length, get_or, replicate, eqb, ltb, leb}
-use Rattle.standard.specs.Choice.{pick, andAlso, or_else}
+use Rattle.standard.specs.Choice.{pick, and_also, or_else}
 use Rattle.standard.specs.Bytes.{word_at}
-use Rattle.standard.specs.Types.{boolean, isWidth, head, width, portion, heads}
+use Rattle.standard.specs.Types.{boolean, is_width, head, width, portion, heads}
 use Rattle.standard.specs.declared.Told.{Told}
 use Rattle.standard.specs.declared.Refusal.TheVariants.{BadLayout}
 use Rattle.layout.specs.Tree.{fields, trees, filled}
@@ -18,22 +18,22 @@ unfoldable pub count : List ℕ → ℕ
 count l = length l / 4
 
 -- "A body names only types of a lower number"; an option may be without body
-abbrev pub mayName : ℕ → ℕ → Bool → Bool
-mayName w t none = or_else (ltb w t) (andAlso none (eqb w 4294967295))
+abbrev pub may_name_lem : ℕ → ℕ → Bool → Bool
+may_name_lem w t none = or_else (ltb w t) (and_also none (eqb w 4294967295))
 
 -- The n words from at on are there, and name types below t, or no body where that may be
 unfoldable pub refs : List ℕ → ℕ → Bool → ℕ → ℕ → Checked
 refs l t none at zero = Upto at
 refs l t none at (suc n) =
     pick (ltb at (count l))
-    (pick (mayName (word_at l at) t none) (refs l t none (at + 1) n) (Bad at))
+    (pick (may_name_lem (word_at l at) t none) (refs l t none (at + 1) n) (Bad at))
     (Bad (count l))
 
 -- A number of 1 to most at the word behind at
 unfoldable pub counted : List ℕ → ℕ → ℕ → Checked
 counted l at most =
     pick (ltb (at + 1) (count l))
-    (pick (andAlso (ltb 0 (word_at l (at + 1))) (leb (word_at l (at + 1)) most)) (Upto (word_at l (at + 1))) (Bad (at + 1)))
+    (pick (and_also (ltb 0 (word_at l (at + 1))) (leb (word_at l (at + 1)) most)) (Upto (word_at l (at + 1))) (Bad (at + 1)))
     (Bad (count l))
 
 -- Where such a number, and as many references, end
@@ -41,52 +41,52 @@ unfoldable pub many : List ℕ → ℕ → ℕ → Bool → ℕ → Checked
 many l t at none most = onward (counted l at most) (λ n. refs l t none (at + 2) n)
 
 -- "A container's fixed portion .. is at most 4,294,967,295", "charged to the kind word"
-unfoldable pub containerEnd : List ℕ → ℕ → ℕ → Checked
-containerEnd l t at =
+unfoldable pub container_end_lem : List ℕ → ℕ → ℕ → Checked
+container_end_lem l t at =
     onward (many l t at false 64)
     (λ e. pick (leb (portion (heads (fields l (trees l t) (at + 2) (word_at l (at + 1))))) 4294967295) (Upto e) (Bad at))
 
 -- Where a list ends: its element's type, and any greatest count
-unfoldable pub listEnd : List ℕ → ℕ → ℕ → Checked
-listEnd l t at = onward (refs l t false (at + 1) 1) (λ e. pick (ltb e (count l)) (Upto (e + 1)) (Bad (count l)))
+unfoldable pub list_end_lem : List ℕ → ℕ → ℕ → Checked
+list_end_lem l t at = onward (refs l t false (at + 1) 1) (λ e. pick (ltb e (count l)) (Upto (e + 1)) (Bad (count l)))
 
 -- Where a vector ends: its element's type, and a count of at least 1. "Both vectors have the limit of a container's fixed portion"
-unfoldable pub vectorEnd : List ℕ → ℕ → ℕ → Checked
-vectorEnd l t at =
+unfoldable pub vector_end_lem : List ℕ → ℕ → ℕ → Checked
+vector_end_lem l t at =
     onward (refs l t false (at + 1) 1) (λ e.
     onward (counted l (at + 1) 4294967295) (λ n.
     pick (leb (n * width (head (get_or (trees l t) (word_at l (at + 1)) (boolean 0)))) 4294967295) (Upto (at + 3)) (Bad at)))
 
 -- What a leaf's word must be: a width; at least 1 for fixed bytes and bit vectors; any limit
-abbrev pub leafWord : ℕ → ℕ → Bool
-leafWord k w = pick (eqb k 0) (isWidth w) (pick (or_else (eqb k 2) (eqb k 4)) (ltb 0 w) true)
+abbrev pub leaf_word : ℕ → ℕ → Bool
+leaf_word k w = pick (eqb k 0) (is_width w) (pick (or_else (eqb k 2) (eqb k 4)) (ltb 0 w) true)
 
 -- Where a leaf with one word ends
-unfoldable pub leafEnd : List ℕ → ℕ → Checked
-leafEnd l at =
+unfoldable pub leaf_end_lem : List ℕ → ℕ → Checked
+leaf_end_lem l at =
     pick (ltb (at + 1) (count l))
-    (pick (leafWord (word_at l at) (word_at l (at + 1))) (Upto (at + 2)) (Bad (at + 1)))
+    (pick (leaf_word (word_at l at) (word_at l (at + 1))) (Upto (at + 2)) (Bad (at + 1)))
     (Bad (count l))
 
 -- Where the body of type t ends, which starts at the word at
-unfoldable pub bodyEnd : List ℕ → ℕ → ℕ → Checked
-bodyEnd l t at =
+unfoldable pub body_end_lem : List ℕ → ℕ → ℕ → Checked
+body_end_lem l t at =
     pick (ltb at (count l))
-    (pick (eqb (word_at l at) 6) (containerEnd l t at)
+    (pick (eqb (word_at l at) 6) (container_end_lem l t at)
     (pick (eqb (word_at l at) 7) (many l t at true 128)
-    (pick (eqb (word_at l at) 8) (listEnd l t at)
-    (pick (eqb (word_at l at) 9) (vectorEnd l t at)
+    (pick (eqb (word_at l at) 8) (list_end_lem l t at)
+    (pick (eqb (word_at l at) 9) (vector_end_lem l t at)
     (pick (eqb (word_at l at) 1) (Upto (at + 1))
-    (pick (ltb (word_at l at) 6) (leafEnd l at)
+    (pick (ltb (word_at l at) 6) (leaf_end_lem l at)
     (Bad at)))))))
     (Bad (count l))
 
 -- Where the k types from t on end, the first of which starts at the word at: "for each type its start word, kind, further words"
-unfoldable pub typesEnd : List ℕ → ℕ → ℕ → ℕ → Checked
-typesEnd l zero t at = Upto at
-typesEnd l (suc k) t at =
+unfoldable pub types_end_lem : List ℕ → ℕ → ℕ → ℕ → Checked
+types_end_lem l zero t at = Upto at
+types_end_lem l (suc k) t at =
     pick (eqb (word_at l (1 + t)) at)
-    (onward (bodyEnd l t at) (λ e. typesEnd l k (t + 1) e))
+    (onward (body_end_lem l t at) (λ e. types_end_lem l k (t + 1) e))
     (Bad (1 + t))
 
 -- "A cut last layout word is 20 at it, first"; "word 0; presence of words 1 to T": the number of types, or the first bad word
@@ -94,7 +94,7 @@ unfoldable pub types_of : List ℕ → Checked
 types_of l =
     pick (eqb (length l % 4) 0)
     (pick (ltb 0 (count l))
-    (pick (andAlso (ltb 0 (word_at l 0)) (leb (word_at l 0) 64))
+    (pick (and_also (ltb 0 (word_at l 0)) (leb (word_at l 0) 64))
     (pick (ltb (word_at l 0) (count l)) (Upto (word_at l 0)) (Bad (count l)))
     (Bad 0))
     (Bad 0))
@@ -104,14 +104,14 @@ types_of l =
 unfoldable pub table_of : List ℕ → Checked
 table_of l =
     onward (types_of l) (λ n.
-    onward (typesEnd l n 0 (n + 1)) (λ e.
+    onward (types_end_lem l n 0 (n + 1)) (λ e.
     pick (eqb e (count l)) (Upto n) (Bad e)))
 
 -- The types' fixed lengths where the table is legal, and nothing else
-abbrev pub lengthsOf : Checked → List ℕ → List ℕ
-lengthsOf (Bad w) l = replicate 64 0
-lengthsOf (Upto n) l = filled l n
+abbrev pub lengths_of : Checked → List ℕ → List ℕ
+lengths_of (Bad w) l = replicate 64 0
+lengths_of (Upto n) l = filled l n
 
-abbrev pub toldOf : Checked → Told
-toldOf (Bad w) = Told.Refused (BadLayout w)
-toldOf (Upto n) = Told.Fine
+abbrev pub told_of : Checked → Told
+told_of (Bad w) = Told.Refused (BadLayout w)
+told_of (Upto n) = Told.Fine

@@ -1,12 +1,12 @@
 // The check of a layout table, lent as its little-endian bytes, with the fixed length of each of its types.
 ghost use Rattle.std.specs.Prelude.{◌≡◌, ◌+◌, ◌≤◌, ◌<◌, ◌^◌, set, true, false};
 ghost use Rattle.standard.specs.Bytes.{word_at};
-ghost use Rattle.standard.specs.Types.{isWidth, width};
+ghost use Rattle.standard.specs.Types.{is_width, width};
 ghost use Rattle.layout.specs.Tree.{node_of, fields, trees, head_of};
-ghost use Rattle.layout.specs.Table.{count, mayName, refs, counted, many, containerEnd, listEnd, vectorEnd, leafWord, leafEnd, bodyEnd, typesEnd, types_of, table_of, lengthsOf, toldOf};
+ghost use Rattle.layout.specs.Table.{count, may_name_lem, refs, counted, many, container_end_lem, list_end_lem, vector_end_lem, leaf_word, leaf_end_lem, body_end_lem, types_end_lem, types_of, table_of, lengths_of, told_of};
 ghost use Rattle.layout.specs.declared.Checked.TheVariants.{Bad};
 ghost use Rattle.layout.specs.Legal.{Legal};
-ghost use Rattle.layout.specs.Steps.{Known, leafLen, sizesOf, Lengthened, Ended, Typed, Tabled};
+ghost use Rattle.layout.specs.Steps.{Known, leaf_len_lem, sizes_of, Lengthened, Ended, Typed, Tabled};
 
 use standard::words::{four_at, word_at};
 use standard::{Refusal, Told};
@@ -69,7 +69,7 @@ fn look(layout: &[u8], t: usize) -> Node
 
 // A word names a type below t, or no body where that may be.
 fn may_name(w: usize, t: usize, none: bool) -> bool
-    ensures { result ≡ mayName w t none }
+    ensures { result ≡ may_name_lem w t none }
 {
     if w < t {
         true
@@ -143,7 +143,7 @@ fn width_of(len: usize) -> usize
 
 // A width that a number may have.
 fn width_ok(w: usize) -> bool
-    ensures { result ≡ isWidth w }
+    ensures { result ≡ is_width w }
 {
     match w {
         1 => true,
@@ -158,7 +158,7 @@ fn width_ok(w: usize) -> bool
 
 // What the word of a leaf must be.
 fn leaf_ok(kind: usize, w: usize) -> bool
-    ensures { result ≡ leafWord kind w }
+    ensures { result ≡ leaf_word kind w }
 {
     if kind == 0 {
         return width_ok(w);
@@ -175,7 +175,7 @@ fn leaf_ok(kind: usize, w: usize) -> bool
 // The fixed length of a type that is no container and no vector.
 fn leaf_len(n: Node) -> usize
     requires { n.second < 2 ^ 32 }
-    ensures { result ≡ leafLen n }
+    ensures { result ≡ leaf_len_lem n }
 {
     if n.kind == 0 {
         return n.second;
@@ -195,7 +195,7 @@ fn leaf_len(n: Node) -> usize
 // Remembers the fixed length of the type t, which is no container and no vector.
 fn keep(lens: &mut [u32; 64], t: usize, n: Node)
     requires { (t < 64) × (n.second < 2 ^ 32) }
-    ensures { lens.new ≡ set lens.old t (leafLen n) }
+    ensures { lens.new ≡ set lens.old t (leaf_len_lem n) }
 {
     lens[t] = leaf_len(n) as u32;
 }
@@ -203,7 +203,7 @@ fn keep(lens: &mut [u32; 64], t: usize, n: Node)
 // A leaf with one word behind its kind; its length goes to `lens`.
 fn leaf_end(lens: &mut [u32; 64], layout: &[u8], t: usize, kind: usize, at: usize) -> Checked
     requires { Known lens.old layout.now t × (t < 64) × (at < 2 ^ 32) × (at ≡ word_at layout.now (1 + t)) × (kind ≡ word_at layout.now at) × (kind < 6) }
-    ensures { Ended layout.now t (leafEnd layout.now at) result lens.new }
+    ensures { Ended layout.now t (leaf_end_lem layout.now at) result lens.new }
 {
     let words = layout.len() / 4;
     let next = at + 1;
@@ -280,7 +280,7 @@ fn fields_len(
     n: usize,
 ) -> Sizes
     requires { Known lens.old layout.now known × (t ≤ known) × (n ≤ 64) × (a0 < 2 ^ 62) × (a0 + n ≤ count layout.now) }
-    ensures value { result ≡ sizesOf (refs layout.now t false a0 n) (fields layout.now (trees layout.now t) a0 n) }
+    ensures value { result ≡ sizes_of (refs layout.now t false a0 n) (fields layout.now (trees layout.now t) a0 n) }
     ensures lens_unchanged { lens.new ≡ lens.old }
 {
     let mut a = a0;
@@ -312,7 +312,7 @@ fn fields_len(
 // The container t at the word at: a number of fields, their words, and a fixed portion that fits an offset; its length goes to `lens`.
 fn container_end(lens: &mut [u32; 64], layout: &[u8], t: usize, at: usize) -> Checked
     requires { Known lens.old layout.now t × (t < 64) × (at < 2 ^ 32) × (at ≡ word_at layout.now (1 + t)) × (word_at layout.now at ≡ 6) }
-    ensures { Ended layout.now t (containerEnd layout.now t at) result lens.new }
+    ensures { Ended layout.now t (container_end_lem layout.now t at) result lens.new }
 {
     let fields = count_at(layout, at, 64);
     match fields {
@@ -342,7 +342,7 @@ fn container_end(lens: &mut [u32; 64], layout: &[u8], t: usize, at: usize) -> Ch
 // The list t at the word at: its element's type, and any greatest count.
 fn list_end(layout: &[u8], t: usize, at: usize) -> Checked
     requires { at ≤ 2 ^ 61 }
-    ensures { result ≡ listEnd layout.now t at }
+    ensures { result ≡ list_end_lem layout.now t at }
 {
     let words = layout.len() / 4;
     let named = refs_end(layout, t, false, at + 1, 1);
@@ -362,7 +362,7 @@ fn list_end(layout: &[u8], t: usize, at: usize) -> Checked
 // An element of variable size has the length 0 there, and so has the vector.
 fn vector_end(lens: &mut [u32; 64], layout: &[u8], t: usize, at: usize) -> Checked
     requires { Known lens.old layout.now t × (t < 64) × (at < 2 ^ 32) × (at ≡ word_at layout.now (1 + t)) × (word_at layout.now at ≡ 9) }
-    ensures { Ended layout.now t (vectorEnd layout.now t at) result lens.new }
+    ensures { Ended layout.now t (vector_end_lem layout.now t at) result lens.new }
 {
     let named = refs_end(layout, t, false, at + 1, 1);
     match named {
@@ -388,7 +388,7 @@ fn vector_end(lens: &mut [u32; 64], layout: &[u8], t: usize, at: usize) -> Check
 // Where the body of type t ends, which starts at the word at; its length goes to `lens`.
 fn body_end(lens: &mut [u32; 64], layout: &[u8], t: usize, at: usize) -> Checked
     requires { Known lens.old layout.now t × (t < 64) × (at < 2 ^ 32) × (at ≡ word_at layout.now (1 + t)) }
-    ensures { Ended layout.now t (bodyEnd layout.now t at) result lens.new }
+    ensures { Ended layout.now t (body_end_lem layout.now t at) result lens.new }
 {
     let words = layout.len() / 4;
     if at >= words {
@@ -497,7 +497,7 @@ fn table_end(lens: &mut [u32; 64], layout: &[u8]) -> Checked
 // The number of types of a legal table, or the first bad word. `lens` gets the types' lengths, and 0 for all others.
 pub fn table_of(lens: &mut [u32; 64], layout: &[u8]) -> Checked
     ensures value { result ≡ table_of layout.now }
-    ensures lens_after { lens.new ≡ lengthsOf (table_of layout.now) layout.now }
+    ensures lens_after { lens.new ≡ lengths_of (table_of layout.now) layout.now }
 {
     *lens = [0; 64];
     let c = table_end(lens, layout);
@@ -512,7 +512,7 @@ pub fn table_of(lens: &mut [u32; 64], layout: &[u8]) -> Checked
 
 // The check of a layout table: 20 with the first bad word.
 pub fn layout_check(layout: &[u8]) -> Told
-    ensures { result ≡ toldOf (table_of layout.now) }
+    ensures { result ≡ told_of (table_of layout.now) }
 {
     let mut lens = [0u32; 64];
     let c = table_of(&mut lens, layout);

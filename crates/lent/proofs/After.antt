@@ -42,20 +42,20 @@ use denote.Triple.Walked.{says, walk_of, Walks, ends_at, walked, walk_Meets}
 use Rattle.standard.specs.declared.Told.{Told}
 use Rattle.standard.specs.contracts.Told as O
 use Rattle.standard.proofs.Told.TheLaws as O'
-use Rattle.lent.proofs.Values.{Kind, Values, machines, Goods, stays, rows, taken, given, taken-given, spells, spelled, tell, flat-is, flat-given, goods}
-use Rattle.lent.proofs.Values.{lasts, fits, still-had, had, go, Held, machine, kind, pair, pair-laws, pair-plain, paired, pair_is, spell-told}
+use Rattle.lent.proofs.Values.{Kind, Values, machines, Goods, stays, rows, taken, given, taken-given, spells, spelled, tell, flat_is, flat-given, goods}
+use Rattle.lent.proofs.Values.{lasts, fits, still_had, had, go, Held, machine, kind, pair, pair-laws, pair-plain, paired, pair_is, spell_told}
 use Rattle.lent.proofs.Locals.{locals, copies, Numbers, alloc_all, pass_all, free_all, from_at, operands, read_all}
-use Rattle.lent.proofs.Contracts.{by_value, by-reference, value-clauses, reference-clauses, ByValue, ByReference}
+use Rattle.lent.proofs.Contracts.{by_value, by_reference, value_clauses, reference_clauses, ByValue, ByReference}
 use Rattle.lent.proofs.Land.{spelled_as}
-use Rattle.lent.proofs.Lends.{refTo, lend, back}
+use Rattle.lent.proofs.Lends.{ref_to, lend, back}
 
 module _ (B : Held) (ks : List Kind) (N : Numbers ks) (f : Name) where
   abbrev lies : Ty
   lies = layout (shape B.the)
 
   -- let mut field = b; let told = f(&mut field, args); Pair { field, told }
-  abbrev pub lends-own : Fn
-  lends-own = record {
+  abbrev pub lends_own : Fn
+  lends_own = record {
     lifetimes = 0;
     outlives = [];
     params = N.params;
@@ -90,13 +90,13 @@ module _ (B : Held) (ks : List Kind) (answer : B.the.D → Values ks → B.Pair)
 
     -- what the call is passed, where the local lies at l, and that it can be passed
     abbrev to : ℕ → ℕ → GName → Call.Ghost
-    to l ν γ = (((at ν), (full_share, tt), tt, (refTo h l 0 γ, sent ν), (vptr l 0 ∷ [], spelled 1 (at ν) ks (sent ν))), tt)
+    to l ν γ = (((at ν), (full_share, tt), tt, (ref_to h l 0 γ, sent ν), (vptr l 0 ∷ [], spelled 1 (at ν) ks (sent ν))), tt)
 
     asked : (l ν : ℕ) (γ : GName)
-        → ent 𝓤 (sep 𝓤 (A.lft (ν ∷ []) full_share) (sem 𝓛 ((MutRef (named 0) (ν ∷ []) R).own_val (refTo h l 0 γ) (vptr l 0 ∷ []))))
+        → ent 𝓤 (sep 𝓤 (A.lft (ν ∷ []) full_share) (sem 𝓛 ((MutRef (named 0) (ν ∷ []) R).own_val (ref_to h l 0 γ) (vptr l 0 ∷ []))))
         (Call.pre (to l ν γ))
     asked l ν γ =
-        qed 𝓛 (‵ (flft (ν ∷ []) full_share) ∷ ‵ ((MutRef (named 0) (ν ∷ []) R).own_val (refTo h l 0 γ) (vptr l 0 ∷ [])) ∷ []) ∵
+        qed 𝓛 (‵ (flft (ν ∷ []) full_share) ∷ ‵ ((MutRef (named 0) (ν ∷ []) R).own_val (ref_to h l 0 γ) (vptr l 0 ∷ [])) ∷ []) ∵
         nothing ! $ move ! (1 ∷ 0 ∷ []) $ join ! $
         use0 𝓛 (‵ (owns (rows 1 (at ν) ks) (sent ν) (spelled 1 (at ν) ks (sent ν)))) (had 1 𝓛 (at ν) ks a ok) $
         move ! (2 ∷ 0 ∷ []) $ fjoin ! $ move ! (1 ∷ 0 ∷ []) $ join ! $ frame ! $ done !
@@ -106,12 +106,12 @@ module _ (B : Held) (ks : List Kind) (answer : B.the.D → Values ks → B.Pair)
     Said ν z t = B.left z t ≡ answer h (taken 1 (at ν) ks (given 1 (at ν) ks a))
 
     module _ (N : Numbers ks) (f : Name) (mine : Fml) (Post : Val → SProp 𝓤)
-        (exits : (z : B.the.D) (t : Told) → Is R z (machine B z ∷ []) → Is O.the_row t (spell-told t ∷ []) → B.left z t ≡ answer h a
+        (exits : (z : B.the.D) (t : Told) → Is R z (machine B z ∷ []) → Is O.the_row t (spell_told t ∷ []) → B.left z t ≡ answer h a
         → ent 𝓤 (sem 𝓛 mine) (Post (paired B z t)))
         (C : Calls 𝓤 H) (Λ : Loops 𝓤 H) (fm : FmC 𝓤 H 𝓛.laws C) (known : Triple 𝓤 (C f) Call) where
-      walk : ent 𝓤 (sep 𝓤 (emp 𝓤) (sem 𝓛 mine)) (WpFn 𝓤 H C Λ (lends-own B ks N f) (machine B h ∷ machines ks a) Post)
+      walk : ent 𝓤 (sep 𝓤 (emp 𝓤) (sem 𝓛 mine)) (WpFn 𝓤 H C Λ (lends_own B ks N f) (machine B h ∷ machines ks a) Post)
       walk =
-          qed 𝓛 (‵ ftrue ∷ ‵ mine ∷ []) ∵ drop ! $ enter ! C Λ (lends-own B ks N f) (machine B h ∷ machines ks a) _ $
+          qed 𝓛 (‵ ftrue ∷ ‵ mine ∷ []) ∵ drop ! $ enter ! C Λ (lends_own B ks N f) (machine B h ∷ machines ks a) _ $
           alloc1 ! (λ l₀. alloc1 ! (λ l₁. alloc_all ! ks (λ bs. alloc1 ! (λ l₂. alloc1 ! (λ l₃. alloc1 ! (λ l₄. alloc1 ! (λ l₅. alloc0 ! $ params1 ! $
           pass1 ! (init ! 9 refl ((kind B).typed 𝓛 h is-h)) $ move ! (8 ∷ []) $ pass_all ! ks bs a ok ((τ, l₂) ∷
           (lone (O.the_row).mir, l₃) ∷ (ty_ref erased mut (pointee R.written), l₄) ∷ (τ, l₅) ∷ []) $
@@ -128,10 +128,10 @@ module _ (B : Held) (ks : List Kind) (answer : B.the.D → Values ks → B.Pair)
           (and_then ! (load ! (from_at ! (N.at₂ _ _ bs _ _ _ _) (stop !)) (look ! 5 refl))
           (read_all ! ks bs a N.args (N.lie _ _ bs _) (λ σ p v back part. look_in ! 2 part)))) (λ u.
           use1 𝓛 (later (some (λ (t : Told). ((‵ (flft (ν ∷ []) full_share) ⊛ ‵ ftrue) ⊛ ‵ ((O.the_row).own_val t (u ∷ []))) ⊛ raw
-          (ensured 𝓛 (by-reference B ks) (reference-clauses B ks answer 𝓤) (at ν) (refTo h l₂ 0 γ, sent ν) tt t)))) (id⊢ 𝓤 _) $
+          (ensured 𝓛 (by_reference B ks) (reference_clauses B ks answer 𝓤) (at ν) (ref_to h l₂ 0 γ, sent ν) tt t)))) (id⊢ 𝓤 _) $
           await ! tt $ pick ! (λ t. split ! $ move ! (1 ∷ []) $
-          use1 𝓛 (some (λ (zs : Clauses.Lasts (by-reference B ks) (at ν) (refTo h l₂ 0 γ, sent ν)).
-          ‵ (Clauses.lasts (by-reference B ks) (at ν) (refTo h l₂ 0 γ, sent ν) zs) ⊛ raw (fact 𝓤 (Said ν zs.0 t)))) (id⊢ 𝓤 _) $ pick ! (λ zs.
+          use1 𝓛 (some (λ (zs : Clauses.Lasts (by_reference B ks) (at ν) (ref_to h l₂ 0 γ, sent ν)).
+          ‵ (Clauses.lasts (by_reference B ks) (at ν) (ref_to h l₂ 0 γ, sent ν) zs) ⊛ raw (fact 𝓤 (Said ν zs.0 t)))) (id⊢ 𝓤 _) $ pick ! (λ zs.
           split ! $ move ! (1 ∷ []) $ heard ! (Said ν zs.0 t) (λ e. fsplit ! $ move ! (2 ∷ []) $ split ! $ split ! $ move ! (2 ∷ []) $
           -- [what is told; the token; true; the last value; those of the arguments; the lender's part; the arguments; room for the copy; …]
           peeks ! O.the_row (Is O.the_row) (shows 𝓛 O.the_row) t (u ∷ [])
@@ -155,48 +155,48 @@ module _ (B : Held) (ks : List Kind) (answer : B.the.D → Values ks → B.Pair)
 
   -- at the contract's own binders: what the function has at exit is what the contract asks
   module _ (a : Denots (rows 0 tt (kind B ∷ ks))) where
-    abbrev bound : (walk_of 𝓛 (by_value B ks) (stays 0 (kind B ∷ ks)) (value-clauses B ks answer 𝓤)).Ghost
+    abbrev bound : (walk_of 𝓛 (by_value B ks) (stays 0 (kind B ∷ ks)) (value_clauses B ks answer 𝓤)).Ghost
     bound = ((tt, tt, tt, a, spelled 0 tt (kind B ∷ ks) a), tt)
 
     abbrev Ends : Val → SProp 𝓤
-    Ends = (walk_of 𝓛 (by_value B ks) (stays 0 (kind B ∷ ks)) (value-clauses B ks answer 𝓤)).post bound
+    Ends = (walk_of 𝓛 (by_value B ks) (stays 0 (kind B ∷ ks)) (value_clauses B ks answer 𝓤)).post bound
 
     abbrev mine : Fml
     mine = owns (rows 0 tt (kind B ∷ ks)) a (spelled 0 tt (kind B ∷ ks) a)
 
-    exits : (z : B.the.D) (t : Told) → Is R z (machine B z ∷ []) → Is O.the_row t (spell-told t ∷ []) → B.left z t ≡ answer a.0 (taken 0 tt ks a.1)
+    exits : (z : B.the.D) (t : Told) → Is R z (machine B z ∷ []) → Is O.the_row t (spell_told t ∷ []) → B.left z t ≡ answer a.0 (taken 0 tt ks a.1)
         → ent 𝓤 (sem 𝓛 mine) (Ends (paired B z t))
     exits z t is-z is-t e =
         qed 𝓛 (‵ mine ∷ []) ∵
-        suffices ! _ (ends_at 𝓛 (by_value B ks) (stays 0 (kind B ∷ ks)) (value-clauses B ks answer 𝓤) bound (paired B z t) (B.left z t)
+        suffices ! _ (ends_at 𝓛 (by_value B ks) (stays 0 (kind B ∷ ks)) (value_clauses B ks answer 𝓤) bound (paired B z t) (B.left z t)
         (lasts 0 tt (kind B ∷ ks) a) (fits 0 tt (kind B ∷ ks) a)) $ says ! e $
-        rewrite ! 0 (λ (P : Fml). ‵ P) (still-had 0 tt (kind B ∷ ks) a (spelled 0 tt (kind B ∷ ks) a)) refl $ nothing ! $ frame ! $ frame ! $
+        rewrite ! 0 (λ (P : Fml). ‵ P) (still_had 0 tt (kind B ∷ ks) a (spelled 0 tt (kind B ∷ ks) a)) refl $ nothing ! $ frame ! $ frame ! $
         owned ! (row (pair B)) (Is (row (pair B))) (LL.makes (pair B) (pair-plain B) 𝓛) (B.left z t) _ (pair_is B z t is-z is-t) $ done !
 
   module _ (N : Numbers ks) (f : Name) where
     walks : (C : Calls 𝓤 H) (Λ : Loops 𝓤 H) → FmC 𝓤 H 𝓛.laws C → Triple 𝓤 (C f) Call
-        → Walks 𝓛 (by_value B ks) (stays 0 (kind B ∷ ks)) (WpFn 𝓤 H C Λ (lends-own B ks N f)) (value-clauses B ks answer 𝓤)
-    walks C Λ fm known = walked 𝓛 (by_value B ks) (stays 0 (kind B ∷ ks)) (value-clauses B ks answer 𝓤) (WpFn 𝓤 H C Λ (lends-own B ks N f))
+        → Walks 𝓛 (by_value B ks) (stays 0 (kind B ∷ ks)) (WpFn 𝓤 H C Λ (lends_own B ks N f)) (value_clauses B ks answer 𝓤)
+    walks C Λ fm known = walked 𝓛 (by_value B ks) (stays 0 (kind B ∷ ks)) (value_clauses B ks answer 𝓤) (WpFn 𝓤 H C Λ (lends_own B ks N f))
         (λ κs. spells 0 κs (kind B ∷ ks)) (λ κs. tell 0 κs (kind B ∷ ks))
         (λ κs qs bounds a g are. via 𝓤 _ (fst∗ 𝓤 _ (emp 𝓤)) (subst (λ (us : List Val).
-        ent 𝓤 (on_entry 𝓛 (by_value B ks).signature κs qs a (spelled 0 κs (kind B ∷ ks) a)) (WpFn 𝓤 H C Λ (lends-own B ks N f) us (Ends a)))
-        (sym (flat-is 0 κs (kind B ∷ ks) a))
+        ent 𝓤 (on_entry 𝓛 (by_value B ks).signature κs qs a (spelled 0 κs (kind B ∷ ks) a)) (WpFn 𝓤 H C Λ (lends_own B ks N f) us (Ends a)))
+        (sym (flat_is 0 κs (kind B ∷ ks) a))
         (walk a.0 (taken 0 κs ks a.1) are.0 (goods 0 κs ks a.1 are.1) N f (mine a) (Ends a) (exits a) C Λ fm known)))
 
     meets : (𝓣 : Tables 𝓤 H) → Triple 𝓤 (𝓣.C f) Call
-        → Triple 𝓤 (WpFn 𝓤 H 𝓣.C 𝓣.Λ (lends-own B ks N f)) (ByValue B ks answer 𝓤 𝓛)
+        → Triple 𝓤 (WpFn 𝓤 H 𝓣.C 𝓣.Λ (lends_own B ks N f)) (ByValue B ks answer 𝓤 𝓛)
     meets 𝓣 known =
         walk_Meets 𝓛 (by_value B ks) (stays 0 (kind B ∷ ks)) (go 0 𝓛 (kind B ∷ ks))
-        (value-clauses B ks answer 𝓤) (WpFn 𝓤 H 𝓣.C 𝓣.Λ (lends-own B ks N f)) (WpFn-mono 𝓤 H 𝓛.laws 𝓣 (lends-own B ks N f))
+        (value_clauses B ks answer 𝓤) (WpFn 𝓤 H 𝓣.C 𝓣.Λ (lends_own B ks N f)) (WpFn-mono 𝓤 H 𝓛.laws 𝓣 (lends_own B ks N f))
         (walks 𝓣.C 𝓣.Λ (fm_of 𝓤 H 𝓛.laws 𝓣) known)
 
 -- the function's routine meets its contract, from that of the function which it calls
 pub after : (B : Held) (ks : List Kind) (N : Numbers ks) (answer : B.the.D → Values ks → B.Pair) {M : Type 1} {𝓤 : Ura M} (𝓛 : Logic 𝓤) (𝓜 : Model 𝓤 𝓛.H)
     (𝓡 : Running 𝓤 𝓛.H 𝓜) (env : Env) (key f : Name) (r : Routine)
-    → Closed 𝓤 𝓛.H (tables 𝓤 𝓛.H 𝓜 𝓡 env).C (tables 𝓤 𝓛.H 𝓜 𝓡 env).Λ key (lends-own B ks N f) → env f ≡ r
+    → Closed 𝓤 𝓛.H (tables 𝓤 𝓛.H 𝓜 𝓡 env).C (tables 𝓤 𝓛.H 𝓜 𝓡 env).Λ key (lends_own B ks N f) → env f ≡ r
     → Triple 𝓤 (𝓡.run r) (ByReference B ks answer 𝓤 𝓛) → Triple 𝓤 (𝓡.run (env key)) (ByValue B ks answer 𝓤 𝓛)
 unfolding tables_of
 after B ks N answer {𝓤 = 𝓤} 𝓛 𝓜 𝓡 env key f r closed calls known =
-    entered 𝓤 𝓛.H (ByValue B ks answer 𝓤 𝓛) (tables 𝓤 𝓛.H 𝓜 𝓡 env).C (tables 𝓤 𝓛.H 𝓜 𝓡 env).Λ key (lends-own B ks N f) closed
+    entered 𝓤 𝓛.H (ByValue B ks answer 𝓤 𝓛) (tables 𝓤 𝓛.H 𝓜 𝓡 env).C (tables 𝓤 𝓛.H 𝓜 𝓡 env).Λ key (lends_own B ks N f) closed
     (meets B ks answer 𝓛 N f (tables_of 𝓤 𝓛.H 𝓜 (tables 𝓤 𝓛.H 𝓜 𝓡 env))
     (cited 𝓤 𝓛.H (ByReference B ks answer 𝓤 𝓛) 𝓜 𝓡 env f r calls known))

@@ -24,8 +24,8 @@ module _ (B : Held) (ks : List Kind) where
     kept = all yes (slots 0 (kind B ∷ ks));
   }
 
-  abbrev pub by-reference : Ended
-  by-reference = record {
+  abbrev pub by_reference : Ended
+  by_reference = record {
     signature = record {
       lifetimes = 1;
       outlives = [];
@@ -36,15 +36,15 @@ module _ (B : Held) (ks : List Kind) where
   }
 
   module _ (answer : B.the.D → Values ks → B.Pair) {M : Type 1} (𝓤 : Ura M) where
-    abbrev pub value-clauses : Clauses 𝓤 by_value
-    value-clauses κs a = record {
+    abbrev pub value_clauses : Clauses 𝓤 by_value
+    value_clauses κs a = record {
       ghost = Unit {0};
       requires = λ g. emp 𝓤;
       ensures = λ g r e. fact 𝓤 (r ≡ answer a.0 (taken 0 κs ks a.1));
     }
 
-    abbrev pub reference-clauses : Clauses 𝓤 by-reference
-    reference-clauses κs a = record {
+    abbrev pub reference_clauses : Clauses 𝓤 by_reference
+    reference_clauses κs a = record {
       ghost = Unit {0};
       requires = λ g. emp 𝓤;
       ensures = λ g r e. fact 𝓤 (B.left e.0.now r ≡ answer a.0.now (taken 1 κs ks a.1));
@@ -52,7 +52,7 @@ module _ (B : Held) (ks : List Kind) where
 
     module _ (𝓛 : Logic 𝓤) where
       abbrev pub ByValue : Contract 𝓤
-      ByValue = triple_of 𝓛 by_value.signature (closing 𝓛 by_value value-clauses)
+      ByValue = triple_of 𝓛 by_value.signature (closing 𝓛 by_value value_clauses)
 
       abbrev pub ByReference : Contract 𝓤
-      ByReference = triple_of 𝓛 by-reference.signature (closing 𝓛 by-reference reference-clauses)
+      ByReference = triple_of 𝓛 by_reference.signature (closing 𝓛 by_reference reference_clauses)

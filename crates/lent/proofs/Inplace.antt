@@ -44,11 +44,11 @@ use denote.Triple.Walked.{says, Stays, stay_ref, walk_of, Goes-ref, Walks, ends_
 use Rattle.standard.specs.contracts.Told as O
 use Rattle.standard.proofs.Told.TheLaws as O'
 use Rattle.lent.proofs.Values.{Kind, Values, machines, Goods, stays, rows, taken, given, taken-given, spells, spelled, tell}
-use Rattle.lent.proofs.Values.{flat-is, flat-given, goods, lasts, fits, still-had, had, go, Held, machine, kind, pair, pair-laws, spell-told}
+use Rattle.lent.proofs.Values.{flat_is, flat-given, goods, lasts, fits, still_had, had, go, Held, machine, kind, pair, pair-laws, spell_told}
 use Rattle.lent.proofs.Locals.{locals, copies, Numbers, alloc_all, pass_all, free_all, from_at, operands, read_all}
-use Rattle.lent.proofs.Contracts.{by_value, by-reference, value-clauses, reference-clauses, ByValue, ByReference}
+use Rattle.lent.proofs.Contracts.{by_value, by_reference, value_clauses, reference_clauses, ByValue, ByReference}
 use Rattle.lent.proofs.Land.{spelled_as}
-use Rattle.lent.proofs.Lends.{refTo}
+use Rattle.lent.proofs.Lends.{ref_to}
 
 module _ (B : Held) (ks : List Kind) (N : Numbers ks) (f : Name) where
   abbrev lies : Ty
@@ -68,7 +68,7 @@ module _ (B : Held) (ks : List Kind) (N : Numbers ks) (f : Name) where
         (seq (assign (place 0 []) (rv_opd (copy (place N.next₀ (field 1 ∷ []))))) return)));
   }
 
-abbrev stayed : (B : Held) (ks : List Kind) → Stays (by-reference B ks).signature.params (by-reference B ks).kept
+abbrev stayed : (B : Held) (ks : List Kind) → Stays (by_reference B ks).signature.params (by_reference B ks).kept
 stayed B ks = (stay_ref (0 ∷ []) tt (plain (λ _. row B.the)), stays 1 ks)
 
 module _ (B : Held) (ks : List Kind) (answer : B.the.D → Values ks → B.Pair) {M : Type 1} {𝓤 : Ura M} (𝓛 : Logic 𝓤) where
@@ -99,20 +99,20 @@ module _ (B : Held) (ks : List Kind) (answer : B.the.D → Values ks → B.Pair)
         owned ! R (Is R) ((kind B).makes 𝓛) h _ is-h $ fjoin ! $ move ! (1 ∷ 0 ∷ []) $ join ! $ frame ! $ done !
 
     -- of the method's `ensured`, the clause alone: it has no `&mut`, so what is said of last values is dropped
-    said : (r : B.Pair) → ent 𝓤 (ensured 𝓛 (by_value B ks) (value-clauses B ks answer 𝓤) tt (h, given 0 tt ks a) tt r)
+    said : (r : B.Pair) → ent 𝓤 (ensured 𝓛 (by_value B ks) (value_clauses B ks answer 𝓤) tt (h, given 0 tt ks a) tt r)
         (fact 𝓤 (r ≡ answer h (taken 0 tt ks (given 0 tt ks a))))
     said r =
         ex_e 𝓤 _ (λ ws. snd∗ 𝓤 (sem 𝓛 (Clauses.lasts (by_value B ks) tt (h, given 0 tt ks a) ws)) (fact 𝓤 (r ≡ answer h (taken 0 tt ks (given 0 tt ks a)))))
 
     module _ (N : Numbers ks) (f : Name) (κ : Lft) (q : Share) (b o : ℕ) (γ : GName) (rest : Fml) (Post : Val → SProp 𝓤)
-        (exits : (r : B.Pair) → Is O.the_row (B.told r) (spell-told (B.told r) ∷ []) → r ≡ answer h a
+        (exits : (r : B.Pair) → Is O.the_row (B.told r) (spell_told (B.told r) ∷ []) → r ≡ answer h a
         → ent 𝓤 (sep 𝓤 (A.obs γ (R.coded.code (B.held r))) (sep 𝓤 (A.bor κ (Body (mem R) b o γ)) (sep 𝓤 (A.lft κ q) (sem 𝓛 rest))))
-        (Post (spell-told (B.told r))))
+        (Post (spell_told (B.told r))))
         (C : Calls 𝓤 H) (Λ : Loops 𝓤 H) (fm : FmC 𝓤 H 𝓛.laws C) (known : Triple 𝓤 (C f) Method) where
-      walk : ent 𝓤 (sep 𝓤 (sep 𝓤 (A.lft κ q) (emp 𝓤)) (sem 𝓛 (fsep ((MutRef (named 0) κ R).own_val (refTo h b o γ) (vptr b o ∷ [])) rest)))
+      walk : ent 𝓤 (sep 𝓤 (sep 𝓤 (A.lft κ q) (emp 𝓤)) (sem 𝓛 (fsep ((MutRef (named 0) κ R).own_val (ref_to h b o γ) (vptr b o ∷ [])) rest)))
           (WpFn 𝓤 H C Λ (changes B ks N f) (vptr b o ∷ machines ks a) Post)
       walk =
-          qed 𝓛 ((‵ (flft κ q) ⊛ ‵ ftrue) ∷ ‵ (fsep ((MutRef (named 0) κ R).own_val (refTo h b o γ) (vptr b o ∷ [])) rest) ∷ []) ∵
+          qed 𝓛 ((‵ (flft κ q) ⊛ ‵ ftrue) ∷ ‵ (fsep ((MutRef (named 0) κ R).own_val (ref_to h b o γ) (vptr b o ∷ [])) rest) ∷ []) ∵
           split ! $ move ! (2 ∷ []) $ fsplit ! $ fsplit3 ! $ drop ! $ move ! (0 ∷ 1 ∷ 3 ∷ []) $
           -- [obs; the borrow; the token; what the other parameters own; true]
           enter ! C Λ (changes B ks N f) (vptr b o ∷ machines ks a) _ $
@@ -130,7 +130,7 @@ module _ (B : Held) (ks : List Kind) (answer : B.the.D → Values ks → B.Pair)
           (and_then ! (load ! (from_at ! (N.at₁ _ _ bs _ _ []) (stop !)) (look ! 7 refl))
           (read_all ! ks bs a N.args (N.lie _ _ bs _) (λ σ p v back part. look_in ! 6 part)))) (λ u.
           use1 𝓛 (later (some (λ (r : B.Pair). (‵ ftrue ⊛ ‵ ((row P).own r (u ∷ []))) ⊛
-          raw (ensured 𝓛 (by_value B ks) (value-clauses B ks answer 𝓤) tt (h, given 0 tt ks a) tt r)))) (id⊢ 𝓤 _) $ await ! tt $ pick ! (λ r.
+          raw (ensured 𝓛 (by_value B ks) (value_clauses B ks answer 𝓤) tt (h, given 0 tt ks a) tt r)))) (id⊢ 𝓤 _) $ await ! tt $ pick ! (λ r.
           split ! $ move ! (1 ∷ []) $ use1 𝓛 (raw (fact 𝓤 (r ≡ answer h (taken 0 tt ks (given 0 tt ks a))))) (said r) $
           heard ! (r ≡ answer h (taken 0 tt ks (given 0 tt ks a))) (λ e. split ! $ drop ! $
           facts ! (row P) (Is (row P)) (shows 𝓛 (row P)) r (u ∷ []) (λ is.
@@ -152,46 +152,46 @@ module _ (B : Held) (ks : List Kind) (answer : B.the.D → Values ks → B.Pair)
 
   -- at the contract's own binders: what the function has at exit is what the contract asks
   module _ (κ : Lft) (q : Share) (x : MutBor B.the.D) (a : Denots (rows 1 (κ, tt) ks)) where
-    abbrev bound : (walk_of 𝓛 (by-reference B ks) (stayed B ks) (reference-clauses B ks answer 𝓤)).Ghost
+    abbrev bound : (walk_of 𝓛 (by_reference B ks) (stayed B ks) (reference_clauses B ks answer 𝓤)).Ghost
     bound = (((κ, tt), (q, tt), tt, (x, a), (mut_vals x, spelled 1 (κ, tt) ks a)), tt)
 
     abbrev Ends : Val → SProp 𝓤
-    Ends = (walk_of 𝓛 (by-reference B ks) (stayed B ks) (reference-clauses B ks answer 𝓤)).post bound
+    Ends = (walk_of 𝓛 (by_reference B ks) (stayed B ks) (reference_clauses B ks answer 𝓤)).post bound
 
     abbrev others : Fml
     others = owns (rows 1 (κ, tt) ks) a (spelled 1 (κ, tt) ks a)
 
-    exits : (r : B.Pair) → Is O.the_row (B.told r) (spell-told (B.told r) ∷ []) → r ≡ answer x.now (taken 1 (κ, tt) ks a)
+    exits : (r : B.Pair) → Is O.the_row (B.told r) (spell_told (B.told r) ∷ []) → r ≡ answer x.now (taken 1 (κ, tt) ks a)
         → ent 𝓤 (sep 𝓤 (A.obs x.name (R.coded.code (B.held r)))
         (sep 𝓤 (A.bor κ (Body (mem R) x.ptr.0 x.ptr.1 x.name)) (sep 𝓤 (A.lft κ q) (sem 𝓛 others))))
-        (Ends (spell-told (B.told r)))
+        (Ends (spell_told (B.told r)))
     exits r is-t e =
         qed 𝓛 (‵ (fobs x.name (R.coded.code (B.held r))) ∷ ‵ (fbor κ (Body (mem R) x.ptr.0 x.ptr.1 x.name)) ∷
         ‵ (flft κ q) ∷ ‵ others ∷ []) ∵
-        suffices ! _ (ends_at 𝓛 (by-reference B ks) (stayed B ks) (reference-clauses B ks answer 𝓤) bound (spell-told (B.told r)) (B.told r)
-        (B.held r, lasts 1 (κ, tt) ks a) (tt, fits 1 (κ, tt) ks a)) $ says ! (B.left-again r ∙ e) $
+        suffices ! _ (ends_at 𝓛 (by_reference B ks) (stayed B ks) (reference_clauses B ks answer 𝓤) bound (spell_told (B.told r)) (B.told r)
+        (B.held r, lasts 1 (κ, tt) ks a) (tt, fits 1 (κ, tt) ks a)) $ says ! (B.left_again r ∙ e) $
         nothing ! $ move ! (3 ∷ 0 ∷ []) $ join ! $ frame ! $
         feq_i ! (List Val) (vptr x.ptr.0 x.ptr.1 ∷ []) (vptr x.ptr.0 x.ptr.1 ∷ []) refl $ fjoin3 ! $
-        rewrite ! 1 (λ (P : Fml). ‵ P) (still-had 1 (κ, tt) ks a (spelled 1 (κ, tt) ks a)) refl $ fjoin ! $
+        rewrite ! 1 (λ (P : Fml). ‵ P) (still_had 1 (κ, tt) ks a (spelled 1 (κ, tt) ks a)) refl $ fjoin ! $
         owned ! O.the_row (Is O.the_row) ((EL.makes O.the_type O'.the_plain) 𝓛) (B.told r) _ is-t $ move ! (1 ∷ 0 ∷ []) $ done !
 
   module _ (N : Numbers ks) (f : Name) where
     walks : (C : Calls 𝓤 H) (Λ : Loops 𝓤 H) → FmC 𝓤 H 𝓛.laws C → Triple 𝓤 (C f) Method
-        → Walks 𝓛 (by-reference B ks) (stayed B ks) (WpFn 𝓤 H C Λ (changes B ks N f)) (reference-clauses B ks answer 𝓤)
-    walks C Λ fm known = walked 𝓛 (by-reference B ks) (stayed B ks) (reference-clauses B ks answer 𝓤) (WpFn 𝓤 H C Λ (changes B ks N f))
+        → Walks 𝓛 (by_reference B ks) (stayed B ks) (WpFn 𝓤 H C Λ (changes B ks N f)) (reference_clauses B ks answer 𝓤)
+    walks C Λ fm known = walked 𝓛 (by_reference B ks) (stayed B ks) (reference_clauses B ks answer 𝓤) (WpFn 𝓤 H C Λ (changes B ks N f))
         (λ κs. (mut_vals, spells 1 κs ks)) (λ κs. (mut_Tells (named 0) κs.0 R, tell 1 κs ks))
         (λ κs qs bounds a g are. via 𝓤 _ (fst∗ 𝓤 _ (emp 𝓤)) (subst (λ (us : List Val).
-        ent 𝓤 (on_entry 𝓛 (by-reference B ks).signature κs qs a (mut_vals a.0, spelled 1 κs ks a.1))
+        ent 𝓤 (on_entry 𝓛 (by_reference B ks).signature κs qs a (mut_vals a.0, spelled 1 κs ks a.1))
         (WpFn 𝓤 H C Λ (changes B ks N f) (vptr a.0.ptr.0 a.0.ptr.1 ∷ us) (Ends κs.0 qs.0 a.0 a.1)))
-        (sym (flat-is 1 κs ks a.1))
+        (sym (flat_is 1 κs ks a.1))
         (walk a.0.now (taken 1 κs ks a.1) (goods 1 κs ks a.1 are.1) N f κs.0 qs.0 a.0.ref_ptr.0 a.0.ref_ptr.1 a.0.ghost_name
         (others κs.0 qs.0 a.0 a.1) (Ends κs.0 qs.0 a.0 a.1) (exits κs.0 qs.0 a.0 a.1) C Λ fm known)))
 
     meets : (𝓣 : Tables 𝓤 H) → Triple 𝓤 (𝓣.C f) Method
         → Triple 𝓤 (WpFn 𝓤 H 𝓣.C 𝓣.Λ (changes B ks N f)) (ByReference B ks answer 𝓤 𝓛)
     meets 𝓣 known =
-        walk_Meets 𝓛 (by-reference B ks) (stayed B ks) (Goes-ref 𝓛 1 0 tt (plain (λ _. row B.the)), go 1 𝓛 ks)
-        (reference-clauses B ks answer 𝓤) (WpFn 𝓤 H 𝓣.C 𝓣.Λ (changes B ks N f)) (WpFn-mono 𝓤 H 𝓛.laws 𝓣 (changes B ks N f))
+        walk_Meets 𝓛 (by_reference B ks) (stayed B ks) (Goes-ref 𝓛 1 0 tt (plain (λ _. row B.the)), go 1 𝓛 ks)
+        (reference_clauses B ks answer 𝓤) (WpFn 𝓤 H 𝓣.C 𝓣.Λ (changes B ks N f)) (WpFn-mono 𝓤 H 𝓛.laws 𝓣 (changes B ks N f))
         (walks 𝓣.C 𝓣.Λ (fm_of 𝓤 H 𝓛.laws 𝓣) known)
 
 -- the function's routine meets its contract, from the method's

@@ -20,21 +20,21 @@ use denote.Steps.{owned, facts}
 use denote.Struct.Steps.{spelt}
 
 -- the reference to a value at a place
-abbrev pub refTo : {X : Type 0} → X → ℕ → ℕ → GName → MutBor X
-refTo h b o γ = record { ref_ptr = (b, o); ghost_name = γ; now = h }
+abbrev pub ref_to : {X : Type 0} → X → ℕ → ℕ → GName → MutBor X
+ref_to h b o γ = record { ref_ptr = (b, o); ghost_name = γ; now = h }
 
 module _ {M : Type 1} {𝓤 : Ura M} {𝓛 : Logic 𝓤} {K : Type 0} {Γ : List (Item 𝓤)} {G : Goal 𝓤 𝓛.H} (R : RattleType)
     (P : Rel R) where
   -- the local's cell becomes the lifetime's token, the reference and the lender's part
   pub lend : K → Soaks G → Makes 𝓛 R P → (h : R.Denot) (vs : List Val) (b o : ℕ) → P h vs
-      → ((ν : ℕ) (γ : GName) → Seq K 𝓛 (‵ (flft (ν ∷ []) full_share) ∷ ‵ ((MutRef (named 0) (ν ∷ []) R).own_val (refTo h b o γ) (vptr b o ∷ [])) ∷ ‵
+      → ((ν : ℕ) (γ : GName) → Seq K 𝓛 (‵ (flft (ν ∷ []) full_share) ∷ ‵ ((MutRef (named 0) (ν ∷ []) R).own_val (ref_to h b o γ) (vptr b o ∷ [])) ∷ ‵
       (flent (ν ∷ []) (Body (mem R) b o γ)) ∷ Γ) G)
       → Seq K 𝓛 (‵ (cell_at full_share R.mir vs b o) ∷ Γ) G
   unfolding part_of
   lend t a mk h vs b o p k =
       owned t R P mk h vs p $ move t (1 ∷ 0 ∷ []) $ fjoin t $ fpack t (List Val) (λ us. fsep (cell_at full_share R.mir us b o) (R.own h us)) vs $
       lft_new t a (λ ν. move t (1 ∷ []) $
-      use1 𝓛 (later (some (λ (γ : GName). ‵ ((MutRef (named 0) (ν ∷ []) R).own_val (refTo h b o γ) (vptr b o ∷ [])) ⊛ ‵ (flent (ν ∷ []) (Body (mem R) b o γ)))))
+      use1 𝓛 (later (some (λ (γ : GName). ‵ ((MutRef (named 0) (ν ∷ []) R).own_val (ref_to h b o γ) (vptr b o ∷ [])) ⊛ ‵ (flent (ν ∷ []) (Body (mem R) b o γ)))))
       (lends_ref 𝓛 R (named 0) (ν ∷ []) h b o) $
       await t a $ pick t (λ γ. split t $ move t (2 ∷ 0 ∷ []) $ k ν γ))
 

@@ -3,49 +3,49 @@
 -- they promise: d is what the method by value answers. Assumes nothing.
 use mathlib.Core.Path.{◌≡◌, ap}
 use Rattle.standard.specs.declared.Told.{Told}
-use Rattle.standard.proofs.Only.{Only, only-answer}
+use Rattle.standard.proofs.Only.{Only, only_answer}
 use Rattle.bitfield.specs.declared.BitList.{BitList}
 use Rattle.bitfield.specs.declared.BitVector.{BitVector}
 use Rattle.bitfield.specs.declared.ListResult.{ListResult}
 use Rattle.bitfield.specs.declared.VectorResult.{VectorResult}
-use Rattle.lent.specs.Left.{listLeft, vectorLeft}
-use Rattle.lent.proofs.list.after_set.Kinds as list-after-set-kinds
+use Rattle.lent.specs.Left.{list_left, vector_left}
+use Rattle.lent.proofs.list.after_set.Kinds as list-after-set_kinds
 use Rattle.lent.proofs.list.after_set.Reads as list-after-set-reads
-use Rattle.lent.proofs.list.after_not.Kinds as list-after-not-kinds
-use Rattle.lent.proofs.list.after_not.Reads as list-after-not-reads
-use Rattle.lent.proofs.list.after_difference.Kinds as list-after-difference-kinds
-use Rattle.lent.proofs.list.after_difference.Reads as list-after-difference-reads
-use Rattle.lent.proofs.vector.after_set.Kinds as vector-after-set-kinds
+use Rattle.lent.proofs.list.after_not.Kinds as list-after_not_kinds
+use Rattle.lent.proofs.list.after_not.Reads as list-after_not_reads
+use Rattle.lent.proofs.list.after_difference.Kinds as list-after_difference_kinds
+use Rattle.lent.proofs.list.after_difference.Reads as list-after_difference_reads
+use Rattle.lent.proofs.vector.after_set.Kinds as vector-after-set_kinds
 use Rattle.lent.proofs.vector.after_set.Reads as vector-after-set-reads
-use Rattle.lent.proofs.vector.after_not.Kinds as vector-after-not-kinds
-use Rattle.lent.proofs.vector.after_not.Reads as vector-after-not-reads
-use Rattle.lent.proofs.vector.after_difference.Kinds as vector-after-difference-kinds
-use Rattle.lent.proofs.vector.after_difference.Reads as vector-after-difference-reads
+use Rattle.lent.proofs.vector.after_not.Kinds as vector-after_not_kinds
+use Rattle.lent.proofs.vector.after_not.Reads as vector-after_not_reads
+use Rattle.lent.proofs.vector.after_difference.Kinds as vector-after_difference_kinds
+use Rattle.lent.proofs.vector.after_difference.Reads as vector-after_difference_reads
 
-pub list-left-only : (d : ListResult) (b c : BitList) (t u : Told) → listLeft b t ≡ d → listLeft c u ≡ d → (b ≡ c) × (t ≡ u)
-list-left-only d b c t u p q =
-    let s = only-answer d (listLeft b t) (listLeft c u) p q in
+pub list-left_only : (d : ListResult) (b c : BitList) (t u : Told) → list_left b t ≡ d → list_left c u ≡ d → (b ≡ c) × (t ≡ u)
+list-left_only d b c t u p q =
+    let s = only_answer d (list_left b t) (list_left c u) p q in
     (ap (λ (r : ListResult). r.field) s, ap (λ (r : ListResult). r.told) s)
 
-pub vector-left-only : (d : VectorResult) (b c : BitVector) (t u : Told) → vectorLeft b t ≡ d → vectorLeft c u ≡ d → (b ≡ c) × (t ≡ u)
-vector-left-only d b c t u p q =
-    let s = only-answer d (vectorLeft b t) (vectorLeft c u) p q in
+pub vector-left_only : (d : VectorResult) (b c : BitVector) (t u : Told) → vector_left b t ≡ d → vector_left c u ≡ d → (b ≡ c) × (t ≡ u)
+vector-left_only d b c t u p q =
+    let s = only_answer d (vector_left b t) (vector_left c u) p q in
     (ap (λ (r : VectorResult). r.field) s, ap (λ (r : VectorResult). r.told) s)
 
-pub list-after-set-only : Only list-after-set-kinds.ps list-after-set-kinds.r list-after-set-reads.Post
-list-after-set-only κs a x y e f p q = only-answer _ x y p q
+pub list-after-set_only : Only list-after-set_kinds.ps list-after-set_kinds.r list-after-set-reads.Post
+list-after-set_only κs a x y e f p q = only_answer _ x y p q
 
-pub list-after-not-only : Only list-after-not-kinds.ps list-after-not-kinds.r list-after-not-reads.Post
-list-after-not-only κs a x y e f p q = only-answer _ x y p q
+pub list-after_not_only : Only list-after_not_kinds.ps list-after_not_kinds.r list-after_not_reads.Post
+list-after_not_only κs a x y e f p q = only_answer _ x y p q
 
-pub list-after-difference-only : Only list-after-difference-kinds.ps list-after-difference-kinds.r list-after-difference-reads.Post
-list-after-difference-only κs a x y e f p q = only-answer _ x y p q
+pub list-after_difference_only : Only list-after_difference_kinds.ps list-after_difference_kinds.r list-after_difference_reads.Post
+list-after_difference_only κs a x y e f p q = only_answer _ x y p q
 
-pub vector-after-set-only : Only vector-after-set-kinds.ps vector-after-set-kinds.r vector-after-set-reads.Post
-vector-after-set-only κs a x y e f p q = only-answer _ x y p q
+pub vector-after-set_only : Only vector-after-set_kinds.ps vector-after-set_kinds.r vector-after-set-reads.Post
+vector-after-set_only κs a x y e f p q = only_answer _ x y p q
 
-pub vector-after-not-only : Only vector-after-not-kinds.ps vector-after-not-kinds.r vector-after-not-reads.Post
-vector-after-not-only κs a x y e f p q = only-answer _ x y p q
+pub vector-after_not_only : Only vector-after_not_kinds.ps vector-after_not_kinds.r vector-after_not_reads.Post
+vector-after_not_only κs a x y e f p q = only_answer _ x y p q
 
-pub vector-after-difference-only : Only vector-after-difference-kinds.ps vector-after-difference-kinds.r vector-after-difference-reads.Post
-vector-after-difference-only κs a x y e f p q = only-answer _ x y p q
+pub vector-after_difference_only : Only vector-after_difference_kinds.ps vector-after_difference_kinds.r vector-after_difference_reads.Post
+vector-after_difference_only κs a x y e f p q = only_answer _ x y p q

@@ -12,46 +12,46 @@ use Rattle.bitfield.specs.declared.BitList.{BitList}
 use Rattle.bitfield.specs.declared.BitVector.{BitVector}
 use Rattle.bitfield.specs.Bools.{flipped, without}
 use Rattle.bitfield.specs.Held.{and_then, inside}
-use Rattle.bitfield.specs.Lists.{bits as list-bits, listTold, listsTold, listAnswer, listSet, listNot, listDifference}
-use Rattle.bitfield.specs.Vectors.{bits as vector-bits, vectorTold, vectorsTold, vectorAnswer, vectorSet, vectorNot, vectorDifference}
-use Rattle.lent.specs.Left.{listLeft, vectorLeft}
+use Rattle.bitfield.specs.Lists.{bits as list-bits, list_told, lists_told, list_answer, list_set, list_not, list_difference}
+use Rattle.bitfield.specs.Vectors.{bits as vector-bits, vector_told_lem, vectors_told, vector_answer, vector_set, vector_not, vector_difference}
+use Rattle.lent.specs.Left.{list_left, vector_left}
 use Rattle.lent.proofs.Values.{Held, lists, vectors}
 
-refused-fine : {A : Type 0} (x : Refusal) → Refused x ≡ Fine → A
-refused-fine x e = let z : ◌≡◌ {A = ℕ} 0 1 = cc in absurd (omega arith)
+refused_fine : {A : Type 0} (x : Refusal) → Refused x ≡ Fine → A
+refused_fine x e = let z : ◌≡◌ {A = ℕ} 0 1 = cc in absurd (omega arith)
 
 -- What the answer tells is not `Fine`, so it is the one beside a refusal, which has the bitfield as it was.
 kept : (B : Held) (a b : B.the.D) (answer : Told → B.Pair) → B.told (answer Fine) ≡ Fine → ((y : Refusal) → B.held (answer (Refused y)) ≡ a)
     → (t : Told) (x : Refusal) → B.left b (Refused x) ≡ answer t → b ≡ a
-kept B a b answer fine old Fine x e = refused-fine x (sym (B.told-left b (Refused x)) ∙ ap B.told e ∙ fine)
+kept B a b answer fine old Fine x e = refused_fine x (sym (B.told-left b (Refused x)) ∙ ap B.told e ∙ fine)
 kept B a b answer fine old (Refused y) x e = sym (B.held-left b (Refused x)) ∙ ap B.held e ∙ old y
 
-list-kept : (a b : BitList) (bs : List Bool) (n : ℕ) (t : Told) (x : Refusal) → listLeft b (Refused x) ≡ listAnswer t a bs n → b ≡ a
-list-kept a b bs n = kept lists a b (λ t. listAnswer t a bs n) refl (λ y. refl)
+list-kept : (a b : BitList) (bs : List Bool) (n : ℕ) (t : Told) (x : Refusal) → list_left b (Refused x) ≡ list_answer t a bs n → b ≡ a
+list-kept a b bs n = kept lists a b (λ t. list_answer t a bs n) refl (λ y. refl)
 
-vector-kept : (a b : BitVector) (bs : List Bool) (n : ℕ) (t : Told) (x : Refusal) → vectorLeft b (Refused x) ≡ vectorAnswer t a bs n → b ≡ a
-vector-kept a b bs n = kept vectors a b (λ t. vectorAnswer t a bs n) refl (λ y. refl)
+vector-kept : (a b : BitVector) (bs : List Bool) (n : ℕ) (t : Told) (x : Refusal) → vector_left b (Refused x) ≡ vector_answer t a bs n → b ≡ a
+vector-kept a b bs n = kept vectors a b (λ t. vector_answer t a bs n) refl (λ y. refl)
 
-pub list-set-refused : (a b : BitList) (i : ℕ) (v : Bool) (x : Refusal) → listLeft b (Refused x) ≡ listSet a i v → b ≡ a
-unfolding listSet
-list-set-refused a b i v = list-kept a b (set (list-bits a) i v) a.n (and_then (listTold a) (inside i a.len))
+pub list-set_refused : (a b : BitList) (i : ℕ) (v : Bool) (x : Refusal) → list_left b (Refused x) ≡ list_set a i v → b ≡ a
+unfolding list_set
+list-set_refused a b i v = list-kept a b (set (list-bits a) i v) a.n (and_then (list_told a) (inside i a.len))
 
-pub list-not-refused : (a b : BitList) (x : Refusal) → listLeft b (Refused x) ≡ listNot a → b ≡ a
-unfolding listNot
-list-not-refused a b = list-kept a b (flipped (list-bits a)) a.n (listTold a)
+pub list_not_refused : (a b : BitList) (x : Refusal) → list_left b (Refused x) ≡ list_not a → b ≡ a
+unfolding list_not
+list_not_refused a b = list-kept a b (flipped (list-bits a)) a.n (list_told a)
 
-pub list-difference-refused : (a b o : BitList) (x : Refusal) → listLeft b (Refused x) ≡ listDifference a o → b ≡ a
-unfolding listDifference
-list-difference-refused a b o = list-kept a b (without (list-bits a) (list-bits o)) a.n (listsTold a o)
+pub list_difference_refused : (a b o : BitList) (x : Refusal) → list_left b (Refused x) ≡ list_difference a o → b ≡ a
+unfolding list_difference
+list_difference_refused a b o = list-kept a b (without (list-bits a) (list-bits o)) a.n (lists_told a o)
 
-pub vector-set-refused : (a b : BitVector) (i : ℕ) (v : Bool) (x : Refusal) → vectorLeft b (Refused x) ≡ vectorSet a i v → b ≡ a
-unfolding vectorSet
-vector-set-refused a b i v = vector-kept a b (set (vector-bits a) i v) a.n (and_then (vectorTold a) (inside i a.len))
+pub vector-set_refused : (a b : BitVector) (i : ℕ) (v : Bool) (x : Refusal) → vector_left b (Refused x) ≡ vector_set a i v → b ≡ a
+unfolding vector_set
+vector-set_refused a b i v = vector-kept a b (set (vector-bits a) i v) a.n (and_then (vector_told_lem a) (inside i a.len))
 
-pub vector-not-refused : (a b : BitVector) (x : Refusal) → vectorLeft b (Refused x) ≡ vectorNot a → b ≡ a
-unfolding vectorNot
-vector-not-refused a b = vector-kept a b (flipped (vector-bits a)) a.n (vectorTold a)
+pub vector_not_refused : (a b : BitVector) (x : Refusal) → vector_left b (Refused x) ≡ vector_not a → b ≡ a
+unfolding vector_not
+vector_not_refused a b = vector-kept a b (flipped (vector-bits a)) a.n (vector_told_lem a)
 
-pub vector-difference-refused : (a b o : BitVector) (x : Refusal) → vectorLeft b (Refused x) ≡ vectorDifference a o → b ≡ a
-unfolding vectorDifference
-vector-difference-refused a b o = vector-kept a b (without (vector-bits a) (vector-bits o)) a.n (vectorsTold a o)
+pub vector_difference_refused : (a b o : BitVector) (x : Refusal) → vector_left b (Refused x) ≡ vector_difference a o → b ≡ a
+unfolding vector_difference
+vector_difference_refused a b o = vector-kept a b (without (vector-bits a) (vector-bits o)) a.n (vectors_told a o)

@@ -35,7 +35,7 @@ use Rattle.bitfield.specs.contracts.ListResult as ListPair
 use Rattle.bitfield.specs.contracts.BitVector as BitVector
 use Rattle.bitfield.proofs.BitVector.TheLaws as BitVector'
 use Rattle.bitfield.specs.contracts.VectorResult as VectorPair
-use Rattle.lent.specs.Left.{listLeft, vectorLeft}
+use Rattle.lent.specs.Left.{list_left, vector_left}
 
 -- ---- a plain type of one machine value
 pub record Kind : Type 2 where
@@ -122,9 +122,9 @@ module _ (n : ℕ) where
     tell [] = tt
     tell (k ∷ ks) = (k.tells, tell ks)
 
-    pub flat-is : (ks : List Kind) (a : Denots (rows ks)) → flat (rows ks) (spelled ks a) ≡ machines ks (taken ks a)
-    flat-is [] a = refl
-    flat-is (k ∷ ks) a = λ i. k.val a.0 ∷ flat-is ks a.1 i
+    pub flat_is : (ks : List Kind) (a : Denots (rows ks)) → flat (rows ks) (spelled ks a) ≡ machines ks (taken ks a)
+    flat_is [] a = refl
+    flat_is (k ∷ ks) a = λ i. k.val a.0 ∷ flat_is ks a.1 i
 
     pub flat-given : (ks : List Kind) (a : Values ks) → flat (rows ks) (spelled ks (given ks a)) ≡ machines ks a
     flat-given [] a = refl
@@ -134,9 +134,9 @@ module _ (n : ℕ) where
     goods [] a g = tt
     goods (k ∷ ks) a g = (g.0, goods ks a.1 g.1)
 
-    pub goods-are : (ks : List Kind) (a : Values ks) → Goods ks a → Are (rows ks) (Ises (rows ks)) (given ks a) (spelled ks (given ks a))
-    goods-are [] a g = tt
-    goods-are (k ∷ ks) a g = (g.0, goods-are ks a.1 g.1)
+    pub goods_are : (ks : List Kind) (a : Values ks) → Goods ks a → Are (rows ks) (Ises (rows ks)) (given ks a) (spelled ks (given ks a))
+    goods_are [] a g = tt
+    goods_are (k ∷ ks) a g = (g.0, goods_are ks a.1 g.1)
 
     -- of each nothing is bound at exit, and it is had as it was passed
     abbrev pub lasts : (ks : List Kind) (a : Denots (rows ks)) → Fins κs (slots ks) (all yes (slots ks)) a
@@ -147,10 +147,10 @@ module _ (n : ℕ) where
     fits [] a = tt
     fits (k ∷ ks) a = (tt, fits ks a.1)
 
-    pub still-had : (ks : List Kind) (a : Denots (rows ks)) (vss : Valss (rows ks))
+    pub still_had : (ks : List Kind) (a : Denots (rows ks)) (vss : Valss (rows ks))
         → owns (rows ks) a vss ≡ has_of κs (slots ks) (all yes (slots ks)) (stays ks) a (lasts ks a) vss
-    still-had [] a vss = refl
-    still-had (k ∷ ks) a vss = ap (fsep (k.row.own_val a.0 vss.0)) (still-had ks a.1 vss.1)
+    still_had [] a vss = refl
+    still_had (k ∷ ks) a vss = ap (fsep (k.row.own_val a.0 vss.0)) (still_had ks a.1 vss.1)
 
   module _ {M : Type 1} {𝓤 : Ura M} (𝓛 : Logic 𝓤) where
     makess : (κs : Lfts n) (ks : List Kind) → Makess 𝓛 (rows κs ks) (Ises (rows κs ks))
@@ -160,7 +160,7 @@ module _ (n : ℕ) where
     -- what plain values own is had for nothing
     pub had : (κs : Lfts n) (ks : List Kind) (a : Values ks) → Goods ks a
         → ent 𝓤 (emp 𝓤) (sem 𝓛 (owns (rows κs ks) (given κs ks a) (spelled κs ks (given κs ks a))))
-    had κs ks a g = owns_make 𝓛 (rows κs ks) (Ises (rows κs ks)) (makess κs ks) (given κs ks a) (spelled κs ks (given κs ks a)) (goods-are κs ks a g)
+    had κs ks a g = owns_make 𝓛 (rows κs ks) (Ises (rows κs ks)) (makess κs ks) (given κs ks a) (spelled κs ks (given κs ks a)) (goods_are κs ks a g)
 
     pub go : (ks : List Kind) → AllGo 𝓛 n (slots ks) (all yes (slots ks)) (stays ks)
     go [] = tt
@@ -179,14 +179,14 @@ pub record Held : Type 2 where
   pub held : Pair → the.D
   pub told : Pair → Told
   pub left : the.D → Told → Pair
-  pub left-again : (r : Pair) → left (held r) (told r) ≡ r
+  pub left_again : (r : Pair) → left (held r) (told r) ≡ r
   pub held-left : (h : the.D) (t : Told) → held (left h t) ≡ h
   pub told-left : (h : the.D) (t : Told) → told (left h t) ≡ t
   pub one : (x y : Pair) → ◌≡◌ {A = Denots (fields the) × ((O.the_field).row.Denot × Unit {0})} (the.to (held x), ((O.the_field).into (told x), tt))
       (the.to (held y), ((O.the_field).into (told y), tt)) → x ≡ y
 
-abbrev pub spell-told : Told → Val
-spell-told t = EL.val O.the_type O'.the_laws t
+abbrev pub spell_told : Told → Val
+spell_told t = EL.val O.the_type O'.the_laws t
 
 module _ (B : Held) where
   abbrev pub machine : B.the.D → Val
@@ -222,17 +222,17 @@ module _ (B : Held) where
 
   -- the machine value of the pair of a bitfield and what is told
   abbrev pub paired : B.the.D → Told → Val
-  paired h t = vstruct (of_list (machine h ∷ spell-told t ∷ []))
+  paired h t = vstruct (of_list (machine h ∷ spell_told t ∷ []))
 
-  pub pair_is : (h : B.the.D) (t : Told) → Is (row B.the) h (machine h ∷ []) → Is O.the_row t (spell-told t ∷ [])
+  pub pair_is : (h : B.the.D) (t : Told) → Is (row B.the) h (machine h ∷ []) → Is O.the_row t (spell_told t ∷ [])
       → Is (row pair) (B.left h t) (paired h t ∷ [])
   pair_is h t is-h is-t = (
-    (machine h ∷ [], (spell-told t ∷ [], tt)),
+    (machine h ∷ [], (spell_told t ∷ [], tt)),
     (
       refl,
       (
         subst (λ (x : B.the.D). Is (row B.the) x (machine h ∷ [])) (sym (B.held-left h t)) is-h,
-        (subst (λ (x : Told). Is O.the_row x (spell-told t ∷ [])) (sym (B.told-left h t)) is-t, tt),
+        (subst (λ (x : Told). Is O.the_row x (spell_told t ∷ [])) (sym (B.told-left h t)) is-t, tt),
       ),
     ),
   )
@@ -249,8 +249,8 @@ lists = record {
   Pair = ListResult;
   held = λ r. r.field;
   told = λ r. r.told;
-  left = listLeft;
-  left-again = λ r. refl;
+  left = list_left;
+  left_again = λ r. refl;
   held-left = λ h t. refl;
   told-left = λ h t. refl;
   one = (ListPair.the_type).to_one;
@@ -268,8 +268,8 @@ vectors = record {
   Pair = VectorResult;
   held = λ r. r.field;
   told = λ r. r.told;
-  left = vectorLeft;
-  left-again = λ r. refl;
+  left = vector_left;
+  left_again = λ r. refl;
   held-left = λ h t. refl;
   told-left = λ h t. refl;
   one = (VectorPair.the_type).to_one;

@@ -6,8 +6,8 @@ use Rattle.bitfield.specs.declared.BitVector.{BitVector}
 use Rattle.bitfield.specs.declared.ListResult.{ListResult}
 use Rattle.bitfield.specs.declared.VectorResult.{VectorResult}
 
-abbrev pub listLeft : BitList → Told → ListResult
-listLeft b t = record { field = b; told = t }
+abbrev pub list_left : BitList → Told → ListResult
+list_left b t = record { field = b; told = t }
 
-abbrev pub vectorLeft : BitVector → Told → VectorResult
-vectorLeft b t = record { field = b; told = t }
+abbrev pub vector_left : BitVector → Told → VectorResult
+vector_left b t = record { field = b; told = t }

@@ -1,14 +1,14 @@
 // A bit list of the caller's, changed where it lies.
 ghost use Rattle.std.specs.Prelude.{◌≡◌};
-ghost use Rattle.bitfield.specs.Lists.{listSet, listNot, listDifference};
-ghost use Rattle.lent.specs.Left.{listLeft};
+ghost use Rattle.bitfield.specs.Lists.{list_set, list_not, list_difference};
+ghost use Rattle.lent.specs.Left.{list_left};
 
 use bitfield::{BitList, ListResult};
 use standard::Told;
 
 // Makes bit i the value. Beside a refusal all is as it was.
 pub fn set(b: &mut BitList, i: usize, value: bool) -> Told
-    ensures { listLeft b.new result ≡ listSet b.old i value }
+    ensures { list_left b.new result ≡ list_set b.old i value }
 {
     let made = (*b).set(i, value);
     *b = made.field;
@@ -17,7 +17,7 @@ pub fn set(b: &mut BitList, i: usize, value: bool) -> Told
 
 // Turns every bit. Beside a refusal all is as it was.
 pub fn not_inplace(b: &mut BitList) -> Told
-    ensures { listLeft b.new result ≡ listNot b.old }
+    ensures { list_left b.new result ≡ list_not b.old }
 {
     let made = (*b).not();
     *b = made.field;
@@ -26,7 +26,7 @@ pub fn not_inplace(b: &mut BitList) -> Told
 
 // Takes away the bits that the other one has. Beside a refusal all is as it was.
 pub fn difference_inplace(b: &mut BitList, other: BitList) -> Told
-    ensures { listLeft b.new result ≡ listDifference b.old other }
+    ensures { list_left b.new result ≡ list_difference b.old other }
 {
     let made = (*b).difference(other);
     *b = made.field;
@@ -36,7 +36,7 @@ pub fn difference_inplace(b: &mut BitList, other: BitList) -> Told
 // What each of them leaves of a bitfield of its own that it is lent, and what it tells. Their parameters are plain, so whoever calls them needs
 // no walk.
 pub fn after_set(b: BitList, i: usize, value: bool) -> ListResult
-    ensures { result ≡ listSet b i value }
+    ensures { result ≡ list_set b i value }
 {
     let mut field = b;
     let told = set(&mut field, i, value);
@@ -44,7 +44,7 @@ pub fn after_set(b: BitList, i: usize, value: bool) -> ListResult
 }
 
 pub fn after_not(b: BitList) -> ListResult
-    ensures { result ≡ listNot b }
+    ensures { result ≡ list_not b }
 {
     let mut field = b;
     let told = not_inplace(&mut field);
@@ -52,7 +52,7 @@ pub fn after_not(b: BitList) -> ListResult
 }
 
 pub fn after_difference(b: BitList, other: BitList) -> ListResult
-    ensures { result ≡ listDifference b other }
+    ensures { result ≡ list_difference b other }
 {
     let mut field = b;
     let told = difference_inplace(&mut field, other);

@@ -11,7 +11,7 @@ use lib.Dec.{ltb, lit<}
 use Rattle.io.specs.Digits.{IsDigitCount}
 use Rattle.standard.specs.Choice.{pick}
 use Rattle.standard.specs.declared.Refusal.TheVariants.{NoRoom}
-use Rattle.message.specs.Check.{checkMessage, listed_of, listMessage}
+use Rattle.message.specs.Check.{check_message, listed_of, list_message}
 use Rattle.message.specs.declared.Answer.{Answer}
 use Rattle.message.specs.declared.Answer.TheVariants.{Accepted, Refused}
 use Rattle.message.specs.declared.Listed.{Listed}
@@ -41,6 +41,6 @@ listed-within (Accepted c) o = go (ltb (length o / 12) c.records) refl
     go true p = tt
     go false p = let h : c.records ≤ length o / 12 = ltb-false _ _ p in omega arith
 
-pub records-within : (l m o : List ℕ) (n : ℕ) (r : Listed) → r ≡ listMessage l m o → r ≡ Listed.Records n → 12 * n ≤ length o
-unfolding listMessage
-records-within l m o n r e h = let w = listed-within (checkMessage l m) o in rw (← e, h) at w
+pub records-within : (l m o : List ℕ) (n : ℕ) (r : Listed) → r ≡ list_message l m o → r ≡ Listed.Records n → 12 * n ≤ length o
+unfolding list_message
+records-within l m o n r e h = let w = listed-within (check_message l m) o in rw (← e, h) at w

@@ -8,7 +8,7 @@ use Rattle.standard.specs.Choice.{pick}
 use Rattle.standard.specs.declared.Told.{Told}
 use Rattle.standard.specs.declared.Refusal.{Refusal}
 use Rattle.bitfield.specs.declared.BodyBits.{BodyBits}
-use Rattle.message.specs.Read.{rawBytes, one, plus, and_then, built, ofVector, of_list, ofElements}
+use Rattle.message.specs.Read.{raw_bytes_lem, one, plus, and_then, built, of_vector_lem, of_list, of_elements}
 use Rattle.message.specs.Steps.{IsAccepted}
 use Rattle.message.specs.declared.Counts.{Counts}
 use Rattle.message.specs.declared.elements.Elements.{Elements}
@@ -24,8 +24,8 @@ none = record { records = 0; words = 0; bytes = 0 }
 abbrev pub single : ℕ → ℕ → Counts
 single w b = record { records = 1; words = w; bytes = b }
 
-pub not-accepted : {A : Type 0} (r : Refusal) (t s : ℕ) (c : Counts) → Refused r t s ≡ Accepted c → A
-not-accepted r t s c e = let z : ◌≡◌ {A = ℕ} 0 1 = cc in absurd (omega arith)
+pub not_accepted : {A : Type 0} (r : Refusal) (t s : ℕ) (c : Counts) → Refused r t s ≡ Accepted c → A
+not_accepted r t s c e = let z : ◌≡◌ {A = ℕ} 0 1 = cc in absurd (omega arith)
 
 pub accepted-same : (c d : Counts) → Accepted c ≡ Accepted d → c ≡ d
 accepted-same c d e = cc
@@ -35,9 +35,9 @@ pub pick-left : {A : Type 0} (q : Bool) (x y z : A) → (y ≡ z → ⊥) → pi
 pick-left true x y z n e = (refl, e)
 pick-left false x y z n e = absurd (n e)
 
-pub pick-right : {A : Type 0} (q : Bool) (x y z : A) → (x ≡ z → ⊥) → pick q x y ≡ z → (q ≡ false) × (y ≡ z)
-pick-right true x y z n e = absurd (n e)
-pick-right false x y z n e = (refl, e)
+pub pick_right : {A : Type 0} (q : Bool) (x y z : A) → (x ≡ z → ⊥) → pick q x y ≡ z → (q ≡ false) × (y ≡ z)
+pick_right true x y z n e = absurd (n e)
+pick_right false x y z n e = (refl, e)
 
 pub pick-cases : {A B : Type 0} (q : Bool) (x y z : A) → (q ≡ true → x ≡ z → B) → (q ≡ false → y ≡ z → B) → pick q x y ≡ z → B
 pick-cases true x y z f g e = f refl e
@@ -50,11 +50,11 @@ pick-holds P false x y f g = g refl
 
 pub left-accepted :
     (q : Bool) (x : Answer) (r : Refusal) (t s : ℕ) (c : Counts) → pick q x (Refused r t s) ≡ Accepted c → (q ≡ true) × (x ≡ Accepted c)
-left-accepted q x r t s c = pick-left q x (Refused r t s) (Accepted c) (not-accepted r t s c)
+left-accepted q x r t s c = pick-left q x (Refused r t s) (Accepted c) (not_accepted r t s c)
 
-pub right-accepted :
+pub right_accepted :
     (q : Bool) (x : Answer) (r : Refusal) (t s : ℕ) (c : Counts) → pick q (Refused r t s) x ≡ Accepted c → (q ≡ false) × (x ≡ Accepted c)
-right-accepted q x r t s c = pick-right q (Refused r t s) x (Accepted c) (not-accepted r t s c)
+right_accepted q x r t s c = pick_right q (Refused r t s) x (Accepted c) (not_accepted r t s c)
 
 pub leaf-accepted :
     (q : Bool) (w n : ℕ) (r : Refusal) (t s : ℕ) (c : Counts) → pick q (one w n) (Refused r t s) ≡ Accepted c
@@ -64,49 +64,49 @@ leaf-accepted q w n r t s c e =
     (p.0, sym (accepted-same (single w n) c p.1))
 
 -- One answer behind another.
-pub then-accepted :
+pub then_accepted :
     (x y : Answer) (c : Counts) → and_then x y ≡ Accepted c
     → (a : Counts) × (b : Counts) × (x ≡ Accepted a) × (y ≡ Accepted b) × (c ≡ plus a b)
-then-accepted (Refused r t s) y c e = not-accepted r t s c e
-then-accepted (Accepted a) (Refused r t s) c e = not-accepted r t s c e
-then-accepted (Accepted a) (Accepted b) c e = (a, b, refl, refl, sym (accepted-same (plus a b) c e))
+then_accepted (Refused r t s) y c e = not_accepted r t s c e
+then_accepted (Accepted a) (Refused r t s) c e = not_accepted r t s c e
+then_accepted (Accepted a) (Accepted b) c e = (a, b, refl, refl, sym (accepted-same (plus a b) c e))
 
-pub then-accepts : (x y : Answer) (a b : Counts) → x ≡ Accepted a → y ≡ Accepted b → and_then x y ≡ Accepted (plus a b)
-then-accepts x y a b e f = rw (e, f)
+pub then_accepts : (x y : Answer) (a b : Counts) → x ≡ Accepted a → y ≡ Accepted b → and_then x y ≡ Accepted (plus a b)
+then_accepts x y a b e f = rw (e, f)
 
 -- counts a, known, before an answer
 pub behind-accepted : (a : Counts) (y : Answer) (c : Counts) → and_then (Accepted a) y ≡ Accepted c → (b : Counts) × (y ≡ Accepted b) × (c ≡ plus a b)
-behind-accepted a (Refused r t s) c e = not-accepted r t s c e
+behind-accepted a (Refused r t s) c e = not_accepted r t s c e
 behind-accepted a (Accepted b) c e = (b, refl, sym (accepted-same (plus a b) c e))
 
 pub built-accepted : (d : Told) (t s : ℕ) (x : Answer) (c : Counts) → built d t s x ≡ Accepted c → (d ≡ Told.Fine) × (x ≡ Accepted c)
-built-accepted (Told.Refused r) t s x c e = not-accepted r t s c e
+built-accepted (Told.Refused r) t s x c e = not_accepted r t s c e
 built-accepted Told.Fine t s x c e = (refl, e)
 
-pub vector-accepted : (d : Told) (t s n : ℕ) (c : Counts) → ofVector d t s n ≡ Accepted c → (d ≡ Told.Fine) × (c ≡ single 0 n)
-vector-accepted (Told.Refused r) t s n c e = not-accepted r t s c e
+pub vector-accepted : (d : Told) (t s n : ℕ) (c : Counts) → of_vector_lem d t s n ≡ Accepted c → (d ≡ Told.Fine) × (c ≡ single 0 n)
+vector-accepted (Told.Refused r) t s n c e = not_accepted r t s c e
 vector-accepted Told.Fine t s n c e = (refl, sym (accepted-same (single 0 n) c e))
 
-pub list-accepted : (d : BodyBits) (t s : ℕ) (c : Counts) → of_list d t s ≡ Accepted c → (k : ℕ) × (d ≡ BodyBits.Bits k) × (c ≡ single 1 (rawBytes k))
-list-accepted (BodyBits.Refused r) t s c e = not-accepted r t s c e
-list-accepted (BodyBits.Bits k) t s c e = (k, refl, sym (accepted-same (single 1 (rawBytes k)) c e))
+pub list-accepted : (d : BodyBits) (t s : ℕ) (c : Counts) → of_list d t s ≡ Accepted c → (k : ℕ) × (d ≡ BodyBits.Bits k) × (c ≡ single 1 (raw_bytes_lem k))
+list-accepted (BodyBits.Refused r) t s c e = not_accepted r t s c e
+list-accepted (BodyBits.Bits k) t s c e = (k, refl, sym (accepted-same (single 1 (raw_bytes_lem k)) c e))
 
 pub many-accepted :
-    (d : Elements) (t s : ℕ) (x : ℕ → Answer) (c : Counts) → ofElements d t s x ≡ Accepted c → (n : ℕ) × (d ≡ Many n) × (x n ≡ Accepted c)
-many-accepted (Elements.Refused r) t s x c e = not-accepted r t s c e
+    (d : Elements) (t s : ℕ) (x : ℕ → Answer) (c : Counts) → of_elements d t s x ≡ Accepted c → (n : ℕ) × (d ≡ Many n) × (x n ≡ Accepted c)
+many-accepted (Elements.Refused r) t s x c e = not_accepted r t s c e
 many-accepted (Many n) t s x c e = (n, refl, e)
 
 -- An acceptance without its counts.
-pub then-both : (x y : Answer) → IsAccepted (and_then x y) → IsAccepted x × IsAccepted y
-then-both (Accepted c) (Accepted d) h = (tt, tt)
-then-both (Accepted c) (Refused r t s) h = absurd h
-then-both (Refused r t s) y h = absurd h
+pub then_both : (x y : Answer) → IsAccepted (and_then x y) → IsAccepted x × IsAccepted y
+then_both (Accepted c) (Accepted d) h = (tt, tt)
+then_both (Accepted c) (Refused r t s) h = absurd h
+then_both (Refused r t s) y h = absurd h
 
 pub built-both : (d : Told) (t s : ℕ) (x : Answer) → IsAccepted (built d t s x) → (d ≡ Told.Fine) × IsAccepted x
 built-both Told.Fine t s x h = (refl, h)
 built-both (Told.Refused r) t s x h = absurd h
 
-pub many-both : (d : Elements) (t s : ℕ) (x : ℕ → Answer) → IsAccepted (ofElements d t s x) → (n : ℕ) × (d ≡ Many n) × IsAccepted (x n)
+pub many-both : (d : Elements) (t s : ℕ) (x : ℕ → Answer) → IsAccepted (of_elements d t s x) → (n : ℕ) × (d ≡ Many n) × IsAccepted (x n)
 many-both (Many n) t s x h = (n, refl, h)
 many-both (Elements.Refused r) t s x h = absurd h
 
@@ -117,12 +117,12 @@ plus_none c = simp zero-add
 pub plus_assoc : (a b c : Counts) → plus (plus a b) c ≡ plus a (plus b c)
 plus_assoc a b c = simp add_assoc
 
-pub then-none : (x : Answer) → and_then (Accepted none) x ≡ x
-then-none (Refused r t s) = refl
-then-none (Accepted c) = ap Accepted (plus_none c)
+pub then_none : (x : Answer) → and_then (Accepted none) x ≡ x
+then_none (Refused r t s) = refl
+then_none (Accepted c) = ap Accepted (plus_none c)
 
-pub then-assoc : (x y z : Answer) → and_then (and_then x y) z ≡ and_then x (and_then y z)
-then-assoc (Refused r t s) y z = refl
-then-assoc (Accepted a) (Refused r t s) z = refl
-then-assoc (Accepted a) (Accepted b) (Refused r t s) = refl
-then-assoc (Accepted a) (Accepted b) (Accepted c) = ap Accepted (plus_assoc a b c)
+pub then_assoc : (x y z : Answer) → and_then (and_then x y) z ≡ and_then x (and_then y z)
+then_assoc (Refused r t s) y z = refl
+then_assoc (Accepted a) (Refused r t s) z = refl
+then_assoc (Accepted a) (Accepted b) (Refused r t s) = refl
+then_assoc (Accepted a) (Accepted b) (Accepted c) = ap Accepted (plus_assoc a b c)

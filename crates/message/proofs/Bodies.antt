@@ -10,9 +10,9 @@ use borrow.Author.Tests.{eqb-true, eqb-false, ltb-true, ltb-false, lt-ltb, le-lt
 use lib.ListN.{length, get_or, take, drop, length-take, length-drop}
 use lib.Seq.{take_all}
 use lib.Dec.{eqb, leb, ltb}
-use Rattle.standard.specs.Choice.{pick, andAlso}
+use Rattle.standard.specs.Choice.{pick, and_also}
 use Rattle.standard.specs.Bytes.{word_at}
-use Rattle.standard.specs.Types.{Ty, Tys, Opts, number, boolean, fixedBytes, freeBytes, union, end, field, over, bare, body, head, heads}
+use Rattle.standard.specs.Types.{Ty, Tys, Opts, number, boolean, fixed_bytes, free_bytes, union, end, field, over, bare, body, head, heads}
 use Rattle.standard.specs.Parts.{span_of, part, InRange}
 use Rattle.standard.specs.declared.Head.{Head}
 use Rattle.standard.specs.declared.Head.TheVariants.{Fixed}
@@ -20,25 +20,25 @@ use Rattle.standard.specs.declared.Span.{Span}
 use Rattle.standard.specs.declared.Told.{Told}
 use Rattle.standard.specs.declared.Refusal.{Refusal}
 use Rattle.standard.specs.declared.Refusal.TheVariants.{OutOfBoundsByte, UnionSelectorInvalid, InvalidByteLength, OverLimit}
-use Rattle.decode.specs.Builder.{layOut}
-use Rattle.decode.specs.Unions.{selectorOf, splitUnion}
+use Rattle.decode.specs.Builder.{lay_out_lem}
+use Rattle.decode.specs.Unions.{selector_of, split_union}
 use Rattle.decode.specs.declared.union_selector.UnionSelector.{UnionSelector}
 use Rattle.decode.specs.declared.union_selector.SelectorResult.{SelectorResult}
-use Rattle.layout.specs.Tree.{node_of, leafOf, options, trees, tree_of, len_of}
+use Rattle.layout.specs.Tree.{node_of, leaf_of, options, trees, tree_of, len_of}
 use Rattle.layout.specs.Legal.{LowerOrBare, Legal}
 use Rattle.layout.specs.declared.Node.{Node}
-use Rattle.layout.proofs.Facts.{trees-get, as-union, as-leaf}
-use Rattle.message.specs.Read.{one, plus, and_then, built, readExact, readItem, readFields, readOption}
-use Rattle.message.specs.Steps.{Under, Row, row_of, headsOf, placed, optionAt, choice_of, choose, is_plain, Small}
+use Rattle.layout.proofs.Facts.{trees-get, as_union, as_leaf}
+use Rattle.message.specs.Read.{one, plus, and_then, built, read_exact, read_item, read_fields, read_option}
+use Rattle.message.specs.Steps.{Under, Row, row_of, heads_of, placed, option_at_lem, choice_of, choose, is_plain, Small}
 use Rattle.message.specs.declared.Counts.{Counts}
 use Rattle.message.specs.declared.Answer.{Answer}
 use Rattle.message.specs.declared.Answer.TheVariants.{Accepted, Refused}
 use Rattle.message.specs.declared.items.Choice.{Choice}
 use Rattle.message.specs.declared.items.LeafTold.{LeafTold}
-use Rattle.message.proofs.Answers.{then-assoc}
-use Rattle.message.proofs.Bounds.{counts-small}
+use Rattle.message.proofs.Answers.{then_assoc}
+use Rattle.message.proofs.Bounds.{counts_small}
 use Rattle.message.proofs.Sums.{Summed, spread, spread-small, summed-own, summed-small, summed-item}
-use Rattle.message.proofs.Rows.{Lies, node-legal, under-below, row-none, row_first, row_below, row_under, row_next, row-heads, container-tree, container-named, first-ranges, first_fits, span-ok, span-lies}
+use Rattle.message.proofs.Rows.{Lies, node_legal, under-below, row-none, row_first, row_below, row_under, row_next, row-heads, container_tree, container-named, first-ranges, first_fits, span_ok, span_lies}
 
 plus-zero : (a : Counts) → plus a (record { records = 0; words = 0; bytes = 0 }) ≡ a
 plus-zero a = simp add-zero
@@ -46,13 +46,13 @@ plus-zero a = simp add-zero
 -- The loop of `field_check`: what is counted, and what is left to read, give the whole. What holds the fields has `own` contents words.
 pub record Reading (lens l : List ℕ) (t a₀ step n own : ℕ) (b : List ℕ) (s : ℕ) (sum : Counts) (a left p : ℕ) : Type 0 where
   pub row : Row lens l t a step left
-  pub ranges : InRange (headsOf l t a step left) b p 0
-  pub summed : Summed sum (spread (headsOf l t a step left) b p) (spread (headsOf l t a₀ step n) b 0)
-  pub short : spread (headsOf l t a₀ step n) b 0 < 2 ^ 33
-  pub same : and_then (Accepted sum) (readFields (row_of l t a step left) b p s) ≡ and_then (one own 0) (readFields (row_of l t a₀ step n) b 0 s)
+  pub ranges : InRange (heads_of l t a step left) b p 0
+  pub summed : Summed sum (spread (heads_of l t a step left) b p) (spread (heads_of l t a₀ step n) b 0)
+  pub short : spread (heads_of l t a₀ step n) b 0 < 2 ^ 33
+  pub same : and_then (Accepted sum) (read_fields (row_of l t a step left) b p s) ≡ and_then (one own 0) (read_fields (row_of l t a₀ step n) b 0 s)
 
 pub reading-new : (lens l : List ℕ) (t a₀ step n own : ℕ) (b : List ℕ) (s : ℕ) → Row lens l t a₀ step n → s + length b < 2 ^ 32 →
-    InRange (headsOf l t a₀ step n) b 0 0 → own ≤ 1 → Reading lens l t a₀ step n own b s (record { records = 1; words = own; bytes = 0 }) a₀ n 0
+    InRange (heads_of l t a₀ step n) b 0 0 → own ≤ 1 → Reading lens l t a₀ step n own b s (record { records = 1; words = own; bytes = 0 }) a₀ n 0
 reading-new lens l t a₀ step n own b s g h r i =
     record { row = g; ranges = r; summed = summed-own own i _; short = spread-small _ b r (omega arith); same = refl }
 
@@ -62,9 +62,9 @@ reading_small g = summed-small _ _ _ g.summed g.short
 
 -- What an item counts.
 pub item-small : (lens l : List ℕ) (f : ℕ) (b : List ℕ) (s : ℕ) (c : Counts) → Under lens l (f + 1) → length b < 2 ^ 32 →
-    Accepted c ≡ readItem (tree_of l f) b s → Small c (2 ^ 40)
+    Accepted c ≡ read_item (tree_of l f) b s → Small c (2 ^ 40)
 item-small lens l f b s c g k e =
-    let q = counts-small l f b s c g.legal (omega (arith, g.few)) k (sym e) in
+    let q = counts_small l f b s c g.legal (omega (arith, g.few)) k (sym e) in
     record { records = omega (arith, q.0); words = omega (arith, q.1); bytes = omega (arith, q.2) }
 
 pub small-more : (c : Counts) → Small c (2 ^ 40) → Small c (2 ^ 50)
@@ -79,99 +79,99 @@ plain-kind k h = go (eqb k 0) refl h
     go true e h = inl (eqb-true _ _ e)
     go false e h = inr (eqb-true _ _ h)
 
-pub exact_read : (m t : ℕ) (b : List ℕ) (s k : ℕ) → length b ≡ k → k ≡ m → one 0 k ≡ readExact m t b s
+pub exact_read : (m t : ℕ) (b : List ℕ) (s k : ℕ) → length b ≡ k → k ≡ m → one 0 k ≡ read_exact m t b s
 exact_read m t b s k h e = rw (h, eq-eqb k m e)
 
 module _ (l : List ℕ) (f : ℕ) (n : Node) (e : n ≡ node_of l f) where
   as_number : n.kind ≡ 0 → tree_of l f ≡ number f n.second
-  unfolding leafOf
-  as_number h = as-leaf l f n e (omega arith) ∙ rw h
+  unfolding leaf_of
+  as_number h = as_leaf l f n e (omega arith) ∙ rw h
 
-  as-fixed-bytes : n.kind ≡ 2 → tree_of l f ≡ fixedBytes f n.second
-  unfolding leafOf
-  as-fixed-bytes h = as-leaf l f n e (omega arith) ∙ rw h
+  as_fixed_bytes : n.kind ≡ 2 → tree_of l f ≡ fixed_bytes f n.second
+  unfolding leaf_of
+  as_fixed_bytes h = as_leaf l f n e (omega arith) ∙ rw h
 
-  pub as-free : n.kind ≡ 3 → tree_of l f ≡ freeBytes f n.second
-  unfolding leafOf
-  as-free h = as-leaf l f n e (omega arith) ∙ rw h
+  pub as_free : n.kind ≡ 3 → tree_of l f ≡ free_bytes f n.second
+  unfolding leaf_of
+  as_free h = as_leaf l f n e (omega arith) ∙ rw h
 
   pub plain_type : is_plain n.kind ≡ true → (head (tree_of l f) ≡ Fixed n.second) ×
-      ((b : List ℕ) (s : ℕ) → readItem (tree_of l f) b s ≡ readExact n.second f b s)
-  unfolding head readItem
+      ((b : List ℕ) (s : ℕ) → read_item (tree_of l f) b s ≡ read_exact n.second f b s)
+  unfolding head read_item
   plain_type h =
       ⊎_elim
       (λ (k : n.kind ≡ 0). (rw (as_number k), λ b s. rw (as_number k)))
-      (λ (k : n.kind ≡ 2). (rw (as-fixed-bytes k), λ b s. rw (as-fixed-bytes k)))
+      (λ (k : n.kind ≡ 2). (rw (as_fixed_bytes k), λ b s. rw (as_fixed_bytes k)))
       (plain-kind n.kind h)
 
 -- Free bytes within their limit
-pub within-says : (k len limit : ℕ) → andAlso (eqb k 3) (leb len limit) ≡ true → (k ≡ 3) × (len ≤ limit)
+pub within-says : (k len limit : ℕ) → and_also (eqb k 3) (leb len limit) ≡ true → (k ≡ 3) × (len ≤ limit)
 within-says k len limit h = go (eqb k 3) refl h
   where
-    go : (c : Bool) → eqb k 3 ≡ c → andAlso c (leb len limit) ≡ true → (k ≡ 3) × (len ≤ limit)
+    go : (c : Bool) → eqb k 3 ≡ c → and_also c (leb len limit) ≡ true → (k ≡ 3) × (len ≤ limit)
     go true e q = (eqb-true _ _ e, leb-true _ _ q)
     go false e q = let z : ◌≡◌ {A = ℕ} 0 1 = cc in absurd (omega arith)
 
 -- What a leaf is told to be, y, is what the rules of reading say.
 pub leaf-told : (l : List ℕ) (f : ℕ) (n : Node) → n ≡ node_of l f → n.kind < 6 → (b : List ℕ) (x y : LeafTold) → y ≡ x →
-    ((t s : ℕ) → placed y t s ≡ readItem (leafOf t n) b s) → (s : ℕ) → placed x f s ≡ readItem (tree_of l f) b s
-leaf-told l f n e h b x y q k s = rw (← q, as-leaf l f n e h) (k f s)
+    ((t s : ℕ) → placed y t s ≡ read_item (leaf_of t n) b s) → (s : ℕ) → placed x f s ≡ read_item (tree_of l f) b s
+leaf-told l f n e h b x y q k s = rw (← q, as_leaf l f n e h) (k f s)
 
 -- The first field's answer, and that of the rest.
 module _ (lens l : List ℕ) (t a step left f : ℕ) (b : List ℕ) (p : ℕ) (g : Row lens l t a step left) (z : 0 < left) (e : f ≡ word_at l a) (w : Span)
-    (q : w ≡ span_of (head (tree_of l f)) (headsOf l t (a + step) step (left - 1)) b p) (s : ℕ) where
-  pub fields_read : readFields (row_of l t a step left) b p s ≡ and_then (readItem (tree_of l f) (part b w) (s + w.from))
-      (readFields (row_of l t (a + step) step (left - 1)) b w.next s)
-  unfolding readItem
+    (q : w ≡ span_of (head (tree_of l f)) (heads_of l t (a + step) step (left - 1)) b p) (s : ℕ) where
+  pub fields_read : read_fields (row_of l t a step left) b p s ≡ and_then (read_item (tree_of l f) (part b w) (s + w.from))
+      (read_fields (row_of l t (a + step) step (left - 1)) b w.next s)
+  unfolding read_item
   fields_read = rw (row_first l t a step left g.named z, q, e)
 
 module _ {lens l : List ℕ} {t a₀ step n own : ℕ} {b : List ℕ} {s : ℕ} {sum : Counts} {a left p f : ℕ} (g : Reading lens l t a₀ step n own b s sum a left p)
-    (z : 0 < left) (e : f ≡ word_at l a) {w : Span} (q : w ≡ span_of (head (tree_of l f)) (headsOf l t (a + step) step (left - 1)) b p) where
-  reading-first : and_then (Accepted sum) (and_then (readItem (tree_of l f) (part b w) (s + w.from))
-      (readFields (row_of l t (a + step) step (left - 1)) b w.next s)) ≡ and_then (one own 0) (readFields (row_of l t a₀ step n) b 0 s)
+    (z : 0 < left) (e : f ≡ word_at l a) {w : Span} (q : w ≡ span_of (head (tree_of l f)) (heads_of l t (a + step) step (left - 1)) b p) where
+  reading-first : and_then (Accepted sum) (and_then (read_item (tree_of l f) (part b w) (s + w.from))
+      (read_fields (row_of l t (a + step) step (left - 1)) b w.next s)) ≡ and_then (one own 0) (read_fields (row_of l t a₀ step n) b 0 s)
   reading-first = rw (fields_read lens l t a step left f b p g.row z e w q s) at g.same
 
   -- where the first field lies, and what it counts
-  pub reading-span : Lies b w
-  reading-span = span-lies lens l t a step left f b p g.row z e g.ranges w q
+  pub reading_span : Lies b w
+  reading_span = span_lies lens l t a step left f b p g.row z e g.ranges w q
 
-  pub reading-item : (c : Counts) → s + length b < 2 ^ 32 → Accepted c ≡ readItem (tree_of l f) (part b w) (s + w.from) → Small c (2 ^ 40)
+  pub reading-item : (c : Counts) → s + length b < 2 ^ 32 → Accepted c ≡ read_item (tree_of l f) (part b w) (s + w.from) → Small c (2 ^ 40)
   reading-item c h i =
-      item-small lens l f (part b w) (s + w.from) c (row_under lens l t a step left f g.row z e) (omega (arith, reading-span)) i
+      item-small lens l f (part b w) (s + w.from) c (row_under lens l t a step left f g.row z e) (omega (arith, reading_span)) i
 
-  reading-summed : (c : Counts) → Accepted c ≡ readItem (tree_of l f) (part b w) (s + w.from) →
-      Summed (plus sum c) (spread (headsOf l t (a + step) step (left - 1)) b w.next) (spread (headsOf l t a₀ step n) b 0)
+  reading-summed : (c : Counts) → Accepted c ≡ read_item (tree_of l f) (part b w) (s + w.from) →
+      Summed (plus sum c) (spread (heads_of l t (a + step) step (left - 1)) b w.next) (spread (heads_of l t a₀ step n) b 0)
   reading-summed c h =
       let u = row_under lens l t a step left f g.row z e in
       let i = first-ranges lens l t a step left f b p g.row z e g.ranges (head (tree_of l f)) refl in
       let j = rw (row-heads lens l t a step left f g.row z e (head (tree_of l f)) refl) at g.summed in
       summed-item l f _ b p u.legal (omega (arith, u.few)) i w q (s + w.from) sum c _ j (sym h)
 
-  pub reading-next : (c : Counts) → s + length b < 2 ^ 32 → Accepted c ≡ readItem (tree_of l f) (part b w) (s + w.from) →
+  pub reading-next : (c : Counts) → s + length b < 2 ^ 32 → Accepted c ≡ read_item (tree_of l f) (part b w) (s + w.from) →
       Reading lens l t a₀ step n own b s (plus sum c) (a + step) (left - 1) w.next
   reading-next c k h =
       record {
         row = row_next lens l t a step left f g.row z e;
-        ranges = (span-ok lens l t a step left f b p g.row z e g.ranges w q).2;
+        ranges = (span_ok lens l t a step left f b p g.row z e g.ranges w q).2;
         summed = reading-summed c h;
         short = g.short;
-        same = then-assoc (Accepted sum) (Accepted c) (readFields (row_of l t (a + step) step (left - 1)) b w.next s) ∙ rw (← h) at reading-first;
+        same = then_assoc (Accepted sum) (Accepted c) (read_fields (row_of l t (a + step) step (left - 1)) b w.next s) ∙ rw (← h) at reading-first;
       }
 
-  pub reading-stop : (r : Refusal) (u v : ℕ) → Refused r u v ≡ readItem (tree_of l f) (part b w) (s + w.from) →
-      Refused r u v ≡ and_then (one own 0) (readFields (row_of l t a₀ step n) b 0 s)
-  reading-stop r u v h = rw (← h) at reading-first
+  pub reading_stop : (r : Refusal) (u v : ℕ) → Refused r u v ≡ read_item (tree_of l f) (part b w) (s + w.from) →
+      Refused r u v ≡ and_then (one own 0) (read_fields (row_of l t a₀ step n) b 0 s)
+  reading_stop r u v h = rw (← h) at reading-first
 
   -- Free bytes: of them only the length is asked.
   module _ {d : Node} (i : d ≡ node_of l f) (k : d.kind ≡ 3) where
-    free-read : readItem (tree_of l f) (part b w) (s + w.from) ≡
+    free_read : read_item (tree_of l f) (part b w) (s + w.from) ≡
         pick (leb (w.to - w.from) d.second) (one 1 (w.to - w.from)) (Refused (OverLimit (w.to - w.from) d.second) f (s + w.from))
-    unfolding readItem
-    free-read = rw (as-free l f d i k, reading-span.2)
+    unfolding read_item
+    free_read = rw (as_free l f d i k, reading_span.2)
 
-    pub free-next : w.to - w.from ≤ d.second → s + length b < 2 ^ 32 →
+    pub free_next : w.to - w.from ≤ d.second → s + length b < 2 ^ 32 →
         Reading lens l t a₀ step n own b s (plus sum (record { records = 1; words = 1; bytes = w.to - w.from })) (a + step) (left - 1) w.next
-    free-next h m = reading-next _ m (rw (le-leb _ _ h) at (sym free-read))
+    free_next h m = reading-next _ m (rw (le-leb _ _ h) at (sym free_read))
 
 -- A plain field: its length stands in the table, and of its bytes nothing else is asked.
 module _ {lens l : List ℕ} {t a₀ step n own : ℕ} {b : List ℕ} {s : ℕ} {sum : Counts} {a left p f : ℕ} (g : Reading lens l t a₀ step n own b s sum a left p)
@@ -189,22 +189,22 @@ module _ {lens l : List ℕ} {t a₀ step n own : ℕ} {b : List ℕ} {s : ℕ} 
       Reading lens l t a₀ step n own b s (plus sum (record { records = 1; words = 0; bytes = k })) (a + step) (left - 1) (p + k)
   plain-next m =
       let w : Span = record { from = p; to = p + k; next = p + k } in
-      let v : w ≡ span_of (head (tree_of l f)) (headsOf l t (a + step) step (left - 1)) b p = rw (← plain-head) in
-      let y : length (part b w) ≡ k = (reading-span g z e v).2 ∙ omega arith in
-      let x : one 0 k ≡ readItem (tree_of l f) (part b w) (s + p) =
+      let v : w ≡ span_of (head (tree_of l f)) (heads_of l t (a + step) step (left - 1)) b p = rw (← plain-head) in
+      let y : length (part b w) ≡ k = (reading_span g z e v).2 ∙ omega arith in
+      let x : one 0 k ≡ read_item (tree_of l f) (part b w) (s + p) =
       exact_read d.second f (part b w) (s + p) k y plain-length ∙ sym ((plain_type l f d i h).1 (part b w) (s + p)) in
       reading-next g z e v (record { records = 1; words = 0; bytes = k }) m x
 
 pub reading-end : {lens l : List ℕ} {t a₀ step n own : ℕ} {b : List ℕ} {s : ℕ} {sum : Counts} {a left p : ℕ} → Reading lens l t a₀ step n own b s sum a left p →
-    left ≤ 0 → Accepted sum ≡ and_then (one own 0) (readFields (row_of l t a₀ step n) b 0 s)
-unfolding readItem
+    left ≤ 0 → Accepted sum ≡ and_then (one own 0) (read_fields (row_of l t a₀ step n) b 0 s)
+unfolding read_item
 reading-end g h = sym (ap Accepted (plus-zero _)) ∙ rw (row-none _ _ _ _ _ h) at g.same
 
 -- A container.
 module _ (lens l : List ℕ) (t : ℕ) (n : Node) (e : n ≡ node_of l t) (g : Under lens l (t + 1)) where
   pub container-row : n.kind ≡ 6 → Row lens l t (n.at + 2) 1 n.second
   container-row k =
-      let m = node-legal lens l t n e g in
+      let m = node_legal lens l t n e g in
       record {
         under = under-below lens l (t + 1) t (omega arith) g;
         near = omega (arith, m.near, m.few k);
@@ -213,29 +213,29 @@ module _ (lens l : List ℕ) (t : ℕ) (n : Node) (e : n ≡ node_of l t) (g : U
       }
 
   module _ (k : n.kind ≡ 6) (b : List ℕ) (s : ℕ) where
-    pub container-read : readItem (tree_of l t) b s ≡ built (layOut (headsOf l t (n.at + 2) 1 n.second) b) t s
-        (and_then (one 0 0) (readFields (row_of l t (n.at + 2) 1 n.second) b 0 s))
-    unfolding readItem
-    container-read = rw (container-tree l t n e k)
+    pub container-read : read_item (tree_of l t) b s ≡ built (lay_out_lem (heads_of l t (n.at + 2) 1 n.second) b) t s
+        (and_then (one 0 0) (read_fields (row_of l t (n.at + 2) 1 n.second) b 0 s))
+    unfolding read_item
+    container-read = rw (container_tree l t n e k)
 
-    pub container-on : Told.Fine ≡ layOut (headsOf l t (n.at + 2) 1 n.second) b →
-        and_then (one 0 0) (readFields (row_of l t (n.at + 2) 1 n.second) b 0 s) ≡ readItem (tree_of l t) b s
+    pub container-on : Told.Fine ≡ lay_out_lem (heads_of l t (n.at + 2) 1 n.second) b →
+        and_then (one 0 0) (read_fields (row_of l t (n.at + 2) 1 n.second) b 0 s) ≡ read_item (tree_of l t) b s
     container-on h = rw (container-read, ← h)
 
-    pub container-stop : (r : Refusal) → Told.Refused r ≡ layOut (headsOf l t (n.at + 2) 1 n.second) b → Refused r t s ≡ readItem (tree_of l t) b s
-    container-stop r h = rw (container-read, ← h)
+    pub container_stop : (r : Refusal) → Told.Refused r ≡ lay_out_lem (heads_of l t (n.at + 2) 1 n.second) b → Refused r t s ≡ read_item (tree_of l t) b s
+    container_stop r h = rw (container-read, ← h)
 
 -- A union: the walk along the options finds the word that the selector points to.
 chosen : Choice → List Ty → List ℕ → ℕ → ℕ → Answer
 chosen Choice.Bare lower b t s = one 1 0
-chosen (Choice.Body o) lower b t s = and_then (one 1 0) (readItem (get_or lower o (boolean 0)) (drop 1 b) (s + 1))
+chosen (Choice.Body o) lower b t s = and_then (one 1 0) (read_item (get_or lower o (boolean 0)) (drop 1 b) (s + 1))
 chosen (Choice.Wrong r) lower b t s = Refused r t s
 
 module _ (l : List ℕ) (lower : List Ty) (b : List ℕ) (t s : ℕ) where
   -- the option that is asked for
-  option-here : (w : ℕ) (os : Opts) (k : ℕ) → readOption (pick (eqb w 4294967295) (bare k os) (body k (get_or lower w (boolean 0)) os)) k b t s ≡
-      chosen (optionAt w (length b)) lower b t s
-  unfolding readItem chosen
+  option-here : (w : ℕ) (os : Opts) (k : ℕ) → read_option (pick (eqb w 4294967295) (bare k os) (body k (get_or lower w (boolean 0)) os)) k b t s ≡
+      chosen (option_at_lem w (length b)) lower b t s
+  unfolding read_item chosen
   option-here w os k = go (eqb w 4294967295) (eqb (length b) 1)
     where
       alone : (d : Bool) → pick d (one 1 0) (Refused (InvalidByteLength (length b - 1) 0) t s) ≡
@@ -243,21 +243,21 @@ module _ (l : List ℕ) (lower : List Ty) (b : List ℕ) (t s : ℕ) where
       alone true = refl
       alone false = refl
 
-      go : (c d : Bool) → readOption (pick c (bare k os) (body k (get_or lower w (boolean 0)) os)) k b t s ≡
+      go : (c d : Bool) → read_option (pick c (bare k os) (body k (get_or lower w (boolean 0)) os)) k b t s ≡
           chosen (pick c (pick (eqb (length b) 1) Choice.Bare (Choice.Wrong (InvalidByteLength (length b - 1) 0))) (Choice.Body w)) lower b t s
       go true d = rw (eq-eqb k k refl) (alone (eqb (length b) 1))
       go false d = rw (eq-eqb k k refl)
 
   -- another option
-  option-skip : (c : Bool) (x : Ty) (os : Opts) (j k : ℕ) → (k ≡ j → ⊥) → readOption (pick c (bare j os) (body j x os)) k b t s ≡ readOption os k b t s
-  unfolding readItem
-  option-skip true x os j k h = rw (ne_eqb k j h)
-  option-skip false x os j k h = rw (ne_eqb k j h)
+  option_skip : (c : Bool) (x : Ty) (os : Opts) (j k : ℕ) → (k ≡ j → ⊥) → read_option (pick c (bare j os) (body j x os)) k b t s ≡ read_option os k b t s
+  unfolding read_item
+  option_skip true x os j k h = rw (ne_eqb k j h)
+  option_skip false x os j k h = rw (ne_eqb k j h)
 
-  option-read : (n a j k : ℕ) → j ≤ k → readOption (options l lower a j n) k b t s ≡
-      pick (ltb k (j + n)) (chosen (optionAt (word_at l (a + (k - j))) (length b)) lower b t s) (Refused (UnionSelectorInvalid k) t s)
+  option-read : (n a j k : ℕ) → j ≤ k → read_option (options l lower a j n) k b t s ≡
+      pick (ltb k (j + n)) (chosen (option_at_lem (word_at l (a + (k - j))) (length b)) lower b t s) (Refused (UnionSelectorInvalid k) t s)
   unfolding options
-  option-read zero a j k h = rw (le-ltb k (j + 0) (omega arith)) (unfold readItem in refl)
+  option-read zero a j k h = rw (le-ltb k (j + 0) (omega arith)) (unfold read_item in refl)
   option-read (suc n) a j k h = go (eqb k j) refl (option-read n (a + 1) (j + 1) k)
     where
       whole : Opts
@@ -265,10 +265,10 @@ module _ (l : List ℕ) (lower : List Ty) (b : List ℕ) (t s : ℕ) where
           (body j (get_or lower (word_at l a) (boolean 0)) (options l lower (a + 1) (j + 1) n))
 
       wanted : ℕ → ℕ → Answer
-      wanted m i = pick (ltb k m) (chosen (optionAt (word_at l i) (length b)) lower b t s) (Refused (UnionSelectorInvalid k) t s)
+      wanted m i = pick (ltb k m) (chosen (option_at_lem (word_at l i) (length b)) lower b t s) (Refused (UnionSelectorInvalid k) t s)
 
-      go : (c : Bool) → eqb k j ≡ c → (j + 1 ≤ k → readOption (options l lower (a + 1) (j + 1) n) k b t s ≡
-          wanted (j + 1 + n) (a + 1 + (k - (j + 1)))) → readOption whole k b t s ≡ wanted (j + suc n) (a + (k - j))
+      go : (c : Bool) → eqb k j ≡ c → (j + 1 ≤ k → read_option (options l lower (a + 1) (j + 1) n) k b t s ≡
+          wanted (j + 1 + n) (a + 1 + (k - (j + 1)))) → read_option whole k b t s ≡ wanted (j + suc n) (a + (k - j))
       go true p f =
           let q : k ≡ j = eqb-true _ _ p in
           let i : a + (k - j) ≡ a = omega arith in
@@ -277,12 +277,12 @@ module _ (l : List ℕ) (lower : List Ty) (b : List ℕ) (t s : ℕ) where
           let q : k ≡ j → ⊥ = eqb-false _ _ p in
           let i : a + 1 + (k - (j + 1)) ≡ a + (k - j) = omega arith in
           let m : j + 1 + n ≡ j + suc n = omega arith in
-          option-skip (eqb (word_at l a) 4294967295) (get_or lower (word_at l a) (boolean 0)) (options l lower (a + 1) (j + 1) n) j k q ∙
+          option_skip (eqb (word_at l a) 4294967295) (get_or lower (word_at l a) (boolean 0)) (options l lower (a + 1) (j + 1) n) j k q ∙
           rw (i, m) at (f (omega arith))
 
   -- the whole union
-  union-chosen : (a n : ℕ) → readItem (union t (options l lower a 0 n)) b s ≡ chosen (choose l a n b) lower b t s
-  unfolding choose readItem chosen
+  union-chosen : (a n : ℕ) → read_item (union t (options l lower a 0 n)) b s ≡ chosen (choose l a n b) lower b t s
+  unfolding choose read_item chosen
   union-chosen a n = go (eqb (length b) 0) (leb (get_or b 0 0) 127)
     where
       x : ℕ
@@ -293,15 +293,15 @@ module _ (l : List ℕ) (lower : List Ty) (b : List ℕ) (t s : ℕ) where
       either true u = refl
       either false u = refl
 
-      inside : readOption (options l lower a 0 n) x b t s ≡ chosen
-          (pick (ltb x n) (optionAt (word_at l (a + x)) (length b)) (Choice.Wrong (UnionSelectorInvalid x))) lower b t s
+      inside : read_option (options l lower a 0 n) x b t s ≡ chosen
+          (pick (ltb x n) (option_at_lem (word_at l (a + x)) (length b)) (Choice.Wrong (UnionSelectorInvalid x))) lower b t s
       inside =
           let i : 0 + n ≡ n = omega arith in
           let j : x - 0 ≡ x = omega arith in
-          rw (i, j) at (option-read n a 0 x (omega arith)) ∙ either (ltb x n) (optionAt (word_at l (a + x)) (length b))
+          rw (i, j) at (option-read n a 0 x (omega arith)) ∙ either (ltb x n) (option_at_lem (word_at l (a + x)) (length b))
 
       go : (c d : Bool) → pick c (Refused (OutOfBoundsByte 0) t s)
-          (pick d (readOption (options l lower a 0 n) x b t s) (Refused (UnionSelectorInvalid x) t s)) ≡
+          (pick d (read_option (options l lower a 0 n) x b t s) (Refused (UnionSelectorInvalid x) t s)) ≡
           chosen (choice_of (pick c (SelectorResult.Refused (OutOfBoundsByte 0))
           (pick d (SelectorResult.Selector (record { 0 = x })) (SelectorResult.Refused (UnionSelectorInvalid x)))) l a n (length b)) lower b t s
       go true d = refl
@@ -309,7 +309,7 @@ module _ (l : List ℕ) (lower : List Ty) (b : List ℕ) (t s : ℕ) where
       go false false = refl
 
 -- What a chosen body says of the bytes and of the table.
-body-option : (w len o : ℕ) → optionAt w len ≡ Choice.Body o → (o ≡ w) × (w ≡ 4294967295 → ⊥)
+body-option : (w len o : ℕ) → option_at_lem w len ≡ Choice.Body o → (o ≡ w) × (w ≡ 4294967295 → ⊥)
 body-option w len o e = go (eqb w 4294967295) (eqb len 1) refl e
   where
     go : (c d : Bool) → eqb w 4294967295 ≡ c → pick c (pick d Choice.Bare (Choice.Wrong (InvalidByteLength (len - 1) 0))) (Choice.Body w) ≡
@@ -319,42 +319,42 @@ body-option w len o e = go (eqb w 4294967295) (eqb len 1) refl e
     go false d p h = (cc, eqb-false _ _ p)
 
 -- the choice, by its three tests
-choice-by : List ℕ → ℕ → ℕ → List ℕ → Bool → Bool → Bool → Choice
-choice-by l a n b c d f =
+choice_by : List ℕ → ℕ → ℕ → List ℕ → Bool → Bool → Bool → Choice
+choice_by l a n b c d f =
     pick c (Choice.Wrong (OutOfBoundsByte 0))
     (pick d
-    (pick f (optionAt (word_at l (a + get_or b 0 0)) (length b)) (Choice.Wrong (UnionSelectorInvalid (get_or b 0 0))))
+    (pick f (option_at_lem (word_at l (a + get_or b 0 0)) (length b)) (Choice.Wrong (UnionSelectorInvalid (get_or b 0 0))))
     (Choice.Wrong (UnionSelectorInvalid (get_or b 0 0))))
 
-choose-by : (l : List ℕ) (a n : ℕ) (b : List ℕ) → choose l a n b ≡ choice-by l a n b (eqb (length b) 0) (leb (get_or b 0 0) 127) (ltb (get_or b 0 0) n)
-unfolding choose choice-by
-choose-by l a n b = go (eqb (length b) 0) (leb (get_or b 0 0) 127)
+choose_by : (l : List ℕ) (a n : ℕ) (b : List ℕ) → choose l a n b ≡ choice_by l a n b (eqb (length b) 0) (leb (get_or b 0 0) 127) (ltb (get_or b 0 0) n)
+unfolding choose choice_by
+choose_by l a n b = go (eqb (length b) 0) (leb (get_or b 0 0) 127)
   where
     x : ℕ
     x = get_or b 0 0
 
     go : (c d : Bool) → choice_of (pick c (SelectorResult.Refused (OutOfBoundsByte 0))
         (pick d (SelectorResult.Selector (record { 0 = x })) (SelectorResult.Refused (UnionSelectorInvalid x)))) l a n (length b) ≡
-        pick c (Choice.Wrong (OutOfBoundsByte 0)) (pick d (pick (ltb x n) (optionAt (word_at l (a + x)) (length b))
+        pick c (Choice.Wrong (OutOfBoundsByte 0)) (pick d (pick (ltb x n) (option_at_lem (word_at l (a + x)) (length b))
         (Choice.Wrong (UnionSelectorInvalid x))) (Choice.Wrong (UnionSelectorInvalid x)))
     go true d = refl
     go false true = refl
     go false false = refl
 
 -- A choice that is no refusal comes from a word of the table, and there is a selector.
-right-choice : (l : List ℕ) (a n : ℕ) (b : List ℕ) (u : Choice) → ((r : Refusal) → Choice.Wrong r ≡ u → ⊥) → choose l a n b ≡ u →
-    (get_or b 0 0 < n) × (optionAt (word_at l (a + get_or b 0 0)) (length b) ≡ u) × (1 ≤ length b)
-unfolding choice-by
-right-choice l a n b u never e = go (eqb (length b) 0) (leb (get_or b 0 0) 127) (ltb (get_or b 0 0) n) refl refl (sym (choose-by l a n b) ∙ e)
+right_choice : (l : List ℕ) (a n : ℕ) (b : List ℕ) (u : Choice) → ((r : Refusal) → Choice.Wrong r ≡ u → ⊥) → choose l a n b ≡ u →
+    (get_or b 0 0 < n) × (option_at_lem (word_at l (a + get_or b 0 0)) (length b) ≡ u) × (1 ≤ length b)
+unfolding choice_by
+right_choice l a n b u never e = go (eqb (length b) 0) (leb (get_or b 0 0) 127) (ltb (get_or b 0 0) n) refl refl (sym (choose_by l a n b) ∙ e)
   where
-    go : (c d f : Bool) → eqb (length b) 0 ≡ c → ltb (get_or b 0 0) n ≡ f → choice-by l a n b c d f ≡ u →
-        (get_or b 0 0 < n) × (optionAt (word_at l (a + get_or b 0 0)) (length b) ≡ u) × (1 ≤ length b)
+    go : (c d f : Bool) → eqb (length b) 0 ≡ c → ltb (get_or b 0 0) n ≡ f → choice_by l a n b c d f ≡ u →
+        (get_or b 0 0 < n) × (option_at_lem (word_at l (a + get_or b 0 0)) (length b) ≡ u) × (1 ≤ length b)
     go true d f p q h = absurd (never _ h)
     go false false f p q h = absurd (never _ h)
     go false true false p q h = absurd (never _ h)
     go false true true p q h = let y : length b ≡ 0 → ⊥ = eqb-false _ _ p in (ltb-true _ _ q, h, omega arith)
 
-bare-option : (w len : ℕ) → optionAt w len ≡ Choice.Bare → w ≡ 4294967295
+bare-option : (w len : ℕ) → option_at_lem w len ≡ Choice.Bare → w ≡ 4294967295
 bare-option w len e = go (eqb w 4294967295) refl e
   where
     go : (c : Bool) → eqb w 4294967295 ≡ c → pick c (pick (eqb len 1) Choice.Bare (Choice.Wrong (InvalidByteLength (len - 1) 0))) (Choice.Body w) ≡
@@ -364,34 +364,34 @@ bare-option w len e = go (eqb w 4294967295) refl e
 
 pub bare-says : (l : List ℕ) (a n : ℕ) (b : List ℕ) → choose l a n b ≡ Choice.Bare → (get_or b 0 0 < n) × (word_at l (a + get_or b 0 0) ≡ 4294967295)
 bare-says l a n b e =
-    let q = right-choice l a n b Choice.Bare (λ r h. let z : ◌≡◌ {A = ℕ} 0 1 = cc in omega arith) e in
+    let q = right_choice l a n b Choice.Bare (λ r h. let z : ◌≡◌ {A = ℕ} 0 1 = cc in omega arith) e in
     (q.0, bare-option _ (length b) q.1)
 
 pub body-says : (l : List ℕ) (a n : ℕ) (b : List ℕ) (o : ℕ) → choose l a n b ≡ Choice.Body o →
     (get_or b 0 0 < n) × (o ≡ word_at l (a + get_or b 0 0)) × (word_at l (a + get_or b 0 0) ≡ 4294967295 → ⊥) × (1 ≤ length b)
 body-says l a n b o e =
-    let q = right-choice l a n b (Choice.Body o) (λ r h. let z : ◌≡◌ {A = ℕ} 0 1 = cc in omega arith) e in
+    let q = right_choice l a n b (Choice.Body o) (λ r h. let z : ◌≡◌ {A = ℕ} 0 1 = cc in omega arith) e in
     let r = body-option (word_at l (a + get_or b 0 0)) (length b) o q.1 in
     (q.0, r.0, r.1, q.2)
 
-pub split-some : (b : List ℕ) (k : UnionSelector) → splitUnion b ≡ SelectorResult.Selector k → 1 ≤ length b
+pub split-some : (b : List ℕ) (k : UnionSelector) → split_union b ≡ SelectorResult.Selector k → 1 ≤ length b
 split-some b k e = go (eqb (length b) 0) refl e
   where
-    go : (c : Bool) → eqb (length b) 0 ≡ c → pick c (SelectorResult.Refused (OutOfBoundsByte 0)) (selectorOf (get_or b 0 0)) ≡
+    go : (c : Bool) → eqb (length b) 0 ≡ c → pick c (SelectorResult.Refused (OutOfBoundsByte 0)) (selector_of (get_or b 0 0)) ≡
         SelectorResult.Selector k → 1 ≤ length b
     go true p h = let z : ◌≡◌ {A = ℕ} 0 1 = cc in absurd (omega arith)
     go false p h = let y : length b ≡ 0 → ⊥ = eqb-false _ _ p in omega arith
 
 -- What is chosen, of the tree.
 module _ (lens l : List ℕ) (t : ℕ) (n : Node) (e : n ≡ node_of l t) (g : Under lens l (t + 1)) (k : n.kind ≡ 7) (b : List ℕ) where
-  union-read : (s : ℕ) → readItem (tree_of l t) b s ≡ chosen (choose l (n.at + 2) n.second b) (trees l t) b t s
-  union-read s = rw (as-union l t n e k) (union-chosen l (trees l t) b t s (n.at + 2) n.second)
+  union-read : (s : ℕ) → read_item (tree_of l t) b s ≡ chosen (choose l (n.at + 2) n.second b) (trees l t) b t s
+  union-read s = rw (as_union l t n e k) (union-chosen l (trees l t) b t s (n.at + 2) n.second)
 
-  pub bare-read : (s : ℕ) → Choice.Bare ≡ choose l (n.at + 2) n.second b → one 1 0 ≡ readItem (tree_of l t) b s
+  pub bare-read : (s : ℕ) → Choice.Bare ≡ choose l (n.at + 2) n.second b → one 1 0 ≡ read_item (tree_of l t) b s
   unfolding chosen
   bare-read s q = rw (union-read s, ← q)
 
-  pub wrong-read : (s : ℕ) (r : Refusal) → Choice.Wrong r ≡ choose l (n.at + 2) n.second b → Refused r t s ≡ readItem (tree_of l t) b s
+  pub wrong-read : (s : ℕ) (r : Refusal) → Choice.Wrong r ≡ choose l (n.at + 2) n.second b → Refused r t s ≡ read_item (tree_of l t) b s
   unfolding chosen
   wrong-read s r q = rw (union-read s, ← q)
 
@@ -400,10 +400,10 @@ module _ (lens l : List ℕ) (t : ℕ) (n : Node) (e : n ≡ node_of l t) (g : U
     unfolding LowerOrBare
     body_below =
         let p = body-says l (n.at + 2) n.second b o (sym q) in
-        let m = node-legal lens l t n e g in
+        let m = node_legal lens l t n e g in
         (rw p.1 (m.optional k (get_or b 0 0) p.0 p.2), p.3)
 
-    pub body-read : (s : ℕ) → and_then (one 1 0) (readItem (tree_of l o) (take (length b - 1) (drop 1 b)) (s + 1)) ≡ readItem (tree_of l t) b s
+    pub body-read : (s : ℕ) → and_then (one 1 0) (read_item (tree_of l o) (take (length b - 1) (drop 1 b)) (s + 1)) ≡ read_item (tree_of l t) b s
     unfolding chosen
     body-read s =
         rw (union-read s, ← q, trees-get l t o (boolean 0) body_below.0, take_all (length b - 1) (drop 1 b) (simp length-drop (omega arith)))

@@ -22,57 +22,57 @@ use Rattle.standard.specs.declared.Head.TheVariants.{Fixed, Variable}
 use Rattle.standard.specs.declared.Told.{Told}
 use Rattle.standard.specs.declared.Refusal.{Refusal}
 use Rattle.standard.specs.declared.Refusal.TheVariants.{InvalidLengthPrefix, OffsetOutOfBounds, InvalidListFixedBytesLen}
-use Rattle.standard.proofs.Elements.{copies, heads-copies, asList, portion-copies}
-use Rattle.standard.proofs.Join.{range-weaken, join-ranges, join-next}
-use Rattle.standard.proofs.Laws.{fixed-some, copies-heads, values-sized}
-use Rattle.decode.specs.Builder.{layOut}
+use Rattle.standard.proofs.Elements.{copies, heads-copies, as_list, portion-copies}
+use Rattle.standard.proofs.Join.{range_weaken, join-ranges, join-next}
+use Rattle.standard.proofs.Laws.{fixed-some, copies-heads, values_sized}
+use Rattle.decode.specs.Builder.{lay_out_lem}
 use Rattle.decode.proofs.Register.{layout-ranges, layout-next, layout-passes}
-use Rattle.message.specs.Read.{within, further, thenMany, behindFirst, offsetElements, elements, manyOf, vectorTold, and_then, readEach, readItem, readFields}
-use Rattle.message.specs.Listing.{listEach, listItem, listFields}
-use Rattle.message.specs.Form.{inOrder, contents, contentsAll, bodies, bodiesAll}
-use Rattle.message.specs.Unfold.{eachFrom, unfoldWords, unfoldBytes, wordsFields, bytesFields}
+use Rattle.message.specs.Read.{within, further, then_many, behind_first_lem, offset_elements_lem, elements, many_of, vector_told_lem, and_then, read_each, read_item, read_fields}
+use Rattle.message.specs.Listing.{list_each, list_item_lem, list_fields_lem}
+use Rattle.message.specs.Form.{in_order, contents, contents_all, bodies, bodies_all}
+use Rattle.message.specs.Unfold.{each_from, unfold_words, unfold_bytes, words_fields, bytes_fields}
 use Rattle.message.specs.declared.Answer.{Answer}
 use Rattle.message.specs.declared.elements.Elements.{Elements}
 use Rattle.message.specs.declared.elements.Elements.TheVariants.{Many}
-use Rattle.message.proofs.Answers.{pick-left, pick-right}
+use Rattle.message.proofs.Answers.{pick-left, pick_right}
 
 -- What is said of n elements is said of n fields.
 module _ (e : Ty) where
-  pub read-copies : (n : ℕ) (b : List ℕ) (p s : ℕ) → readEach (λ (x : List ℕ) (u : ℕ). readItem e x u) (head e) n b p s ≡ readFields (copies e n) b p s
-  unfolding readEach readItem
+  pub read-copies : (n : ℕ) (b : List ℕ) (p s : ℕ) → read_each (λ (x : List ℕ) (u : ℕ). read_item e x u) (head e) n b p s ≡ read_fields (copies e n) b p s
+  unfolding read_each read_item
   read-copies zero b p s = refl
   read-copies (suc n) b p s =
       let w = span_of (head e) (heads (copies e n)) b p in
-      rw (← heads-copies e n) (ap (λ (x : Answer). and_then (readItem e (part b w) (s + w.from)) x) (read-copies n b w.next s))
+      rw (← heads-copies e n) (ap (λ (x : Answer). and_then (read_item e (part b w) (s + w.from)) x) (read-copies n b w.next s))
 
-  pub list-copies : (n : ℕ) (b : List ℕ) (p s : ℕ) → listEach (λ (x : List ℕ) (u : ℕ). listItem e x u) (head e) n b p s ≡ listFields (copies e n) b p s
-  unfolding listEach listItem
+  pub list-copies : (n : ℕ) (b : List ℕ) (p s : ℕ) → list_each (λ (x : List ℕ) (u : ℕ). list_item_lem e x u) (head e) n b p s ≡ list_fields_lem (copies e n) b p s
+  unfolding list_each list_item_lem
   list-copies zero b p s = refl
   list-copies (suc n) b p s =
       let w = span_of (head e) (heads (copies e n)) b p in
-      rw (← heads-copies e n) (ap (λ (x : List ℕ). listItem e (part b w) (s + w.from) ++ x) (list-copies n b w.next s))
+      rw (← heads-copies e n) (ap (λ (x : List ℕ). list_item_lem e (part b w) (s + w.from) ++ x) (list-copies n b w.next s))
 
-  pub words-copies : (n : ℕ) (b : List ℕ) (p : ℕ) → eachFrom (λ (x : List ℕ). unfoldWords e x) (head e) n b p ≡ wordsFields (copies e n) b p
-  unfolding eachFrom unfoldWords
+  pub words-copies : (n : ℕ) (b : List ℕ) (p : ℕ) → each_from (λ (x : List ℕ). unfold_words e x) (head e) n b p ≡ words_fields (copies e n) b p
+  unfolding each_from unfold_words
   words-copies zero b p = refl
   words-copies (suc n) b p =
       let w = span_of (head e) (heads (copies e n)) b p in
-      rw (← heads-copies e n) (ap (λ (x : List ℕ). unfoldWords e (part b w) ++ x) (words-copies n b w.next))
+      rw (← heads-copies e n) (ap (λ (x : List ℕ). unfold_words e (part b w) ++ x) (words-copies n b w.next))
 
-  pub bytes-copies : (n : ℕ) (b : List ℕ) (p : ℕ) → eachFrom (λ (x : List ℕ). unfoldBytes e x) (head e) n b p ≡ bytesFields (copies e n) b p
-  unfolding eachFrom unfoldBytes
+  pub bytes-copies : (n : ℕ) (b : List ℕ) (p : ℕ) → each_from (λ (x : List ℕ). unfold_bytes e x) (head e) n b p ≡ bytes_fields (copies e n) b p
+  unfolding each_from unfold_bytes
   bytes-copies zero b p = refl
   bytes-copies (suc n) b p =
       let w = span_of (head e) (heads (copies e n)) b p in
-      rw (← heads-copies e n) (ap (λ (x : List ℕ). unfoldBytes e (part b w) ++ x) (bytes-copies n b w.next))
+      rw (← heads-copies e n) (ap (λ (x : List ℕ). unfold_bytes e (part b w) ++ x) (bytes-copies n b w.next))
 
-  pub contents-copies : (n : ℕ) (vs : Vals (copies e n)) → inOrder (λ (v : Val e). contents e v) (asList e n vs) ≡ contentsAll (copies e n) vs
-  unfolding inOrder contents
+  pub contents-copies : (n : ℕ) (vs : Vals (copies e n)) → in_order (λ (v : Val e). contents e v) (as_list e n vs) ≡ contents_all (copies e n) vs
+  unfolding in_order contents
   contents-copies zero vs = refl
   contents-copies (suc n) vs = ap (λ (x : List ℕ). contents e vs.0 ++ x) (contents-copies n vs.1)
 
-  pub bodies-copies : (n : ℕ) (vs : Vals (copies e n)) → inOrder (λ (v : Val e). bodies e v) (asList e n vs) ≡ bodiesAll (copies e n) vs
-  unfolding inOrder bodies
+  pub bodies-copies : (n : ℕ) (vs : Vals (copies e n)) → in_order (λ (v : Val e). bodies e v) (as_list e n vs) ≡ bodies_all (copies e n) vs
+  unfolding in_order bodies
   bodies-copies zero vs = refl
   bodies-copies (suc n) vs = ap (λ (x : List ℕ). bodies e vs.0 ++ x) (bodies-copies n vs.1)
 
@@ -81,7 +81,7 @@ pub record Laid (hs : List Head) (b : List ℕ) : Type 0 where
   pub ranges : InRange hs b 0 0
   pub first : next hs b 0 ≡ portion hs
 
-pub laid_out : (hs : List Head) (b : List ℕ) → layOut hs b ≡ Told.Fine → Laid hs b
+pub laid_out : (hs : List Head) (b : List ℕ) → lay_out_lem hs b ≡ Told.Fine → Laid hs b
 laid_out hs b e = record { ranges = layout-ranges hs b e; first = layout-next hs b e }
 
 -- n elements of k bytes lie in n * k bytes, and back.
@@ -105,14 +105,14 @@ unfolding width
 laid-fixed n k b g = sym (next-fixed n k b 0) ∙ g.first ∙ portion-copies n (Fixed k)
 
 -- A vector.
-pub vector-laid : (h : Head) (n : ℕ) (b : List ℕ) → vectorTold h n b ≡ Told.Fine → Laid (replicate n h) b
-unfolding vectorTold
+pub vector-laid : (h : Head) (n : ℕ) (b : List ℕ) → vector_told_lem h n b ≡ Told.Fine → Laid (replicate n h) b
+unfolding vector_told_lem
 vector-laid (Fixed k) n b e =
     fixed-laid n k b (eqb-true _ _ (pick-left (eqb (length b) (n * k)) Told.Fine _ Told.Fine (λ q. let z : ◌≡◌ {A = ℕ} 0 1 = cc in omega arith) e).0)
 vector-laid Variable n b e = laid_out (replicate n Variable) b e
 
-pub laid-vector : (h : Head) (n : ℕ) (b : List ℕ) → length b < 2 ^ 32 → Laid (replicate n h) b → vectorTold h n b ≡ Told.Fine
-unfolding vectorTold
+pub laid-vector : (h : Head) (n : ℕ) (b : List ℕ) → length b < 2 ^ 32 → Laid (replicate n h) b → vector_told_lem h n b ≡ Told.Fine
+unfolding vector_told_lem
 laid-vector (Fixed k) n b small g = rw (eq-eqb _ _ (laid-fixed n k b g))
 laid-vector Variable n b small g = layout-passes (replicate n Variable) b small g.ranges g.first
 
@@ -123,8 +123,8 @@ within-many m limit n e =
     let q : m ≡ n = cc p.1 in
     (q, rw q at (leb-true m limit p.0))
 
-not-fine : (r : Refusal) → Told.Refused r ≡ Told.Fine → ⊥
-not-fine r e = let z : ◌≡◌ {A = ℕ} 0 1 = cc in omega arith
+not_fine : (r : Refusal) → Told.Refused r ≡ Told.Fine → ⊥
+not_fine r e = let z : ◌≡◌ {A = ℕ} 0 1 = cc in omega arith
 
 -- The further offsets are in range from the one before on, and back.
 further-next :
@@ -132,13 +132,13 @@ further-next :
     → (four b p ≤ length b) × (previous ≤ four b p) × (further b first (four b p) (p + 4) n ≡ Told.Fine)
 unfolding further
 further-next b first previous p n e =
-    let x = pick-right (ltb (four b p) first) _ _ Told.Fine (not-fine _) e in
-    let y = pick-right (ltb (length b) (four b p)) _ _ Told.Fine (not-fine _) x.1 in
-    let z = pick-right (ltb (four b p) previous) _ _ Told.Fine (not-fine _) y.1 in
+    let x = pick_right (ltb (four b p) first) _ _ Told.Fine (not_fine _) e in
+    let y = pick_right (ltb (length b) (four b p)) _ _ Told.Fine (not_fine _) x.1 in
+    let z = pick_right (ltb (four b p) previous) _ _ Told.Fine (not_fine _) y.1 in
     (ltb-false _ _ y.0, ltb-false _ _ z.0, z.1)
 
-four-in : (p n m : ℕ) → p + 4 * suc n ≤ m → (p + 4 ≤ m) × (p + 4 + 4 * n ≤ m)
-four-in p n m h = (omega arith, omega arith)
+four_in_lem : (p n m : ℕ) → p + 4 * suc n ≤ m → (p + 4 ≤ m) × (p + 4 + 4 * n ≤ m)
+four_in_lem p n m h = (omega arith, omega arith)
 
 further-ranges :
     (b : List ℕ) (first previous p n : ℕ) → p + 4 * n ≤ length b → previous ≤ length b → further b first previous p n ≡ Told.Fine
@@ -147,7 +147,7 @@ unfolding InRange
 further-ranges b first previous p zero l k e = k
 further-ranges b first previous p (suc n) l k e =
     let q = further-next b first previous p n e in
-    let i = four-in p n (length b) l in
+    let i = four_in_lem p n (length b) l in
     (i.0, q.0, q.1, further-ranges b first (four b p) (p + 4) n i.1 q.0 q.2)
 
 ranges-further :
@@ -160,27 +160,27 @@ ranges-further b first previous p (suc n) l r =
 
 -- What the offset o, the first, says: n elements, and their offsets before it.
 behind-many :
-    (limit : ℕ) (b : List ℕ) (o n : ℕ) → behindFirst (within (o / 4) limit) b o ≡ Many n
+    (limit : ℕ) (b : List ℕ) (o n : ℕ) → behind_first_lem (within (o / 4) limit) b o ≡ Many n
     → (o / 4 ≡ n) × (n ≤ limit) × (further b o o 4 (n - 1) ≡ Told.Fine)
 behind-many limit b o n = go (within (o / 4) limit) refl
   where
-    told : (d : Told) (m : ℕ) → thenMany d m ≡ Many n → (d ≡ Told.Fine) × (m ≡ n)
+    told : (d : Told) (m : ℕ) → then_many d m ≡ Many n → (d ≡ Told.Fine) × (m ≡ n)
     told Told.Fine m e = (refl, cc)
     told (Told.Refused r) m e = let z : ◌≡◌ {A = ℕ} 0 1 = cc in absurd (omega arith)
 
-    go : (x : Elements) → within (o / 4) limit ≡ x → behindFirst x b o ≡ Many n → (o / 4 ≡ n) × (n ≤ limit) × (further b o o 4 (n - 1) ≡ Told.Fine)
+    go : (x : Elements) → within (o / 4) limit ≡ x → behind_first_lem x b o ≡ Many n → (o / 4 ≡ n) × (n ≤ limit) × (further b o o 4 (n - 1) ≡ Told.Fine)
     go (Elements.Refused r) d e = let z : ◌≡◌ {A = ℕ} 0 1 = cc in absurd (omega arith)
     go (Many m) d e =
         let p = told (further b o o 4 (m - 1)) m e in
         let q = within-many (o / 4) limit m d in
         (q.0 ∙ p.1, rw p.1 at q.1, rw p.1 at p.0)
 
-or-false : (x y : Bool) → or_else x y ≡ false → (x ≡ false) × (y ≡ false)
-or-false true y e = let z : true ≡ false = e in let w : ◌≡◌ {A = ℕ} 0 1 = cc in absurd (omega arith)
-or-false false y e = (refl, e)
+or_false : (x y : Bool) → or_else x y ≡ false → (x ≡ false) × (y ≡ false)
+or_false true y e = let z : true ≡ false = e in let w : ◌≡◌ {A = ℕ} 0 1 = cc in absurd (omega arith)
+or_false false y e = (refl, e)
 
 module _ (limit : ℕ) (b : List ℕ) (n : ℕ) where
-  offsets-laid : offsetElements limit b ≡ Many n → Laid (replicate n Variable) b × (n ≤ limit)
+  offsets-laid : offset_elements_lem limit b ≡ Many n → Laid (replicate n Variable) b × (n ≤ limit)
   unfolding InRange next portion width
   offsets-laid = go (eqb (length b) 0) refl
     where
@@ -202,7 +202,7 @@ module _ (limit : ℕ) (b : List ℕ) (n : ℕ) where
           pick (ltb (length b) 4) (Elements.Refused (InvalidLengthPrefix (length b) 4))
           (pick (ltb (length b) (four b 0)) (Elements.Refused (OffsetOutOfBounds (four b 0)))
           (pick (or_else (eqb (four b 0) 0) (ltb 0 (four b 0 % 4))) (Elements.Refused (InvalidListFixedBytesLen (four b 0)))
-          (behindFirst (within (four b 0 / 4) limit) b (four b 0))))
+          (behind_first_lem (within (four b 0 / 4) limit) b (four b 0))))
 
       go : (q : Bool) → eqb (length b) 0 ≡ q → pick q (Many 0) behind ≡ Many n → Laid (replicate n Variable) b × (n ≤ limit)
       go true d e =
@@ -210,20 +210,20 @@ module _ (limit : ℕ) (b : List ℕ) (n : ℕ) where
           let l = eqb-true (length b) 0 d in
           rw (← q) (record { ranges = omega arith; first = l }, omega arith)
       go false d e =
-          let x = pick-right (ltb (length b) 4) _ _ (Many n) (no _) e in
-          let y = pick-right (ltb (length b) (four b 0)) _ _ (Many n) (no _) x.1 in
-          let z = pick-right (or_else (eqb (four b 0) 0) (ltb 0 (four b 0 % 4))) _ _ (Many n) (no _) y.1 in
-          let f = or-false _ _ z.0 in
+          let x = pick_right (ltb (length b) 4) _ _ (Many n) (no _) e in
+          let y = pick_right (ltb (length b) (four b 0)) _ _ (Many n) (no _) x.1 in
+          let z = pick_right (or_else (eqb (four b 0) 0) (ltb 0 (four b 0 % 4))) _ _ (Many n) (no _) y.1 in
+          let f = or_false _ _ z.0 in
           let w = behind-many limit b (four b 0) n z.1 in
           let zero-not = eqb-false (four b 0) 0 f.0 in
           let whole = ltb-false 0 (four b 0 % 4) f.1 in
           (some (n - 1) (omega (arith, w.0)) (ltb-false _ _ x.0) (ltb-false _ _ y.0) (omega (arith, w.0)) w.2, w.1)
 
-  laid-offsets : n ≤ limit → Laid (replicate n Variable) b → offsetElements limit b ≡ Many n
+  laid-offsets : n ≤ limit → Laid (replicate n Variable) b → offset_elements_lem limit b ≡ Many n
   unfolding InRange next portion width
   laid-offsets h g = go n refl g
     where
-      go : (m : ℕ) → n ≡ m → Laid (replicate m Variable) b → offsetElements limit b ≡ Many n
+      go : (m : ℕ) → n ≡ m → Laid (replicate m Variable) b → offset_elements_lem limit b ≡ Many n
       go zero q i = rw (eq-eqb (length b) 0 i.first, q)
       go (suc m) q i =
           let o : four b 0 ≡ 4 * n = i.first ∙ rw q (omega (arith, portion-copies m Variable)) in
@@ -270,7 +270,7 @@ pub copies-many :
     → elements (head e) limit (join (parts (copies e n) vs)) ≡ Many n
 copies-many e limit n vs l h k m =
     let xs = parts (copies e n) vs in
-    let z = values-sized (copies e n) vs h in
+    let z = values_sized (copies e n) vs h in
     let d = copies-heads e n vs in
     laid-elements (head e) limit (join xs) n (λ i j. fixed-some e i l j) m
     (record { ranges = rw d at (join-ranges xs z k); first = rw d at (join-next xs z k) })

@@ -15,7 +15,7 @@ use Rattle.standard.specs.declared.Head.TheVariants.{Fixed, Variable}
 use Rattle.standard.specs.declared.Told.{Told}
 use Rattle.standard.specs.declared.Refusal.{Refusal}
 use Rattle.standard.specs.declared.Refusal.TheVariants.{OffsetIntoFixedPortion, OffsetOutOfBounds, OffsetsAreDecreasing}
-use Rattle.message.specs.Read.{one, and_then, within, further, thenMany, behindFirst, elements}
+use Rattle.message.specs.Read.{one, and_then, within, further, then_many, behind_first_lem, elements}
 use Rattle.message.specs.declared.Answer.{Answer}
 use Rattle.message.specs.declared.Answer.TheVariants.{Accepted, Refused}
 use Rattle.message.specs.declared.elements.Elements.{Elements}
@@ -44,12 +44,12 @@ further-none b first previous p zero z = refl
 further-none b first previous p (suc m) z = absurd (omega arith)
 
 module _ {b : List ℕ} {first n : ℕ} where
-  pub following-new : 4 + 4 * n ≤ length b → Following b first n first 4 n
-  following-new h = record { room = h; same = refl }
+  pub following_new : 4 + 4 * n ≤ length b → Following b first n first 4 n
+  following_new h = record { room = h; same = refl }
 
   module _ {previous p left : ℕ} (g : Following b first n previous p left) where
-    pub following-end : left ≤ 0 → Told.Fine ≡ further b first first 4 n
-    following-end z = sym (further-none b first previous p left z) ∙ g.same
+    pub following_end : left ≤ 0 → Told.Fine ≡ further b first first 4 n
+    following_end z = sym (further-none b first previous p left z) ∙ g.same
 
     module _ {o : ℕ} (z : 0 < left) (e : o ≡ four b p) where
       -- the tests of the offset o, and what comes behind it
@@ -60,19 +60,19 @@ module _ {b : List ℕ} {first n : ℕ} where
           (further b first o (p + 4) (left - 1)))) ≡ further b first first 4 n
       tests = rw e (sym (further-one b first previous p left z) ∙ g.same)
 
-      pub following-low : o < first → Told.Refused (OffsetIntoFixedPortion o) ≡ further b first first 4 n
-      following-low i = rw (lt-ltb o first i) at tests
+      pub following_low : o < first → Told.Refused (OffsetIntoFixedPortion o) ≡ further b first first 4 n
+      following_low i = rw (lt-ltb o first i) at tests
 
       module _ (i : first ≤ o) where
-        pub following-past : length b < o → Told.Refused (OffsetOutOfBounds o) ≡ further b first first 4 n
-        following-past j = rw (le-ltb o first i, lt-ltb (length b) o j) at tests
+        pub following_past : length b < o → Told.Refused (OffsetOutOfBounds o) ≡ further b first first 4 n
+        following_past j = rw (le-ltb o first i, lt-ltb (length b) o j) at tests
 
         module _ (j : o ≤ length b) where
-          pub following-back : o < previous → Told.Refused (OffsetsAreDecreasing o) ≡ further b first first 4 n
-          following-back k = rw (le-ltb o first i, le-ltb (length b) o j, lt-ltb o previous k) at tests
+          pub following_back : o < previous → Told.Refused (OffsetsAreDecreasing o) ≡ further b first first 4 n
+          following_back k = rw (le-ltb o first i, le-ltb (length b) o j, lt-ltb o previous k) at tests
 
-          pub following-next : previous ≤ o → Following b first n o (p + 4) (left - 1)
-          following-next k =
+          pub following_next : previous ≤ o → Following b first n o (p + 4) (left - 1)
+          following_next k =
               record { room = omega (arith, g.room); same = rw (le-ltb o first i, le-ltb (length b) o j, le-ltb o previous k) at tests }
 
 -- These elements are m, if they are accepted.
@@ -88,13 +88,13 @@ many-says m n e = cc
 within-says : (m limit : ℕ) → Says m (within m limit)
 within-says m limit = pick-holds (Says m) (leb m limit) _ _ (λ q. many-says m) (λ q. refused_says m _)
 
-then-says : (m : ℕ) (d : Told) → Says m (thenMany d m)
-then-says m Told.Fine = many-says m
-then-says m (Told.Refused r) = refused_says m r
+then_says : (m : ℕ) (d : Told) → Says m (then_many d m)
+then_says m Told.Fine = many-says m
+then_says m (Told.Refused r) = refused_says m r
 
-behind-says : (m limit : ℕ) (b : List ℕ) (o : ℕ) → Says m (behindFirst (within m limit) b o)
+behind-says : (m limit : ℕ) (b : List ℕ) (o : ℕ) → Says m (behind_first_lem (within m limit) b o)
 behind-says m limit b o =
-    pick-holds (λ (x : Elements). Says m (behindFirst x b o)) (leb m limit) _ _ (λ q. then-says m (further b o o 4 (m - 1))) (λ q. refused_says m _)
+    pick-holds (λ (x : Elements). Says m (behind_first_lem x b o)) (leb m limit) _ _ (λ q. then_says m (further b o o 4 (m - 1))) (λ q. refused_says m _)
 
 module _ (limit : ℕ) (b : List ℕ) where
   pub says-fixed : (k : ℕ) → Says (length b / k) (elements (Fixed k) limit b)
@@ -105,9 +105,9 @@ module _ (limit : ℕ) (b : List ℕ) where
   unfolding elements
   says-short h = pick-holds (Says 0) (eqb (length b) 0) _ _ (λ q. many-says 0) λ q. rw (lt-ltb (length b) 4 h) (refused_says 0 _)
 
-  pub says-offset : 4 ≤ length b → Says (four b 0 / 4) (elements Variable limit b)
+  pub says_offset : 4 ≤ length b → Says (four b 0 / 4) (elements Variable limit b)
   unfolding elements
-  says-offset h =
+  says_offset h =
       let m = four b 0 / 4 in
       pick-holds (Says m) (eqb (length b) 0) _ _ (λ q. absurd (omega (arith, eqb-true (length b) 0 q))) λ q.
       pick-holds (Says m) (ltb (length b) 4) _ _ (λ r. refused_says m _) λ r.

@@ -10,39 +10,39 @@ use lib.Seq.{sets, length-sets, take_all}
 use lib.Dec.{eqb, ltb}
 use Rattle.standard.specs.Choice.{pick}
 use Rattle.standard.specs.Bytes.{le, word_at, Stored, Room}
-use Rattle.standard.specs.Types.{Ty, Opts, number, boolean, fixedBytes, freeBytes, bitVector, bitList, container, union, list, vector, bare, body, head}
+use Rattle.standard.specs.Types.{Ty, Opts, number, boolean, fixed_bytes, free_bytes, bit_vector, bit_list, container, union, list, vector, bare, body, head}
 use Rattle.standard.specs.Parts.{span_of, part, InRange}
 use Rattle.standard.specs.declared.Span.{Span}
 use Rattle.standard.specs.declared.Told.{Told}
 use Rattle.standard.specs.declared.Refusal.{Refusal}
 use Rattle.standard.specs.declared.Refusal.TheVariants.{TooLarge}
 use Rattle.standard.proofs.Bytes.{length-le}
-use Rattle.standard.proofs.Store.{stored-then, room-first, room-then}
-use Rattle.decode.specs.Builder.{layOut}
+use Rattle.standard.proofs.Store.{stored_then, room-first, room_then}
+use Rattle.decode.specs.Builder.{lay_out_lem}
 use Rattle.decode.proofs.Register.{layout-ranges}
-use Rattle.layout.specs.Tree.{node_of, leafOf, options, trees, tree_of}
+use Rattle.layout.specs.Tree.{node_of, leaf_of, options, trees, tree_of}
 use Rattle.layout.specs.declared.Node.{Node}
 use Rattle.layout.specs.declared.Checked.TheVariants.{Upto}
-use Rattle.layout.proofs.Facts.{trees-get, as-union, as-leaf}
-use Rattle.message.specs.Read.{one, and_then, readItem, readFields}
-use Rattle.message.specs.Check.{messageType, underTable}
-use Rattle.message.specs.Listing.{entry, listItem, listFields, listOption}
-use Rattle.message.specs.Steps.{Under, Row, row_of, headsOf, choose, IsAccepted}
+use Rattle.layout.proofs.Facts.{trees-get, as_union, as_leaf}
+use Rattle.message.specs.Read.{one, and_then, read_item, read_fields}
+use Rattle.message.specs.Check.{message_type, under_table_lem}
+use Rattle.message.specs.Listing.{entry, list_item_lem, list_fields_lem, list_option}
+use Rattle.message.specs.Steps.{Under, Row, row_of, heads_of, choose, IsAccepted}
 use Rattle.message.specs.declared.Counts.{Counts}
 use Rattle.message.specs.declared.Answer.{Answer}
 use Rattle.message.specs.declared.Answer.TheVariants.{Accepted, Refused}
 use Rattle.message.specs.declared.items.Choice.{Choice}
-use Rattle.message.proofs.Answers.{right-accepted, then-both, built-both}
+use Rattle.message.proofs.Answers.{right_accepted, then_both, built-both}
 use Rattle.message.proofs.Theorem.{read-start}
 use Rattle.message.proofs.Records.{length-entry, listed-length}
-use Rattle.message.proofs.Rows.{row-none, row_first, row_next, container-tree, span-ok}
+use Rattle.message.proofs.Rows.{row-none, row_first, row_next, container_tree, span_ok}
 use Rattle.message.proofs.Bodies.{fields_read, container-read, bare-says, body-says, body_below, body-read, wrong-read}
 
 -- Acceptance does not depend on where the item starts.
-pub accepted-start : (x : Ty) (b : List ℕ) (s u : ℕ) → IsAccepted (readItem x b s) → IsAccepted (readItem x b u)
-accepted-start x b s u = go (readItem x b s) refl
+pub accepted-start : (x : Ty) (b : List ℕ) (s u : ℕ) → IsAccepted (read_item x b s) → IsAccepted (read_item x b u)
+accepted-start x b s u = go (read_item x b s) refl
   where
-    go : (r : Answer) → readItem x b s ≡ r → IsAccepted r → IsAccepted (readItem x b u)
+    go : (r : Answer) → read_item x b s ≡ r → IsAccepted r → IsAccepted (read_item x b u)
     go (Accepted c) e h = rw (read-start x b s u c e) tt
     go (Refused r t v) e h = absurd h
 
@@ -57,59 +57,59 @@ entry-stored o o₁ o₂ o₃ at t b s p q r =
     let i : at + 4 + 4 ≡ at + 8 = omega arith in
     let j : at + 8 + 4 ≡ at + 12 = omega arith in
     let h = rw (← r, j) at (put o₂ (at + 8) (s + length b)) in
-    let u = stored-then o at (le 4 t) (at + 4) o₁ (le 4 s) (at + 8) o₂ (le 4 t ++ le 4 s) f (rw i at g) refl in
-    stored-then o at (le 4 t ++ le 4 s) (at + 8) o₂ (le 4 (s + length b)) (at + 12) o₃ _ u h (sym (append_assoc (le 4 t) (le 4 s) (le 4 (s + length b))))
+    let u = stored_then o at (le 4 t) (at + 4) o₁ (le 4 s) (at + 8) o₂ (le 4 t ++ le 4 s) f (rw i at g) refl in
+    stored_then o at (le 4 t ++ le 4 s) (at + 8) o₂ (le 4 (s + length b)) (at + 12) o₃ _ u h (sym (append_assoc (le 4 t) (le 4 s) (le 4 (s + length b))))
 
 -- The first field's listing, and that of the rest.
 module _ (lens l : List ℕ) (t a step left f : ℕ) (b : List ℕ) (p : ℕ) (g : Row lens l t a step left) (z : 0 < left) (e : f ≡ word_at l a) (w : Span)
-    (q : w ≡ span_of (head (tree_of l f)) (headsOf l t (a + step) step (left - 1)) b p) (s : ℕ) where
-  fields-list : listFields (row_of l t a step left) b p s ≡
-      listItem (tree_of l f) (part b w) (s + w.from) ++ listFields (row_of l t (a + step) step (left - 1)) b w.next s
-  unfolding listItem
+    (q : w ≡ span_of (head (tree_of l f)) (heads_of l t (a + step) step (left - 1)) b p) (s : ℕ) where
+  fields-list : list_fields_lem (row_of l t a step left) b p s ≡
+      list_item_lem (tree_of l f) (part b w) (s + w.from) ++ list_fields_lem (row_of l t (a + step) step (left - 1)) b w.next s
+  unfolding list_item_lem
   fields-list = rw (row_first l t a step left g.named z, q, e)
 
 -- The loop of `list_fields`.
 pub record Storing (lens l : List ℕ) (t a₀ step n : ℕ) (b : List ℕ) (s : ℕ) (o₀ : List ℕ) (at₀ : ℕ) (o : List ℕ) (at a left p : ℕ) : Type 0 where
   pub row : Row lens l t a step left
-  pub ranges : InRange (headsOf l t a step left) b p 0
-  pub accepted : IsAccepted (readFields (row_of l t a step left) b p s)
-  pub room : Room o at (listFields (row_of l t a step left) b p s)
+  pub ranges : InRange (heads_of l t a step left) b p 0
+  pub accepted : IsAccepted (read_fields (row_of l t a step left) b p s)
+  pub room : Room o at (list_fields_lem (row_of l t a step left) b p s)
   pub done : List ℕ
   pub stored : Stored o₀ at₀ done at o
-  pub whole : listFields (row_of l t a₀ step n) b 0 s ≡ done ++ listFields (row_of l t a step left) b p s
+  pub whole : list_fields_lem (row_of l t a₀ step n) b 0 s ≡ done ++ list_fields_lem (row_of l t a step left) b p s
 
 module _ {lens l : List ℕ} {t a₀ step n : ℕ} {b : List ℕ} {s : ℕ} {o₀ : List ℕ} {at₀ : ℕ} {o : List ℕ} {at a left p f : ℕ}
     (g : Storing lens l t a₀ step n b s o₀ at₀ o at a left p) (z : 0 < left) (e : f ≡ word_at l a) (w : Span)
-    (q : w ≡ span_of (head (tree_of l f)) (headsOf l t (a + step) step (left - 1)) b p) where
-  storing-both : IsAccepted (readItem (tree_of l f) (part b w) (s + w.from)) × IsAccepted (readFields (row_of l t (a + step) step (left - 1)) b w.next s)
-  storing-both = then-both (readItem (tree_of l f) (part b w) (s + w.from)) (readFields (row_of l t (a + step) step (left - 1)) b w.next s)
+    (q : w ≡ span_of (head (tree_of l f)) (heads_of l t (a + step) step (left - 1)) b p) where
+  storing_both : IsAccepted (read_item (tree_of l f) (part b w) (s + w.from)) × IsAccepted (read_fields (row_of l t (a + step) step (left - 1)) b w.next s)
+  storing_both = then_both (read_item (tree_of l f) (part b w) (s + w.from)) (read_fields (row_of l t (a + step) step (left - 1)) b w.next s)
       (rw (fields_read lens l t a step left f b p g.row z e w q s) at g.accepted)
 
-  pub storing-accepted : IsAccepted (readItem (tree_of l f) (part b w) (s + w.from))
-  storing-accepted = storing-both.0
+  pub storing_accepted : IsAccepted (read_item (tree_of l f) (part b w) (s + w.from))
+  storing_accepted = storing_both.0
 
-  pub storing-room : Room o at (listItem (tree_of l f) (part b w) (s + w.from))
-  storing-room = room-first o at _ _ _ g.room (fields-list lens l t a step left f b p g.row z e w q s)
+  pub storing_room : Room o at (list_item_lem (tree_of l f) (part b w) (s + w.from))
+  storing_room = room-first o at _ _ _ g.room (fields-list lens l t a step left f b p g.row z e w q s)
 
-  pub storing-next : (r : ℕ) (o' : List ℕ) → Stored o at (listItem (tree_of l f) (part b w) (s + w.from)) r o' →
+  pub storing_next : (r : ℕ) (o' : List ℕ) → Stored o at (list_item_lem (tree_of l f) (part b w) (s + w.from)) r o' →
       Storing lens l t a₀ step n b s o₀ at₀ o' r (a + step) (left - 1) w.next
-  storing-next r o' h =
+  storing_next r o' h =
       let i = fields-list lens l t a step left f b p g.row z e w q s in
       record {
         row = row_next lens l t a step left f g.row z e;
-        ranges = (span-ok lens l t a step left f b p g.row z e g.ranges w q).2;
-        accepted = storing-both.1;
-        room = room-then o at _ _ _ r o' g.room i h;
-        done = g.done ++ listItem (tree_of l f) (part b w) (s + w.from);
-        stored = stored-then o₀ at₀ g.done at o _ r o' _ g.stored h refl;
+        ranges = (span_ok lens l t a step left f b p g.row z e g.ranges w q).2;
+        accepted = storing_both.1;
+        room = room_then o at _ _ _ r o' g.room i h;
+        done = g.done ++ list_item_lem (tree_of l f) (part b w) (s + w.from);
+        stored = stored_then o₀ at₀ g.done at o _ r o' _ g.stored h refl;
         whole = g.whole ∙ rw (i, ← append_assoc);
       }
 
-pub storing-end : {lens l : List ℕ} {t a₀ step n : ℕ} {b : List ℕ} {s : ℕ} {o₀ : List ℕ} {at₀ : ℕ} {o : List ℕ} {at a left p : ℕ} →
-    Storing lens l t a₀ step n b s o₀ at₀ o at a left p → left ≤ 0 → Stored o₀ at₀ (listFields (row_of l t a₀ step n) b 0 s) at o
-unfolding listItem
-storing-end {l = l} {t = t} {a₀ = a₀} {step = step} {n = n} {b = b} {s = s} {a = a} {left = left} g h =
-    let e : listFields (row_of l t a₀ step n) b 0 s ≡ g.done = g.whole ∙ rw (row-none l t a step left h, append-nil) in
+pub storing_end : {lens l : List ℕ} {t a₀ step n : ℕ} {b : List ℕ} {s : ℕ} {o₀ : List ℕ} {at₀ : ℕ} {o : List ℕ} {at a left p : ℕ} →
+    Storing lens l t a₀ step n b s o₀ at₀ o at a left p → left ≤ 0 → Stored o₀ at₀ (list_fields_lem (row_of l t a₀ step n) b 0 s) at o
+unfolding list_item_lem
+storing_end {l = l} {t = t} {a₀ = a₀} {step = step} {n = n} {b = b} {s = s} {a = a} {left = left} g h =
+    let e : list_fields_lem (row_of l t a₀ step n) b 0 s ≡ g.done = g.whole ∙ rw (row-none l t a step left h, append-nil) in
     rw e g.stored
 
 pub stored-length : (o : List ℕ) (at : ℕ) (x : List ℕ) (r : ℕ) (o' : List ℕ) → Stored o at x r o' → length o' ≡ length o
@@ -117,17 +117,17 @@ stored-length o at x r o' g = ap length g.list ∙ length-sets o at x
 
 -- Items, by their kind.
 module _ (l : List ℕ) (t : ℕ) (n : Node) (e : n ≡ node_of l t) (b : List ℕ) (s : ℕ) where
-  pub list-container : n.kind ≡ 6 → listItem (tree_of l t) b s ≡ entry t b s ++ listFields (row_of l t (n.at + 2) 1 n.second) b 0 s
-  unfolding listItem
-  list-container k = rw (container-tree l t n e k)
+  pub list-container : n.kind ≡ 6 → list_item_lem (tree_of l t) b s ≡ entry t b s ++ list_fields_lem (row_of l t (n.at + 2) 1 n.second) b 0 s
+  unfolding list_item_lem
+  list-container k = rw (container_tree l t n e k)
 
-  leaf-list : (t : ℕ) (n : Node) (b : List ℕ) (s : ℕ) → listItem (leafOf t n) b s ≡ entry t b s
-  unfolding leafOf listItem
+  leaf-list : (t : ℕ) (n : Node) (b : List ℕ) (s : ℕ) → list_item_lem (leaf_of t n) b s ≡ entry t b s
+  unfolding leaf_of list_item_lem
   leaf-list t n b s = go (eqb n.kind 0) (eqb n.kind 1) (eqb n.kind 2) (eqb n.kind 3) (eqb n.kind 4)
     where
-      go : (a c d f g : Bool) → listItem (pick a (number t n.second)
-          (pick c (boolean t) (pick d (fixedBytes t n.second)
-          (pick f (freeBytes t n.second) (pick g (bitVector t n.second) (bitList t n.second)))))) b s ≡ entry t b s
+      go : (a c d f g : Bool) → list_item_lem (pick a (number t n.second)
+          (pick c (boolean t) (pick d (fixed_bytes t n.second)
+          (pick f (free_bytes t n.second) (pick g (bit_vector t n.second) (bit_list t n.second)))))) b s ≡ entry t b s
       go true c d f g = refl
       go false true d f g = refl
       go false false true f g = refl
@@ -135,40 +135,40 @@ module _ (l : List ℕ) (t : ℕ) (n : Node) (e : n ≡ node_of l t) (b : List �
       go false false false false true = refl
       go false false false false false = refl
 
-  pub list-leaf : n.kind < 6 → listItem (tree_of l t) b s ≡ entry t b s
-  list-leaf h = rw (as-leaf l t n e h) (leaf-list t n b s)
+  pub list-leaf : n.kind < 6 → list_item_lem (tree_of l t) b s ≡ entry t b s
+  list-leaf h = rw (as_leaf l t n e h) (leaf-list t n b s)
 
 pub leaf-stored : (l : List ℕ) (f : ℕ) (n : Node) → n ≡ node_of l f → n.kind < 6 → (o : List ℕ) (at : ℕ) (b : List ℕ) (s r : ℕ) (o' : List ℕ) →
-    Stored o at (entry f b s) r o' → Stored o at (listItem (tree_of l f) b s) r o'
+    Stored o at (entry f b s) r o' → Stored o at (list_item_lem (tree_of l f) b s) r o'
 leaf-stored l f n e h o at b s r o' g = rw (list-leaf l f n e b s h) g
 
 -- The listing of the option that is asked for.
 module _ (l : List ℕ) (lower : List Ty) (b : List ℕ) (s : ℕ) where
   listed : ℕ → List ℕ
-  listed w = pick (eqb w 4294967295) [] (listItem (get_or lower w (boolean 0)) (drop 1 b) (s + 1))
+  listed w = pick (eqb w 4294967295) [] (list_item_lem (get_or lower w (boolean 0)) (drop 1 b) (s + 1))
 
-  list-here : (w : ℕ) (os : Opts) (k : ℕ) → listOption (pick (eqb w 4294967295) (bare k os) (body k (get_or lower w (boolean 0)) os)) k b s ≡ listed w
-  unfolding listItem listed
+  list-here : (w : ℕ) (os : Opts) (k : ℕ) → list_option (pick (eqb w 4294967295) (bare k os) (body k (get_or lower w (boolean 0)) os)) k b s ≡ listed w
+  unfolding list_item_lem listed
   list-here w os k = go (eqb w 4294967295)
     where
-      go : (c : Bool) → listOption (pick c (bare k os) (body k (get_or lower w (boolean 0)) os)) k b s ≡
-          pick c [] (listItem (get_or lower w (boolean 0)) (drop 1 b) (s + 1))
+      go : (c : Bool) → list_option (pick c (bare k os) (body k (get_or lower w (boolean 0)) os)) k b s ≡
+          pick c [] (list_item_lem (get_or lower w (boolean 0)) (drop 1 b) (s + 1))
       go true = rw (eq-eqb k k refl)
       go false = rw (eq-eqb k k refl)
 
-  list-skip : (c : Bool) (x : Ty) (os : Opts) (j k : ℕ) → (k ≡ j → ⊥) → listOption (pick c (bare j os) (body j x os)) k b s ≡ listOption os k b s
-  unfolding listItem
-  list-skip true x os j k h = rw (ne_eqb k j h)
-  list-skip false x os j k h = rw (ne_eqb k j h)
+  list_skip : (c : Bool) (x : Ty) (os : Opts) (j k : ℕ) → (k ≡ j → ⊥) → list_option (pick c (bare j os) (body j x os)) k b s ≡ list_option os k b s
+  unfolding list_item_lem
+  list_skip true x os j k h = rw (ne_eqb k j h)
+  list_skip false x os j k h = rw (ne_eqb k j h)
 
-  list-option : (n a j k : ℕ) → j ≤ k → k < j + n → listOption (options l lower a j n) k b s ≡ listed (word_at l (a + (k - j)))
+  list-option : (n a j k : ℕ) → j ≤ k → k < j + n → list_option (options l lower a j n) k b s ≡ listed (word_at l (a + (k - j)))
   unfolding options
   list-option zero a j k h i = absurd (omega arith)
   list-option (suc n) a j k h i = go (eqb k j) refl (list-option n (a + 1) (j + 1) k)
     where
       go : (c : Bool) → eqb k j ≡ c → (j + 1 ≤ k → k < j + 1 + n →
-          listOption (options l lower (a + 1) (j + 1) n) k b s ≡ listed (word_at l (a + 1 + (k - (j + 1))))) →
-          listOption (pick (eqb (word_at l a) 4294967295) (bare j (options l lower (a + 1) (j + 1) n))
+          list_option (options l lower (a + 1) (j + 1) n) k b s ≡ listed (word_at l (a + 1 + (k - (j + 1))))) →
+          list_option (pick (eqb (word_at l a) 4294967295) (bare j (options l lower (a + 1) (j + 1) n))
           (body j (get_or lower (word_at l a) (boolean 0)) (options l lower (a + 1) (j + 1) n))) k b s ≡ listed (word_at l (a + (k - j)))
       go true p f =
           let q : k ≡ j = eqb-true _ _ p in
@@ -177,33 +177,33 @@ module _ (l : List ℕ) (lower : List Ty) (b : List ℕ) (s : ℕ) where
       go false p f =
           let q : k ≡ j → ⊥ = eqb-false _ _ p in
           let m : a + 1 + (k - (j + 1)) ≡ a + (k - j) = omega arith in
-          list-skip (eqb (word_at l a) 4294967295) (get_or lower (word_at l a) (boolean 0)) (options l lower (a + 1) (j + 1) n) j k q ∙
+          list_skip (eqb (word_at l a) 4294967295) (get_or lower (word_at l a) (boolean 0)) (options l lower (a + 1) (j + 1) n) j k q ∙
           rw m at (f (omega arith) (omega arith))
 
-  list-chosen : (a n : ℕ) → get_or b 0 0 < n → listOption (options l lower a 0 n) (get_or b 0 0) b s ≡ listed (word_at l (a + get_or b 0 0))
+  list-chosen : (a n : ℕ) → get_or b 0 0 < n → list_option (options l lower a 0 n) (get_or b 0 0) b s ≡ listed (word_at l (a + get_or b 0 0))
   list-chosen a n h = let j : get_or b 0 0 - 0 ≡ get_or b 0 0 = omega arith in rw j at (list-option n a 0 (get_or b 0 0) (omega arith) (omega arith))
 
 -- A container's and a union's parts are accepted, and stored behind their own record.
 module _ (lens l : List ℕ) (t : ℕ) (n : Node) (e : n ≡ node_of l t) (g : Under lens l (t + 1)) (b : List ℕ) (s : ℕ)
-    (h : IsAccepted (readItem (tree_of l t) b s)) where
+    (h : IsAccepted (read_item (tree_of l t) b s)) where
   module _ (k : n.kind ≡ 6) where
-    container-both : (layOut (headsOf l t (n.at + 2) 1 n.second) b ≡ Told.Fine) ×
-        IsAccepted (and_then (one 0 0) (readFields (row_of l t (n.at + 2) 1 n.second) b 0 s))
+    container-both : (lay_out_lem (heads_of l t (n.at + 2) 1 n.second) b ≡ Told.Fine) ×
+        IsAccepted (and_then (one 0 0) (read_fields (row_of l t (n.at + 2) 1 n.second) b 0 s))
     container-both = built-both _ t s _ (rw (container-read lens l t n e g k b s) at h)
 
-    pub container-accepted : InRange (headsOf l t (n.at + 2) 1 n.second) b 0 0 × IsAccepted (readFields (row_of l t (n.at + 2) 1 n.second) b 0 s)
+    pub container-accepted : InRange (heads_of l t (n.at + 2) 1 n.second) b 0 0 × IsAccepted (read_fields (row_of l t (n.at + 2) 1 n.second) b 0 s)
     container-accepted = (
       layout-ranges _ b container-both.0,
-      (then-both (one 0 0) (readFields (row_of l t (n.at + 2) 1 n.second) b 0 s)
+      (then_both (one 0 0) (read_fields (row_of l t (n.at + 2) 1 n.second) b 0 s)
           container-both.1).1,
     )
 
   module _ (k : n.kind ≡ 7) where
-    union-list : get_or b 0 0 < n.second → listItem (tree_of l t) b s ≡ entry t b s ++ listed l (trees l t) b s (word_at l (n.at + 2 + get_or b 0 0))
-    unfolding listItem
-    union-list i = rw (as-union l t n e k, list-chosen l (trees l t) b s (n.at + 2) n.second i)
+    union-list : get_or b 0 0 < n.second → list_item_lem (tree_of l t) b s ≡ entry t b s ++ listed l (trees l t) b s (word_at l (n.at + 2 + get_or b 0 0))
+    unfolding list_item_lem
+    union-list i = rw (as_union l t n e k, list-chosen l (trees l t) b s (n.at + 2) n.second i)
 
-    pub union-bare : Choice.Bare ≡ choose l (n.at + 2) n.second b → listItem (tree_of l t) b s ≡ entry t b s
+    pub union-bare : Choice.Bare ≡ choose l (n.at + 2) n.second b → list_item_lem (tree_of l t) b s ≡ entry t b s
     unfolding listed
     union-bare q =
         let r = bare-says l (n.at + 2) n.second b (sym q) in
@@ -213,7 +213,7 @@ module _ (lens l : List ℕ) (t : ℕ) (n : Node) (e : n ≡ node_of l t) (g : U
     union-never r q = absurd (rw (← wrong-read lens l t n e g k b s r q) at h)
 
     module _ (o : ℕ) (q : Choice.Body o ≡ choose l (n.at + 2) n.second b) where
-      pub union-body : listItem (tree_of l t) b s ≡ entry t b s ++ listItem (tree_of l o) (take (length b - 1) (drop 1 b)) (s + 1)
+      pub union-body : list_item_lem (tree_of l t) b s ≡ entry t b s ++ list_item_lem (tree_of l o) (take (length b - 1) (drop 1 b)) (s + 1)
       unfolding listed
       union-body =
           let r = body-says l (n.at + 2) n.second b o (sym q) in
@@ -226,33 +226,33 @@ module _ (lens l : List ℕ) (t : ℕ) (n : Node) (e : n ≡ node_of l t) (g : U
                 (drop 1 b) (simp length-drop (omega arith)),
           )
 
-      pub body-accepted : IsAccepted (readItem (tree_of l o) (take (length b - 1) (drop 1 b)) (s + 1))
-      body-accepted = (then-both (one 1 0) (readItem (tree_of l o) (take (length b - 1) (drop 1 b)) (s + 1)) (rw (← body-read lens l t n e g k b o q s) at h)).1
+      pub body-accepted : IsAccepted (read_item (tree_of l o) (take (length b - 1) (drop 1 b)) (s + 1))
+      body-accepted = (then_both (one 1 0) (read_item (tree_of l o) (take (length b - 1) (drop 1 b)) (s + 1)) (rw (← body-read lens l t n e g k b o q s) at h)).1
 
 -- A listing begins with a record.
-list-long : (x : Ty) (b : List ℕ) (s : ℕ) → 12 ≤ length (listItem x b s)
-unfolding listItem
+list-long : (x : Ty) (b : List ℕ) (s : ℕ) → 12 ≤ length (list_item_lem x b s)
+unfolding list_item_lem
 list-long (number t w) b s = omega (arith, length-entry t b s)
 list-long (boolean t) b s = omega (arith, length-entry t b s)
-list-long (fixedBytes t n) b s = omega (arith, length-entry t b s)
-list-long (freeBytes t limit) b s = omega (arith, length-entry t b s)
-list-long (bitVector t n) b s = omega (arith, length-entry t b s)
-list-long (bitList t limit) b s = omega (arith, length-entry t b s)
+list-long (fixed_bytes t n) b s = omega (arith, length-entry t b s)
+list-long (free_bytes t limit) b s = omega (arith, length-entry t b s)
+list-long (bit_vector t n) b s = omega (arith, length-entry t b s)
+list-long (bit_list t limit) b s = omega (arith, length-entry t b s)
 list-long (container t ts) b s = simp (length-append, length-entry) (omega arith)
 list-long (union t os) b s = simp (length-append, length-entry) (omega arith)
 list-long (list t e limit) b s = simp (length-append, length-entry) (omega arith)
 list-long (vector t e n) b s = simp (length-append, length-entry) (omega arith)
 
-pub room-long : (o : List ℕ) (at : ℕ) (x : Ty) (b : List ℕ) (s : ℕ) → Room o at (listItem x b s) → at + 12 ≤ length o
+pub room-long : (o : List ℕ) (at : ℕ) (x : Ty) (b : List ℕ) (s : ℕ) → Room o at (list_item_lem x b s) → at + 12 ≤ length o
 room-long o at x b s g = omega (arith, g.room, list-long x b s)
 
 -- An accepted message under a legal table: it is below 2^32 bytes, and there is room for as many records as it counts.
-pub under-accepted : (l m : List ℕ) (n : ℕ) (c : Counts) → underTable (Upto n) l m ≡ Accepted c →
-    (readItem (messageType l n) m 0 ≡ Accepted c) × (length m < 2 ^ 32)
+pub under-accepted : (l m : List ℕ) (n : ℕ) (c : Counts) → under_table_lem (Upto n) l m ≡ Accepted c →
+    (read_item (message_type l n) m 0 ≡ Accepted c) × (length m < 2 ^ 32)
 under-accepted l m n c e =
-    let q = right-accepted (ltb 4294967295 (length m)) (readItem (messageType l n) m 0) TooLarge 0 0 c e in
+    let q = right_accepted (ltb 4294967295 (length m)) (read_item (message_type l n) m 0) TooLarge 0 0 c e in
     let k : length m ≤ 4294967295 = ltb-false _ _ q.0 in
     (q.1, omega arith)
 
-pub records-room : (x : Ty) (m o : List ℕ) (c : Counts) → readItem x m 0 ≡ Accepted c → c.records ≤ length o / 12 → Room o 0 (listItem x m 0)
+pub records-room : (x : Ty) (m o : List ℕ) (c : Counts) → read_item x m 0 ≡ Accepted c → c.records ≤ length o / 12 → Room o 0 (list_item_lem x m 0)
 records-room x m o c e k = record { room = omega (arith, listed-length x m 0 c e) }

@@ -19,57 +19,57 @@ use Rattle.standard.specs.declared.Head.{Head}
 use Rattle.standard.specs.declared.Head.TheVariants.{Fixed, Variable}
 use Rattle.layout.specs.Tree.{node_of, tree_of}
 use Rattle.layout.specs.declared.Node.{Node}
-use Rattle.message.specs.Read.{one, elements, manyOf, readItem, readFields}
-use Rattle.message.specs.Listing.{entry, listItem, listFields}
-use Rattle.message.specs.Unfold.{unfoldBytes, bytesFields}
-use Rattle.message.specs.Steps.{Under, Row, row_of, headsOf, manyIn, IsAccepted}
+use Rattle.message.specs.Read.{one, elements, many_of, read_item, read_fields}
+use Rattle.message.specs.Listing.{entry, list_item_lem, list_fields_lem}
+use Rattle.message.specs.Unfold.{unfold_bytes, bytes_fields}
+use Rattle.message.specs.Steps.{Under, Row, row_of, heads_of, many_in_lem, IsAccepted}
 use Rattle.message.specs.declared.elements.Elements.{Elements}
 use Rattle.message.specs.declared.elements.Elements.TheVariants.{Many}
-use Rattle.message.proofs.Answers.{then-both, built-both, many-both}
+use Rattle.message.proofs.Answers.{then_both, built-both, many-both}
 use Rattle.message.proofs.Copies.{Some, Laid, elements_laid, vector-laid}
-use Rattle.message.proofs.Repeats.{else-list, element-some, element-heads, element-row, list_read, list-listed, list-bytes, vector-read, vector-listed, vector-bytes}
+use Rattle.message.proofs.Repeats.{else_list, element-some, element-heads, element-row, list_read, list-listed, list-bytes, vector-read, vector-listed, vector-bytes}
 
 -- m elements of the type t, whose words are n, lie in b and are accepted; the listing and the body bytes of b are theirs.
 pub record Held (l : List ℕ) (t : ℕ) (n : Node) (m : ℕ) (b : List ℕ) (s : ℕ) : Type 0 where
   pub laid : Laid (replicate m (head (tree_of l n.second))) b
-  pub accepted : IsAccepted (readFields (row_of l t (n.at + 1) 0 m) b 0 s)
-  pub listed : listItem (tree_of l t) b s ≡ entry t b s ++ listFields (row_of l t (n.at + 1) 0 m) b 0 s
-  pub bytes : unfoldBytes (tree_of l t) b ≡ bytesFields (row_of l t (n.at + 1) 0 m) b 0
+  pub accepted : IsAccepted (read_fields (row_of l t (n.at + 1) 0 m) b 0 s)
+  pub listed : list_item_lem (tree_of l t) b s ≡ entry t b s ++ list_fields_lem (row_of l t (n.at + 1) 0 m) b 0 s
+  pub bytes : unfold_bytes (tree_of l t) b ≡ bytes_fields (row_of l t (n.at + 1) 0 m) b 0
 
 -- A kind that is no leaf's, no container's and no union's
 pub several : (i : ℕ) → 6 ≤ i → (i ≡ 6 → ⊥) → (i ≡ 7 → ⊥) → 8 ≤ i
 several i h j k = omega (arith, j, k)
 
 -- An element takes at least a byte.
-range-few : (m : ℕ) (h : Head) → Some h → (b : List ℕ) (p prev : ℕ) → p ≤ length b → InRange (replicate m h) b p prev → p + m ≤ length b
+range_few : (m : ℕ) (h : Head) → Some h → (b : List ℕ) (p prev : ℕ) → p ≤ length b → InRange (replicate m h) b p prev → p + m ≤ length b
 unfolding InRange
-range-few zero h i b p prev k r = omega arith
-range-few (suc m) (Fixed w) i b p prev k r = omega (arith, i w refl, range-few m (Fixed w) i b (p + w) prev r.0 r.1)
-range-few (suc m) Variable i b p prev k r = omega (arith, range-few m Variable i b (p + 4) _ r.0 r.3)
+range_few zero h i b p prev k r = omega arith
+range_few (suc m) (Fixed w) i b p prev k r = omega (arith, i w refl, range_few m (Fixed w) i b (p + w) prev r.0 r.1)
+range_few (suc m) Variable i b p prev k r = omega (arith, range_few m Variable i b (p + 4) _ r.0 r.3)
 
 module _ (lens l : List ℕ) (t : ℕ) (n : Node) (e : n ≡ node_of l t) (g : Under lens l (t + 1)) (k : 8 ≤ n.kind) (b : List ℕ) (s : ℕ)
-    (h : IsAccepted (readItem (tree_of l t) b s)) where
+    (h : IsAccepted (read_item (tree_of l t) b s)) where
   -- what a list says of its elements
   abbrev said : Elements
   said = elements (head (tree_of l n.second)) (word_at l (n.at + 2)) b
 
   abbrev many : ℕ
-  many = manyIn l n (head (tree_of l n.second)) b
+  many = many_in_lem l n (head (tree_of l n.second)) b
 
-  list-many : n.kind ≡ 8 → (m : ℕ) × (said ≡ Many m) × IsAccepted (readFields (row_of l t (n.at + 1) 0 m) b 0 s)
+  list-many : n.kind ≡ 8 → (m : ℕ) × (said ≡ Many m) × IsAccepted (read_fields (row_of l t (n.at + 1) 0 m) b 0 s)
   list-many q =
       let p = many-both said t s _ (rw (list_read lens l t n e g k q b s) at h) in
-      (p.0, p.1, (then-both (one 1 0) (readFields (row_of l t (n.at + 1) 0 p.0) b 0 s) p.2).1)
+      (p.0, p.1, (then_both (one 1 0) (read_fields (row_of l t (n.at + 1) 0 p.0) b 0 s) p.2).1)
 
   pub many-elements : (n.kind ≡ 9 → ⊥) → said ≡ Many many
   many-elements z =
-      let p = list-many (else-list lens l t n e g k z) in
+      let p = list-many (else_list lens l t n e g k z) in
       rw (ne_eqb n.kind 9 z, p.1)
 
-  list_held : n.kind ≡ 8 → Held l t n (manyOf said) b s
+  list_held : n.kind ≡ 8 → Held l t n (many_of said) b s
   list_held q =
       let p = list-many q in
-      let c : manyOf said ≡ p.0 = ap manyOf p.1 in
+      let c : many_of said ≡ p.0 = ap many_of p.1 in
       record {
         laid = rw c (elements_laid _ _ b p.0 (element-some lens l t n e g k) p.1).0;
         accepted = rw c p.2;
@@ -82,7 +82,7 @@ module _ (lens l : List ℕ) (t : ℕ) (n : Node) (e : n ≡ node_of l t) (g : U
       let p = built-both _ t s _ (rw (vector-read lens l t n e g k q b s) at h) in
       record {
         laid = vector-laid _ _ b p.0;
-        accepted = (then-both (one 0 0) (readFields (row_of l t (n.at + 1) 0 (word_at l (n.at + 2))) b 0 s) p.1).1;
+        accepted = (then_both (one 0 0) (read_fields (row_of l t (n.at + 1) 0 (word_at l (n.at + 2))) b 0 s) p.1).1;
         listed = vector-listed lens l t n e g k q b s;
         bytes = vector-bytes lens l t n e g k q b;
       }
@@ -90,16 +90,16 @@ module _ (lens l : List ℕ) (t : ℕ) (n : Node) (e : n ≡ node_of l t) (g : U
   pub many-held : Held l t n many b s
   many-held = go (eqb n.kind 9) refl
     where
-      go : (c : Bool) → eqb n.kind 9 ≡ c → Held l t n (pick c (word_at l (n.at + 2)) (manyOf said)) b s
+      go : (c : Bool) → eqb n.kind 9 ≡ c → Held l t n (pick c (word_at l (n.at + 2)) (many_of said)) b s
       go true q = vector-held (eqb-true n.kind 9 q)
-      go false q = list_held (else-list lens l t n e g k (eqb-false n.kind 9 q))
+      go false q = list_held (else_list lens l t n e g k (eqb-false n.kind 9 q))
 
-  pub many-ranges : InRange (headsOf l t (n.at + 1) 0 many) b 0 0
+  pub many-ranges : InRange (heads_of l t (n.at + 1) 0 many) b 0 0
   many-ranges = rw (element-heads lens l t n e g k many) many-held.laid.ranges
 
   -- each takes a byte, so there are no more than bytes
   pub many-few : many ≤ length b
-  many-few = omega (arith, range-few many _ (element-some lens l t n e g k) b 0 0 (omega arith) many-held.laid.ranges)
+  many-few = omega (arith, range_few many _ (element-some lens l t n e g k) b 0 0 (omega arith) many-held.laid.ranges)
 
   pub many-row : length b < 2 ^ 32 → Row lens l t (n.at + 1) 0 many
   many-row z = element-row lens l t n e g k many (omega (arith, many-few))

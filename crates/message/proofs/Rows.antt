@@ -7,17 +7,17 @@ use native.Mathlib.Omega.{arith}
 use borrow.Author.Tests.{le-ltb, eq-eqb}
 use lib.ListN.{length, get_or, take, drop, length-take, length-drop}
 use Rattle.standard.specs.Bytes.{four, word_at}
-use Rattle.standard.specs.Types.{Ty, Tys, boolean, container, end, field, head, headAll, heads}
+use Rattle.standard.specs.Types.{Ty, Tys, boolean, container, end, field, head, head_all, heads}
 use Rattle.standard.specs.Parts.{next, span_of, part, InRange}
 use Rattle.standard.specs.declared.Head.{Head}
 use Rattle.standard.specs.declared.Head.TheVariants.{Fixed, Variable}
 use Rattle.standard.specs.declared.Span.{Span}
 use Rattle.standard.specs.declared.Told.{Told}
 use Rattle.standard.specs.declared.Refusal.{Refusal}
-use Rattle.standard.proofs.Join.{range-weaken, span-ranges}
+use Rattle.standard.proofs.Join.{range_weaken, span_ranges}
 use Rattle.standard.specs.declared.Maybe.TheVariants.{Nothing}
 use Rattle.standard.proofs.Laws.{fixed-some, fixed-injective, joined-fixed}
-use Rattle.decode.specs.Builder.{fresh, step, follow, register, build, ended, layOut}
+use Rattle.decode.specs.Builder.{fresh, step, follow, register, build, ended, lay_out_lem}
 use Rattle.decode.specs.declared.builder.Progress.{Progress}
 use Rattle.decode.specs.declared.builder.Step.{Step}
 use Rattle.decode.proofs.Register.{step-within, beyond}
@@ -26,18 +26,18 @@ use Rattle.layout.specs.declared.Node.{Node}
 use Rattle.layout.specs.Table.{count}
 use Rattle.layout.specs.Legal.{Lower, LegalNode, Legal}
 use Rattle.layout.specs.Steps.{Known}
-use Rattle.layout.proofs.Facts.{trees-get, as-container, lower-here, lower-rest, head-len, legal-below, legal-node}
-use Rattle.layout.proofs.Tables.{known-len, known-length}
-use Rattle.layout.proofs.Trees.{legal-tree, len-small}
-use Rattle.message.specs.Steps.{Under, Row, Named, row_of, headsOf}
+use Rattle.layout.proofs.Facts.{trees-get, as_container, lower-here, lower-rest, head_len, legal-below, legal_node}
+use Rattle.layout.proofs.Tables.{known_len, known-length}
+use Rattle.layout.proofs.Trees.{legal_tree, len_small}
+use Rattle.message.specs.Steps.{Under, Row, Named, row_of, heads_of}
 
 -- The lengths that the table check found.
 pub under_table : (lens l : List ℕ) (k : ℕ) → Known lens l k → Under lens l k
-under_table lens l k g = record { legal = g.legal; few = g.few; room = known-length lens l k g; found = λ f h. known-len lens l k g f h }
+under_table lens l k g = record { legal = g.legal; few = g.few; room = known-length lens l k g; found = λ f h. known_len lens l k g f h }
 
 -- What a table that is legal so far says of a type
-pub node-legal : (lens l : List ℕ) (t : ℕ) (n : Node) → n ≡ node_of l t → Under lens l (t + 1) → LegalNode l t n
-node-legal lens l t n e g = legal-node l t n e g.legal
+pub node_legal : (lens l : List ℕ) (t : ℕ) (n : Node) → n ≡ node_of l t → Under lens l (t + 1) → LegalNode l t n
+node_legal lens l t n e g = legal_node l t n e g.legal
 
 pub under-below : (lens l : List ℕ) (t f : ℕ) → f ≤ t → Under lens l t → Under lens l f
 under-below lens l t f h g =
@@ -45,26 +45,26 @@ under-below lens l t f h g =
 
 module _ (lens l : List ℕ) (t : ℕ) (g : Under lens l t) (f : ℕ) (h : f < t) where
   pub under-head : head_of (get_or lens f 0) ≡ head (tree_of l f)
-  under-head = ap head_of (g.found f h) ∙ head-len (tree_of l f) (legal-tree l t f g.legal h)
+  under-head = ap head_of (g.found f h) ∙ head_len (tree_of l f) (legal_tree l t f g.legal h)
 
   pub under-small : get_or lens f 0 < 2 ^ 32
   unfolding Legal
-  under-small = rw (g.found f h) (len-small l f (g.legal f h))
+  under-small = rw (g.found f h) (len_small l f (g.legal f h))
 
   pub under-legal : Legal l (f + 1)
   under-legal = legal-below l t (f + 1) (omega arith) g.legal
 
-  pub under-index : f < length lens
-  under-index = omega (arith, g.few, g.room)
+  pub under_index : f < length lens
+  under_index = omega (arith, g.few, g.room)
 
 -- A length of 0 says variable, another one is the fixed length.
-pub len-head : (h : Head) (k : ℕ) → k ≡ len_of h → (k ≡ 0 → ⊥) → Fixed k ≡ h
-len-head (Fixed n) k e z = ap Fixed e
-len-head Variable k e z = absurd (z e)
+pub len_head : (h : Head) (k : ℕ) → k ≡ len_of h → (k ≡ 0 → ⊥) → Fixed k ≡ h
+len_head (Fixed n) k e z = ap Fixed e
+len_head Variable k e z = absurd (z e)
 
-no-len-head : (h : Head) → ((n : ℕ) → h ≡ Fixed n → 1 ≤ n) → 0 ≡ len_of h → Variable ≡ h
-no-len-head (Fixed n) f e = absurd (omega (arith, f n refl))
-no-len-head Variable f e = refl
+no_len_head : (h : Head) → ((n : ℕ) → h ≡ Fixed n → 1 ≤ n) → 0 ≡ len_of h → Variable ≡ h
+no_len_head (Fixed n) f e = absurd (omega (arith, f n refl))
+no_len_head Variable f e = refl
 
 -- No field, and the first of some.
 pub row-none : (l : List ℕ) (t a apart left : ℕ) → left ≤ 0 → row_of l t a apart left ≡ end
@@ -96,8 +96,8 @@ unfolding row_of fields
 container-fields l t a zero = refl
 container-fields l t a (suc n) = ap (field (get_or (trees l t) (word_at l a) (boolean 0))) (container-fields l t (a + 1) n)
 
-pub container-tree : (l : List ℕ) (t : ℕ) (n : Node) → n ≡ node_of l t → n.kind ≡ 6 → tree_of l t ≡ container t (row_of l t (n.at + 2) 1 n.second)
-container-tree l t n e k = rw (container-fields l t (n.at + 2) n.second) (as-container l t n e k)
+pub container_tree : (l : List ℕ) (t : ℕ) (n : Node) → n ≡ node_of l t → n.kind ≡ 6 → tree_of l t ≡ container t (row_of l t (n.at + 2) 1 n.second)
+container_tree l t n e k = rw (container-fields l t (n.at + 2) n.second) (as_container l t n e k)
 
 pub container-named : (l : List ℕ) (t a n : ℕ) → a + n ≤ count l → Lower l t a n → Named l t a 1 n
 unfolding Named
@@ -115,8 +115,8 @@ module _ (lens l : List ℕ) (t a apart left f : ℕ) (g : Row lens l t a apart 
   pub row_below : f < t
   row_below = rw e (named-first l t a apart left g.named p).1
 
-  pub row-index : f < length lens
-  row-index = under-index lens l t g.under f row_below
+  pub row_index : f < length lens
+  row_index = under_index lens l t g.under f row_below
 
   pub row-few : f < 64
   row-few = let b = row_below in omega (arith, g.under.few)
@@ -134,14 +134,14 @@ module _ (lens l : List ℕ) (t a apart left f : ℕ) (g : Row lens l t a apart 
   row-legal = row_under.legal
 
   pub row-fixed : (k : ℕ) → k ≡ get_or lens f 0 → (k ≡ 0 → ⊥) → Fixed k ≡ head (tree_of l f)
-  row-fixed k q z = len-head (head (tree_of l f)) k (q ∙ g.under.found f row_below) z
+  row-fixed k q z = len_head (head (tree_of l f)) k (q ∙ g.under.found f row_below) z
 
-  pub row-variable : (k : ℕ) → k ≡ get_or lens f 0 → k ≡ 0 → Variable ≡ head (tree_of l f)
-  row-variable k q z =
-      no-len-head (head (tree_of l f)) (λ n h. fixed-some (tree_of l f) n (legal-tree l t f g.under.legal row_below) h)
+  pub row_variable : (k : ℕ) → k ≡ get_or lens f 0 → k ≡ 0 → Variable ≡ head (tree_of l f)
+  row_variable k q z =
+      no_len_head (head (tree_of l f)) (λ n h. fixed-some (tree_of l f) n (legal_tree l t f g.under.legal row_below) h)
       (sym z ∙ q ∙ g.under.found f row_below)
 
-  pub row-heads : (h : Head) → h ≡ head (tree_of l f) → headsOf l t a apart left ≡ h ∷ headsOf l t (a + apart) apart (left - 1)
+  pub row-heads : (h : Head) → h ≡ head (tree_of l f) → heads_of l t a apart left ≡ h ∷ heads_of l t (a + apart) apart (left - 1)
   unfolding heads
   row-heads h q = rw (row_first l t a apart left g.named p, q, e)
 
@@ -154,7 +154,7 @@ module _ (lens l : List ℕ) (t a apart left f : ℕ) (g : Row lens l t a apart 
         named = (named-first l t a apart left g.named p).2;
       }
 
-pub heads-none : (l : List ℕ) (t a apart left : ℕ) → left ≤ 0 → headsOf l t a apart left ≡ []
+pub heads-none : (l : List ℕ) (t a apart left : ℕ) → left ≤ 0 → heads_of l t a apart left ≡ []
 unfolding heads
 heads-none l t a apart left h = rw (row-none l t a apart left h)
 
@@ -162,101 +162,101 @@ heads-none l t a apart left h = rw (row-none l t a apart left h)
 pub record Laying (lens l : List ℕ) (t a₀ apart n : ℕ) (b : List ℕ) (x : Progress) (a left : ℕ) : Type 0 where
   pub row : Row lens l t a apart left
   pub within : x.pos ≤ length b
-  pub same : register (headsOf l t a apart left) b x ≡ register (headsOf l t a₀ apart n) b fresh
+  pub same : register (heads_of l t a apart left) b x ≡ register (heads_of l t a₀ apart n) b fresh
 
 module _ (lens l : List ℕ) (t a₀ apart n : ℕ) (b : List ℕ) (x : Progress) (a left f : ℕ) (h : Head) (g : Laying lens l t a₀ apart n b x a left) (p : 0 < left)
     (e : f ≡ word_at l a) (q : h ≡ head (tree_of l f)) where
-  laying-same : follow (step h b x) (register (headsOf l t (a + apart) apart (left - 1)) b) ≡ register (headsOf l t a₀ apart n) b fresh
+  laying-same : follow (step h b x) (register (heads_of l t (a + apart) apart (left - 1)) b) ≡ register (heads_of l t a₀ apart n) b fresh
   unfolding register
   laying-same = rw (row-heads lens l t a apart left f g.row p e h q) at g.same
 
   pub laying-next : (y : Progress) → step h b x ≡ Step.Next y → Laying lens l t a₀ apart n b y (a + apart) (left - 1)
   laying-next y s = record { row = row_next lens l t a apart left f g.row p e; within = step-within h b x y s; same = rw s at laying-same }
 
-  pub laying-bad : (r : Refusal) → step h b x ≡ Step.Refused r → Told.Refused r ≡ layOut (headsOf l t a₀ apart n) b
-  unfolding layOut
+  pub laying-bad : (r : Refusal) → step h b x ≡ Step.Refused r → Told.Refused r ≡ lay_out_lem (heads_of l t a₀ apart n) b
+  unfolding lay_out_lem
   laying-bad r s = rw (← laying-same, s)
 
 pub laying-end : (lens l : List ℕ) (t a₀ apart n : ℕ) (b : List ℕ) (x : Progress) (a left : ℕ) → Laying lens l t a₀ apart n b x a left → left ≤ 0 →
-    build (length b) x ≡ layOut (headsOf l t a₀ apart n) b
-unfolding layOut register
+    build (length b) x ≡ lay_out_lem (heads_of l t a₀ apart n) b
+unfolding lay_out_lem register
 laying-end lens l t a₀ apart n b x a left g h = rw (← g.same, heads-none l t a apart left h)
 
 -- Fields of fixed size that take all the bytes are laid out well.
-at-pos : ℕ → Progress
-at-pos p = record { pos = p; first = Nothing; previous = Nothing }
+at_pos : ℕ → Progress
+at_pos p = record { pos = p; first = Nothing; previous = Nothing }
 
 pub fixed-step : (n : ℕ) (b : List ℕ) (x : Progress) → x.pos + n ≤ length b → length b < 2 ^ 32 → step (Fixed n) b x ≡ Step.Next (beyond x n)
 unfolding step
 fixed-step n b x h k = rw (le-ltb 4294967295 n (omega arith), le-ltb (length b) (x.pos + n) h)
 
-fixed-registers : (ts : Tys) (b : List ℕ) (p m : ℕ) → headAll ts ≡ Fixed m → p + m ≤ length b → length b < 2 ^ 32 →
-    register (heads ts) b (at-pos p) ≡ Step.Next (at-pos (p + m))
-unfolding register heads head at-pos
-fixed-registers end b p m e h k = let z : p + m ≡ p = let q : 0 ≡ m = fixed-injective 0 m e in omega arith in rw z
-fixed-registers (field t ts) b p m e h k =
-    let j = joined-fixed (head t) (headAll ts) m e in
-    let i = fixed-step j.0 b (at-pos p) (omega (arith, j.4)) k in
-    let r = fixed-registers ts b (p + j.0) j.1 j.3 (omega (arith, j.4)) k in
+fixed_registers : (ts : Tys) (b : List ℕ) (p m : ℕ) → head_all ts ≡ Fixed m → p + m ≤ length b → length b < 2 ^ 32 →
+    register (heads ts) b (at_pos p) ≡ Step.Next (at_pos (p + m))
+unfolding register heads head at_pos
+fixed_registers end b p m e h k = let z : p + m ≡ p = let q : 0 ≡ m = fixed-injective 0 m e in omega arith in rw z
+fixed_registers (field t ts) b p m e h k =
+    let j = joined-fixed (head t) (head_all ts) m e in
+    let i = fixed-step j.0 b (at_pos p) (omega (arith, j.4)) k in
+    let r = fixed_registers ts b (p + j.0) j.1 j.3 (omega (arith, j.4)) k in
     let z : p + j.0 + j.1 ≡ p + m = omega (arith, j.4) in
     rw (j.2, i) (rw z at r)
 
-pub fixed-laid : (ts : Tys) (b : List ℕ) → headAll ts ≡ Fixed (length b) → length b < 2 ^ 32 → Told.Fine ≡ layOut (heads ts) b
-unfolding layOut build at-pos
+pub fixed-laid : (ts : Tys) (b : List ℕ) → head_all ts ≡ Fixed (length b) → length b < 2 ^ 32 → Told.Fine ≡ lay_out_lem (heads ts) b
+unfolding lay_out_lem build at_pos
 fixed-laid ts b e k =
     let z : 0 + length b ≡ length b = omega arith in
-    let r : register (heads ts) b fresh ≡ Step.Next (at-pos (length b)) = rw z at (fixed-registers ts b 0 (length b) e (omega arith) k) in
-    let f : build (length b) (at-pos (length b)) ≡ Told.Fine = rw (eq-eqb (length b) (length b) refl) in
+    let r : register (heads ts) b fresh ≡ Step.Next (at_pos (length b)) = rw z at (fixed_registers ts b 0 (length b) e (omega arith) k) in
+    let f : build (length b) (at_pos (length b)) ≡ Told.Fine = rw (eq-eqb (length b) (length b) refl) in
     sym (ap (λ (x : Step). ended x (build (length b))) r ∙ f)
 
 pub container-fixed : (lens l : List ℕ) (t : ℕ) (ts : Tys) (b : List ℕ) (k : ℕ) → Under lens l (t + 1) → tree_of l t ≡ container t ts →
-    k ≡ get_or lens t 0 → 0 < k → k ≡ length b → length b < 2 ^ 32 → Told.Fine ≡ layOut (heads ts) b
+    k ≡ get_or lens t 0 → 0 < k → k ≡ length b → length b < 2 ^ 32 → Told.Fine ≡ lay_out_lem (heads ts) b
 unfolding head
 container-fixed lens l t ts b k g e q z h s =
-    let f = len-head (head (tree_of l t)) k (q ∙ g.found t (omega arith)) (λ (v : k ≡ 0). omega arith) in
+    let f = len_head (head (tree_of l t)) k (q ∙ g.found t (omega arith)) (λ (v : k ≡ 0). omega arith) in
     fixed-laid ts b (sym (rw (e, h) at f)) s
 
 -- The loop of `next_start`: looking on from here finds the same.
 pub record Seeking (lens l : List ℕ) (t a₀ apart n : ℕ) (b : List ℕ) (p₀ a left p : ℕ) : Type 0 where
   pub row : Row lens l t a apart left
-  pub ranges : InRange (headsOf l t a apart left) b p 0
-  pub same : next (headsOf l t a apart left) b p ≡ next (headsOf l t a₀ apart n) b p₀
+  pub ranges : InRange (heads_of l t a apart left) b p 0
+  pub same : next (heads_of l t a apart left) b p ≡ next (heads_of l t a₀ apart n) b p₀
 
 module _ (lens l : List ℕ) (t a₀ apart n : ℕ) (b : List ℕ) (p₀ a left p f k : ℕ) (g : Seeking lens l t a₀ apart n b p₀ a left p) (z : 0 < left)
     (e : f ≡ word_at l a) (q : k ≡ get_or lens f 0) where
   module _ (v : k ≡ 0) where
-    seeking-offset : headsOf l t a apart left ≡ Variable ∷ headsOf l t (a + apart) apart (left - 1)
-    seeking-offset = row-heads lens l t a apart left f g.row z e Variable (row-variable lens l t a apart left f g.row z e k q v)
+    seeking_offset : heads_of l t a apart left ≡ Variable ∷ heads_of l t (a + apart) apart (left - 1)
+    seeking_offset = row-heads lens l t a apart left f g.row z e Variable (row_variable lens l t a apart left f g.row z e k q v)
 
-    pub seeking-room : p + 4 ≤ length b
+    pub seeking_room : p + 4 ≤ length b
     unfolding InRange
-    seeking-room = (rw seeking-offset at g.ranges).0
+    seeking_room = (rw seeking_offset at g.ranges).0
 
-    pub seeking-found : four b p ≡ next (headsOf l t a₀ apart n) b p₀
+    pub seeking_found : four b p ≡ next (heads_of l t a₀ apart n) b p₀
     unfolding next
-    seeking-found = rw seeking-offset at g.same
+    seeking_found = rw seeking_offset at g.same
 
   module _ (v : k ≡ 0 → ⊥) where
-    seeking-heads : headsOf l t a apart left ≡ Fixed k ∷ headsOf l t (a + apart) apart (left - 1)
-    seeking-heads = row-heads lens l t a apart left f g.row z e (Fixed k) (row-fixed lens l t a apart left f g.row z e k q v)
+    seeking_heads : heads_of l t a apart left ≡ Fixed k ∷ heads_of l t (a + apart) apart (left - 1)
+    seeking_heads = row-heads lens l t a apart left f g.row z e (Fixed k) (row-fixed lens l t a apart left f g.row z e k q v)
 
-    pub seeking-fits : p + k ≤ length b
+    pub seeking_fits : p + k ≤ length b
     unfolding InRange
-    seeking-fits = (rw seeking-heads at g.ranges).0
+    seeking_fits = (rw seeking_heads at g.ranges).0
 
-    pub seeking-next : Seeking lens l t a₀ apart n b p₀ (a + apart) (left - 1) (p + k)
+    pub seeking_next : Seeking lens l t a₀ apart n b p₀ (a + apart) (left - 1) (p + k)
     unfolding InRange next
-    seeking-next =
+    seeking_next =
         record {
           row = row_next lens l t a apart left f g.row z e;
-          ranges = (rw seeking-heads at g.ranges).1;
-          same = rw seeking-heads at g.same;
+          ranges = (rw seeking_heads at g.ranges).1;
+          same = rw seeking_heads at g.same;
         }
 
-pub seeking-end : (lens l : List ℕ) (t a₀ apart n : ℕ) (b : List ℕ) (p₀ a left p : ℕ) → Seeking lens l t a₀ apart n b p₀ a left p → left ≤ 0 →
-    length b ≡ next (headsOf l t a₀ apart n) b p₀
+pub seeking_end : (lens l : List ℕ) (t a₀ apart n : ℕ) (b : List ℕ) (p₀ a left p : ℕ) → Seeking lens l t a₀ apart n b p₀ a left p → left ≤ 0 →
+    length b ≡ next (heads_of l t a₀ apart n) b p₀
 unfolding next
-seeking-end lens l t a₀ apart n b p₀ a left p g h = rw (heads-none l t a apart left h) at g.same
+seeking_end lens l t a₀ apart n b p₀ a left p g h = rw (heads-none l t a apart left h) at g.same
 
 -- Where a field lies within the bytes b, and how long it is.
 abbrev pub Lies : List ℕ → Span → Type 0
@@ -264,8 +264,8 @@ Lies b w = (w.from ≤ w.to) × (w.to ≤ length b) × (length (part b w) ≡ w.
 
 -- Where the first field lies.
 module _ (lens l : List ℕ) (t a apart left f : ℕ) (b : List ℕ) (p : ℕ) (g : Row lens l t a apart left) (z : 0 < left) (e : f ≡ word_at l a)
-    (r : InRange (headsOf l t a apart left) b p 0) where
-  pub first-ranges : (h : Head) → h ≡ head (tree_of l f) → InRange (h ∷ headsOf l t (a + apart) apart (left - 1)) b p 0
+    (r : InRange (heads_of l t a apart left) b p 0) where
+  pub first-ranges : (h : Head) → h ≡ head (tree_of l f) → InRange (h ∷ heads_of l t (a + apart) apart (left - 1)) b p 0
   first-ranges h q = rw (row-heads lens l t a apart left f g z e h q) at r
 
   pub first_fits : (k : ℕ) → Fixed k ≡ head (tree_of l f) → p + k ≤ length b
@@ -276,16 +276,16 @@ module _ (lens l : List ℕ) (t a apart left f : ℕ) (b : List ℕ) (p : ℕ) (
   unfolding InRange
   first-room q = (first-ranges Variable q).0
 
-  pub first_rest : Variable ≡ head (tree_of l f) → InRange (headsOf l t (a + apart) apart (left - 1)) b (p + 4) 0
+  pub first_rest : Variable ≡ head (tree_of l f) → InRange (heads_of l t (a + apart) apart (left - 1)) b (p + 4) 0
   unfolding InRange
-  first_rest q = range-weaken (headsOf l t (a + apart) apart (left - 1)) b (p + 4) 0 (four b p) (omega arith) (first-ranges Variable q).3
+  first_rest q = range_weaken (heads_of l t (a + apart) apart (left - 1)) b (p + 4) 0 (four b p) (omega arith) (first-ranges Variable q).3
 
-  module _ (w : Span) (q : w ≡ span_of (head (tree_of l f)) (headsOf l t (a + apart) apart (left - 1)) b p) where
-    pub span-ok : (w.from ≤ w.to) × (w.to ≤ length b) × InRange (headsOf l t (a + apart) apart (left - 1)) b w.next 0
-    span-ok = rw q (span-ranges _ _ b p (first-ranges _ refl))
+  module _ (w : Span) (q : w ≡ span_of (head (tree_of l f)) (heads_of l t (a + apart) apart (left - 1)) b p) where
+    pub span_ok : (w.from ≤ w.to) × (w.to ≤ length b) × InRange (heads_of l t (a + apart) apart (left - 1)) b w.next 0
+    span_ok = rw q (span_ranges _ _ b p (first-ranges _ refl))
 
-    pub span-length : length (part b w) ≡ w.to - w.from
-    span-length = let k = span-ok in simp (length-take, length-drop) (omega arith)
+    pub span_length : length (part b w) ≡ w.to - w.from
+    span_length = let k = span_ok in simp (length-take, length-drop) (omega arith)
 
-    pub span-lies : Lies b w
-    span-lies = (span-ok.0, span-ok.1, span-length)
+    pub span_lies : Lies b w
+    span_lies = (span_ok.0, span_ok.1, span_length)

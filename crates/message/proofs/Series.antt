@@ -14,26 +14,26 @@ use Rattle.standard.specs.Parts.{InRange}
 use Rattle.standard.specs.declared.Head.TheVariants.{Fixed}
 use Rattle.layout.specs.Tree.{node_of, tree_of}
 use Rattle.layout.specs.declared.Node.{Node}
-use Rattle.message.specs.Read.{elements, manyOf, readItem}
-use Rattle.message.specs.Listing.{listItem}
-use Rattle.message.specs.Unfold.{unfoldWords, wordsFields, unfoldBytes, bytesFields}
-use Rattle.message.specs.Steps.{Under, Named, row_of, manyIn, IsAccepted}
-use Rattle.message.specs.Series.{MadeOf, countWord}
+use Rattle.message.specs.Read.{elements, many_of, read_item}
+use Rattle.message.specs.Listing.{list_item_lem}
+use Rattle.message.specs.Unfold.{unfold_words, words_fields, unfold_bytes, bytes_fields}
+use Rattle.message.specs.Steps.{Under, Named, row_of, many_in_lem, IsAccepted}
+use Rattle.message.specs.Series.{MadeOf, count_word}
 use Rattle.message.specs.declared.parts.Series.{Series}
-use Rattle.message.proofs.Rows.{node-legal, under-below, container-tree}
+use Rattle.message.proofs.Rows.{node_legal, under-below, container_tree}
 use Rattle.message.proofs.Bodies.{container-row}
 use Rattle.message.proofs.Entries.{accepted-start, container-accepted, list-container, list-leaf}
-use Rattle.message.proofs.Repeats.{else-list, element-head, element-copies, list-words, vector-words}
+use Rattle.message.proofs.Repeats.{else_list, element-head, element-copies, list-words, vector-words}
 use Rattle.message.proofs.Copies.{laid-fixed}
 use Rattle.message.proofs.Fixed.{fixed-each}
 use Rattle.message.proofs.Manys.{many-held, many-ranges, many-few, many-row}
 
-module _ (lens l : List ℕ) (t : ℕ) (n : Node) (e : n ≡ node_of l t) (g : Under lens l (t + 1)) (b : List ℕ) (h : IsAccepted (readItem (tree_of l t) b 0)) where
-  accepted-at : (s : ℕ) → IsAccepted (readItem (tree_of l t) b s)
+module _ (lens l : List ℕ) (t : ℕ) (n : Node) (e : n ≡ node_of l t) (g : Under lens l (t + 1)) (b : List ℕ) (h : IsAccepted (read_item (tree_of l t) b 0)) where
+  accepted-at : (s : ℕ) → IsAccepted (read_item (tree_of l t) b s)
   accepted-at s = accepted-start (tree_of l t) b 0 s h
 
   pub no-items-made : n.kind < 6 → (r : Series) → r ≡ record { first = 0; step = 0; many = 0 } → MadeOf lens l t n b r
-  unfolding row_of heads InRange Named readItem listItem
+  unfolding row_of heads InRange Named read_item list_item_lem
   no-items-made k r q =
       rw q (record {
         row = record { under = under-below lens l (t + 1) t (omega arith) g; near = omega arith; steps = omega arith; named = tt };
@@ -47,19 +47,19 @@ module _ (lens l : List ℕ) (t : ℕ) (n : Node) (e : n ≡ node_of l t) (g : U
       })
 
   module _ (k : n.kind ≡ 6) where
-    container-words : unfoldWords (tree_of l t) b ≡ wordsFields (row_of l t (n.at + 2) 1 n.second) b 0
-    unfolding unfoldWords
-    container-words = rw (container-tree l t n e k)
+    container-words : unfold_words (tree_of l t) b ≡ words_fields (row_of l t (n.at + 2) 1 n.second) b 0
+    unfolding unfold_words
+    container-words = rw (container_tree l t n e k)
 
-    container-bytes : unfoldBytes (tree_of l t) b ≡ bytesFields (row_of l t (n.at + 2) 1 n.second) b 0
-    unfolding unfoldBytes
-    container-bytes = rw (container-tree l t n e k)
+    container-bytes : unfold_bytes (tree_of l t) b ≡ bytes_fields (row_of l t (n.at + 2) 1 n.second) b 0
+    unfolding unfold_bytes
+    container-bytes = rw (container_tree l t n e k)
 
     pub fields_made : MadeOf lens l t n b (record { first = n.at + 2; step = 1; many = n.second })
     fields_made =
         record {
           row = container-row lens l t n e g k;
-          few = (node-legal lens l t n e g).small;
+          few = (node_legal lens l t n e g).small;
           ranges = (container-accepted lens l t n e g b 0 h k).0;
           accepted = λ s. (container-accepted lens l t n e g b s (accepted-at s) k).1;
           listed = λ s. list-container l t n e b s k;
@@ -68,24 +68,24 @@ module _ (lens l : List ℕ) (t : ℕ) (n : Node) (e : n ≡ node_of l t) (g : U
           copied = λ (z : n.kind ≡ 8) v. absurd (omega arith);
         }
 
-  module _ (k : 8 ≤ n.kind) (m : ℕ) (c : m ≡ manyIn l n (head (tree_of l n.second)) b) where
-    elements-words : unfoldWords (tree_of l t) b ≡ countWord n m ++ wordsFields (row_of l t (n.at + 1) 0 m) b 0
+  module _ (k : 8 ≤ n.kind) (m : ℕ) (c : m ≡ many_in_lem l n (head (tree_of l n.second)) b) where
+    elements-words : unfold_words (tree_of l t) b ≡ count_word n m ++ words_fields (row_of l t (n.at + 1) 0 m) b 0
     elements-words = rw c (go (eqb n.kind 9) refl)
       where
         -- as many as the table says, or as the list says
         said : Bool → ℕ
-        said d = pick d (word_at l (n.at + 2)) (manyOf (elements (head (tree_of l n.second)) (word_at l (n.at + 2)) b))
+        said d = pick d (word_at l (n.at + 2)) (many_of (elements (head (tree_of l n.second)) (word_at l (n.at + 2)) b))
 
-        go : (d : Bool) → eqb n.kind 9 ≡ d → unfoldWords (tree_of l t) b ≡ countWord n (said d) ++ wordsFields (row_of l t (n.at + 1) 0 (said d)) b 0
+        go : (d : Bool) → eqb n.kind 9 ≡ d → unfold_words (tree_of l t) b ≡ count_word n (said d) ++ words_fields (row_of l t (n.at + 1) 0 (said d)) b 0
         go true q =
             let i : n.kind ≡ 9 = eqb-true n.kind 9 q in
             rw (ne_eqb n.kind 8 (λ (v : n.kind ≡ 8). omega arith)) (vector-words lens l t n e g k i b)
         go false q =
-            let i = else-list lens l t n e g k (eqb-false n.kind 9 q) in
+            let i = else_list lens l t n e g k (eqb-false n.kind 9 q) in
             rw (eq-eqb n.kind 8 i) (list-words lens l t n e g k i b)
 
     -- elements of fixed size are the bytes of all
-    elements-copied : 0 < get_or lens n.second 0 → (wordsFields (row_of l t (n.at + 1) 0 m) b 0 ≡ []) × (bytesFields (row_of l t (n.at + 1) 0 m) b 0 ≡ b)
+    elements-copied : 0 < get_or lens n.second 0 → (words_fields (row_of l t (n.at + 1) 0 m) b 0 ≡ []) × (bytes_fields (row_of l t (n.at + 1) 0 m) b 0 ≡ b)
     elements-copied z =
         let w = get_or lens n.second 0 in
         let f : head (tree_of l n.second) ≡ Fixed w =

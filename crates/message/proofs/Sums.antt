@@ -13,12 +13,12 @@ use Rattle.standard.specs.declared.Span.{Span}
 use Rattle.standard.proofs.Join.{next-between}
 use Rattle.layout.specs.Tree.{tree_of}
 use Rattle.layout.specs.Legal.{Legal}
-use Rattle.layout.proofs.Trees.{legal-tree}
-use Rattle.message.specs.Read.{plus, readItem}
+use Rattle.layout.proofs.Trees.{legal_tree}
+use Rattle.message.specs.Read.{plus, read_item}
 use Rattle.message.specs.Steps.{Small}
 use Rattle.message.specs.declared.Counts.{Counts}
 use Rattle.message.specs.declared.Answer.TheVariants.{Accepted}
-use Rattle.message.proofs.Bounds.{Within, room, room-least, room-span, item_in, tree-depth}
+use Rattle.message.proofs.Bounds.{Within, room, room_least, room_span, item_in, tree_depth}
 
 -- The bytes that fields from the position p on take: their fixed portion, and what lies behind the next offset
 unfoldable pub spread : List Head → List ℕ → ℕ → ℕ
@@ -58,7 +58,7 @@ spread-first : (h : Head) (hs : List Head) (b : List ℕ) (p : ℕ) → InRange 
 unfolding spread portion
 spread-first h hs b p r =
     let k = next-between (h ∷ hs) b p 0 r in
-    let j = room-span h hs b p (length b - next (h ∷ hs) b p) r (omega arith) in
+    let j = room_span h hs b p (length b - next (h ∷ hs) b p) r (omega arith) in
     let e : length b - next hs b (span_of h hs b p).next ≡ j.0 = omega (arith, j.1) in
     rw e j.2
 
@@ -66,10 +66,10 @@ spread-first h hs b p r =
 module _ (l : List ℕ) (f : ℕ) (hs : List Head) (b : List ℕ) (p : ℕ) (g : Legal l (f + 1)) (few : f < 64) (r : InRange (head (tree_of l f) ∷ hs) b p 0) where
   pub summed-item :
       (w : Span) → w ≡ span_of (head (tree_of l f)) hs b p → (s : ℕ) (sum c : Counts) (whole : ℕ)
-      → Summed sum (spread (head (tree_of l f) ∷ hs) b p) whole → readItem (tree_of l f) (part b w) s ≡ Accepted c
+      → Summed sum (spread (head (tree_of l f) ∷ hs) b p) whole → read_item (tree_of l f) (part b w) s ≡ Accepted c
       → Summed (plus sum c) (spread hs b w.next) whole
   summed-item w q s sum c whole x e =
-      let d = tree-depth l (f + 1) f g (omega arith) in
-      let k = item_in (tree_of l f) (part b w) s 64 c (legal-tree l (f + 1) f g (omega arith)) (omega arith) e in
+      let d = tree_depth l (f + 1) f g (omega arith) in
+      let k = item_in (tree_of l f) (part b w) s 64 c (legal_tree l (f + 1) f g (omega arith)) (omega arith) e in
       let i : room (head (tree_of l f)) (part b w) + spread hs b w.next ≡ spread (head (tree_of l f) ∷ hs) b p = rw q (spread-first _ hs b p r) in
-      summed-next sum c _ _ _ whole (rw (← i) at x) k (room-least (head (tree_of l f)) (part b w))
+      summed-next sum c _ _ _ whole (rw (← i) at x) k (room_least (head (tree_of l f)) (part b w))

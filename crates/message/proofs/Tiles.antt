@@ -10,15 +10,15 @@ use lib.Dec.{ltb}
 use Rattle.standard.specs.Bytes.{Bytes}
 use Rattle.standard.specs.Serialize.{Val, Ok, serialize}
 use Rattle.standard.specs.Pieces.{pieces, covers, AllStandIn}
-use Rattle.standard.proofs.Pieces.{tiled, untiled, all-stand}
+use Rattle.standard.proofs.Pieces.{tiled, untiled, all_stand}
 use Rattle.layout.specs.Table.{table_of}
 use Rattle.layout.specs.declared.Checked.{Checked}
 use Rattle.layout.specs.declared.Checked.TheVariants.{Bad, Upto}
-use Rattle.message.specs.Check.{messageType, underTable, checkMessage}
+use Rattle.message.specs.Check.{message_type, under_table_lem, check_message}
 use Rattle.message.specs.declared.Counts.{Counts}
 use Rattle.message.specs.declared.Answer.TheVariants.{Accepted}
-use Rattle.message.proofs.Answers.{not-accepted, right-accepted}
-use Rattle.message.proofs.Theorem.{message-iff, message-one}
+use Rattle.message.proofs.Answers.{not_accepted, right_accepted}
+use Rattle.message.proofs.Theorem.{message_iff, message-one}
 
 -- What is said of a message m that is accepted under the layout l: the layout is legal and has so many types, the message is below 2^32 bytes, it is the
 -- encoding of one value within bounds and of no other, and that value's pieces tile it.
@@ -26,29 +26,29 @@ pub record Tiled (l m : List ℕ) : Type 0 where
   pub types : ℕ
   pub legal : table_of l ≡ Upto types
   pub small : length m < 2 ^ 32
-  pub value : Val (messageType l types)
-  pub in_bounds : Ok (messageType l types) value
-  pub encoded : serialize (messageType l types) value ≡ m
-  pub only-value : (w : Val (messageType l types)) → Ok (messageType l types) w → serialize (messageType l types) w ≡ m → w ≡ value
-  pub in-exactly-one : (x : ℕ) → x < length m → covers x (pieces (messageType l types) value 0) ≡ 1
-  pub in-none-behind : (x : ℕ) → length m ≤ x → covers x (pieces (messageType l types) value 0) ≡ 0
+  pub value : Val (message_type l types)
+  pub in_bounds : Ok (message_type l types) value
+  pub encoded : serialize (message_type l types) value ≡ m
+  pub only_value : (w : Val (message_type l types)) → Ok (message_type l types) w → serialize (message_type l types) w ≡ m → w ≡ value
+  pub in_exactly_one : (x : ℕ) → x < length m → covers x (pieces (message_type l types) value 0) ≡ 1
+  pub in_none_behind : (x : ℕ) → length m ≤ x → covers x (pieces (message_type l types) value 0) ≡ 0
   -- within the message, and with the message's own bytes
-  pub each_within : AllStandIn m (pieces (messageType l types) value 0)
+  pub each_within : AllStandIn m (pieces (message_type l types) value 0)
 
 -- Acceptance says that the layout is legal and the message not too long.
-under-accepted : (d : Checked) (l m : List ℕ) (c : Counts) → underTable d l m ≡ Accepted c → (n : ℕ) × (d ≡ Upto n) × (length m < 2 ^ 32)
-under-accepted (Bad w) l m c e = not-accepted _ 0 0 c e
+under-accepted : (d : Checked) (l m : List ℕ) (c : Counts) → under_table_lem d l m ≡ Accepted c → (n : ℕ) × (d ≡ Upto n) × (length m < 2 ^ 32)
+under-accepted (Bad w) l m c e = not_accepted _ 0 0 c e
 under-accepted (Upto n) l m c e =
-    let p = right-accepted (ltb 4294967295 (length m)) _ _ 0 0 c e in
+    let p = right_accepted (ltb 4294967295 (length m)) _ _ 0 0 c e in
     (n, refl, omega (arith, ltb-false 4294967295 (length m) p.0))
 
-pub message-tiled : (l m : List ℕ) → Bytes l → Bytes m → (c : Counts) → checkMessage l m ≡ Accepted c → Tiled l m
-unfolding checkMessage
+pub message-tiled : (l m : List ℕ) → Bytes l → Bytes m → (c : Counts) → check_message l m ≡ Accepted c → Tiled l m
+unfolding check_message
 message-tiled l m h i c e =
     let u = under-accepted (table_of l) l m c e in
     let n = u.0 in
-    let v = (message-iff l n h u.1 m u.2 i).0 (c, e) in
-    let t = messageType l n in
+    let v = (message_iff l n h u.1 m u.2 i).0 (c, e) in
+    let t = message_type l n in
     record {
       types = n;
       legal = u.1;
@@ -56,8 +56,8 @@ message-tiled l m h i c e =
       value = v.0;
       in_bounds = v.1;
       encoded = v.2;
-      only-value = λ w o s. message-one l n h u.1 m u.2 w v.0 o v.1 s v.2;
-      in-exactly-one = λ x k. tiled t v.0 x (rw v.2 k);
-      in-none-behind = λ x k. untiled t v.0 x (rw v.2 k);
-      each_within = rw v.2 at (all-stand t v.0);
+      only_value = λ w o s. message-one l n h u.1 m u.2 w v.0 o v.1 s v.2;
+      in_exactly_one = λ x k. tiled t v.0 x (rw v.2 k);
+      in_none_behind = λ x k. untiled t v.0 x (rw v.2 k);
+      each_within = rw v.2 at (all_stand t v.0);
     }

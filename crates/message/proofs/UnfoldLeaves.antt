@@ -9,21 +9,21 @@ use lib.Seq.{length-sets, drop-cons, drop-length}
 use lib.Pow.{pow-add}
 use lib.Pow as Pow
 use Rattle.standard.specs.Bytes.{Bytes, le, num, Stored, Room}
-use Rattle.standard.specs.Types.{freeBytes, bitList, head}
+use Rattle.standard.specs.Types.{free_bytes, bit_list, head}
 use Rattle.standard.specs.declared.Head.TheVariants.{Fixed, Variable}
 use Rattle.standard.specs.declared.Refusal.{Refusal}
 use Rattle.standard.proofs.Bytes.{bytes_take, bytes-append, le-num}
-use Rattle.standard.proofs.Bits.{bits_of, packs-le, length-packs, length-bitsOf, bitNum-low, bitNum-bound, length_marked, num-marked, num-append, pow-bytes}
+use Rattle.standard.proofs.Bits.{bits_of, packs-le, length-packs, length-bits_of, bit_num-low, bit_num-bound, length_marked, num-marked, num-append, pow_bytes}
 use Rattle.standard.proofs.Store.{stored-none}
-use Rattle.bitfield.specs.Body.{bitListBody}
+use Rattle.bitfield.specs.Body.{bit_list_body}
 use Rattle.bitfield.specs.declared.BodyBits.{BodyBits}
 use Rattle.bitfield.proofs.Bodies.{cut_below, below-cut}
 use Rattle.bitfield.proofs.Standard.{list-sound}
 use Rattle.bitfield.proofs.Tops.{byte_at}
-use Rattle.layout.specs.Tree.{leafOf}
+use Rattle.layout.specs.Tree.{leaf_of}
 use Rattle.layout.specs.declared.Node.{Node}
-use Rattle.message.specs.Read.{rawBytes, readItem}
-use Rattle.message.specs.Unfold.{rawOf, unfoldWords, unfoldBytes, Accepts, Rooms, Filled, MarkedAt}
+use Rattle.message.specs.Read.{raw_bytes_lem, read_item}
+use Rattle.message.specs.Unfold.{raw_of, unfold_words, unfold_bytes, Accepts, Rooms, Filled, MarkedAt}
 use Rattle.message.specs.declared.unfolding.Place.{Place}
 
 pub stored-length : (o : List ℕ) (at : ℕ) (x : List ℕ) (r : ℕ) (o' : List ℕ) → Stored o at x r o' → length o' ≡ length o
@@ -34,9 +34,9 @@ pub stored_one : (o : List ℕ) (at x : ℕ) → Stored o at (x ∷ []) (at + 1)
 stored_one o at x = record { list = refl; ends = refl }
 
 -- Raw bytes: what they are in numbers
-pub length-raw : (b : List ℕ) (k : ℕ) → length (rawOf b k) ≡ max 1 ((k + 7) / 8)
-unfolding rawOf
-length-raw b k = length-packs (rawBytes k) (bits_of k (num b))
+pub length-raw : (b : List ℕ) (k : ℕ) → length (raw_of b k) ≡ max 1 ((k + 7) / 8)
+unfolding raw_of
+length-raw b k = length-packs (raw_bytes_lem k) (bits_of k (num b))
 
 raw-rest : (n z y v p : ℕ) → v ≡ n + p * (z + y) → v - p * z ≡ n + p * y
 raw-rest n z y v p e = omega arith
@@ -54,10 +54,10 @@ module _ (b : List ℕ) (k : ℕ) (h : Bytes b) (m : MarkedAt b k) where
       let l : length (take (k / 8) b) ≡ k / 8 = rw length-take (omega (arith, m.long)) in
       ap num raw-cut ∙ rw (num-append, l) (omega arith)
 
-  raw-power : 2 ^ k ≡ 256 ^ (k / 8) * 2 ^ (k % 8)
-  raw-power =
+  raw_power : 2 ^ k ≡ 256 ^ (k / 8) * 2 ^ (k % 8)
+  raw_power =
       let e : k ≡ 8 * (k / 8) + k % 8 = omega arith in
-      ap (λ (i : ℕ). 2 ^ i) e ∙ rw (pow-add 2 (8 * (k / 8)) (k % 8), pow-bytes (k / 8))
+      ap (λ (i : ℕ). 2 ^ i) e ∙ rw (pow-add 2 (8 * (k / 8)) (k % 8), pow_bytes (k / 8))
 
   raw-drop : num (drop (k / 8) b) ≡ get_or b (k / 8) 0
   unfolding num
@@ -81,72 +81,72 @@ module _ (b : List ℕ) (k : ℕ) (h : Bytes b) (m : MarkedAt b k) where
       let e : suc k ≡ 8 * (k / 8) + suc (k % 8) = omega arith in
       rw raw-drop at (cut_below b (k / 8) (suc (k % 8)) h (omega (arith, m.long)) (rw e at m.to))
 
-  raw-number : rawOf b k ≡ le (rawBytes k) (num b - 2 ^ k)
-  unfolding rawOf
+  raw-number : raw_of b k ≡ le (raw_bytes_lem k) (num b - 2 ^ k)
+  unfolding raw_of
   raw-number =
       let s : num b - 2 ^ k < 2 ^ k = omega (arith, m.to, m.from) in
       let e : num b ≡ 1 * 2 ^ k + (num b - 2 ^ k) = omega (arith, m.from) in
       let f : num b % 2 ^ k ≡ num b - 2 ^ k = ap (λ (i : ℕ). i % 2 ^ k) e ∙ Pow.low 1 k s in
-      rw (packs-le, bitNum-low, f)
+      rw (packs-le, bit_num-low, f)
 
   raw-less : num b - 2 ^ k ≡ num (take (k / 8) b) + 256 ^ (k / 8) * (get_or b (k / 8) 0 - 2 ^ (k % 8))
   raw-less =
       let e : get_or b (k / 8) 0 ≡ 2 ^ (k % 8) + (get_or b (k / 8) 0 - 2 ^ (k % 8)) = omega (arith, last-from) in
       let f : num b ≡ num (take (k / 8) b) + 256 ^ (k / 8) * (2 ^ (k % 8) + (get_or b (k / 8) 0 - 2 ^ (k % 8))) =
       raw-split ∙ ap (λ (i : ℕ). num (take (k / 8) b) + 256 ^ (k / 8) * i) e in
-      ap (λ (i : ℕ). num b - i) raw-power ∙ raw-rest _ _ _ _ _ f
+      ap (λ (i : ℕ). num b - i) raw_power ∙ raw-rest _ _ _ _ _ f
 
   -- the last byte has bits beside the mark, or is the only one
-  pub raw-long : rawBytes k ≡ k / 8 + 1 → rawOf b k ≡ take (k / 8) b ++ ((get_or b (k / 8) 0 - 2 ^ (k % 8)) ∷ [])
+  pub raw-long : raw_bytes_lem k ≡ k / 8 + 1 → raw_of b k ≡ take (k / 8) b ++ ((get_or b (k / 8) 0 - 2 ^ (k % 8)) ∷ [])
   unfolding num Bytes
   raw-long z =
       let x = get_or b (k / 8) 0 - 2 ^ (k % 8) in
       let c = take (k / 8) b ++ (x ∷ []) in
       let l : length (take (k / 8) b) ≡ k / 8 = rw length-take (omega (arith, m.long)) in
-      let i : length c ≡ rawBytes k = rw (length-append, l) (omega arith) in
+      let i : length c ≡ raw_bytes_lem k = rw (length-append, l) (omega arith) in
       let n : num c ≡ num b - 2 ^ k = rw (num-append, l, raw-less) (omega arith) in
       let y : Bytes (x ∷ []) = (omega (arith, byte_at b (k / 8) h), tt) in
       let s : Bytes c = bytes-append (take (k / 8) b) (x ∷ []) (bytes_take (k / 8) b h) y in
       raw-number ∙ rw (← n, ← i) (le-num c s)
 
   -- the last byte is the mark alone
-  pub raw-short : k % 8 ≡ 0 → (k / 8 ≡ 0 → ⊥) → rawOf b k ≡ take (k / 8) b
+  pub raw-short : k % 8 ≡ 0 → (k / 8 ≡ 0 → ⊥) → raw_of b k ≡ take (k / 8) b
   raw-short z y =
       let l : length (take (k / 8) b) ≡ k / 8 = rw length-take (omega (arith, m.long)) in
-      let i : length (take (k / 8) b) ≡ rawBytes k = omega arith in
+      let i : length (take (k / 8) b) ≡ raw_bytes_lem k = omega arith in
       let f = rw z at last-from in
       let t = rw z at last-to in
       let x : get_or b (k / 8) 0 ≡ 1 = omega arith in
-      let p : 2 ^ k ≡ 256 ^ (k / 8) * 1 = raw-power ∙ rw z in
+      let p : 2 ^ k ≡ 256 ^ (k / 8) * 1 = raw_power ∙ rw z in
       let n : num (take (k / 8) b) ≡ num b - 2 ^ k = omega (arith, p, rw x at raw-split) in
       raw-number ∙ rw (← n, ← i) (le-num (take (k / 8) b) (bytes_take (k / 8) b h))
 
 -- How much room the last byte needs
-pub raw-odd : (k : ℕ) → (k % 8 ≡ 0 → ⊥) → rawBytes k ≡ k / 8 + 1
+pub raw-odd : (k : ℕ) → (k % 8 ≡ 0 → ⊥) → raw_bytes_lem k ≡ k / 8 + 1
 raw-odd k h = omega arith
 
-pub raw-single : (k : ℕ) → k / 8 ≡ 0 → rawBytes k ≡ k / 8 + 1
+pub raw-single : (k : ℕ) → k / 8 ≡ 0 → raw_bytes_lem k ≡ k / 8 + 1
 raw-single k h = omega arith
 
-pub raw-room : (b : List ℕ) (k : ℕ) (o : List ℕ) (at : ℕ) → MarkedAt b k → Room o at (rawOf b k) → Room o at (take (k / 8) b)
+pub raw-room : (b : List ℕ) (k : ℕ) (o : List ℕ) (at : ℕ) → MarkedAt b k → Room o at (raw_of b k) → Room o at (take (k / 8) b)
 raw-room b k o at m g =
     let l : length (take (k / 8) b) ≡ k / 8 = rw length-take (omega (arith, m.long)) in
     record { room = omega (arith, length-raw b k, g.room) }
 
 pub raw-place :
-    (b : List ℕ) (k : ℕ) (o : List ℕ) (at r : ℕ) (o' : List ℕ) → MarkedAt b k → Room o at (rawOf b k) → rawBytes k ≡ k / 8 + 1
+    (b : List ℕ) (k : ℕ) (o : List ℕ) (at r : ℕ) (o' : List ℕ) → MarkedAt b k → Room o at (raw_of b k) → raw_bytes_lem k ≡ k / 8 + 1
     → Stored o at (take (k / 8) b) r o' → r < length o'
 raw-place b k o at r o' m g e h =
     let l : length (take (k / 8) b) ≡ k / 8 = rw length-take (omega (arith, m.long)) in
     omega (arith, length-raw b k, g.room, h.ends, stored-length o at (take (k / 8) b) r o' h)
 
-pub marked-at : (b : List ℕ) (limit k : ℕ) → Bytes b → bitListBody b limit ≡ BodyBits.Bits k → MarkedAt b k × (k ≤ limit)
+pub marked-at : (b : List ℕ) (limit k : ℕ) → Bytes b → bit_list_body b limit ≡ BodyBits.Bits k → MarkedAt b k × (k ≤ limit)
 marked-at b limit k h e =
     let q = list-sound b limit k h e in
     let bs = bits_of k (num b) in
-    let l : length bs ≡ k = length-bitsOf k (num b) in
+    let l : length bs ≡ k = length-bits_of k (num b) in
     let n = rw (l, q.0) at (num-marked bs) in
-    let s = rw l at (bitNum-bound bs) in (
+    let s = rw l at (bit_num-bound bs) in (
       record {
         long = rw (l, q.0) at (length_marked bs);
         from = omega arith;
@@ -156,12 +156,12 @@ marked-at b limit k h e =
     )
 
 -- The leaves, by their kind
-pub leaf-free : (t : ℕ) (n : Node) → n.kind ≡ 3 → leafOf t n ≡ freeBytes t n.second
-unfolding leafOf
-leaf-free t n e = rw e
+pub leaf_free : (t : ℕ) (n : Node) → n.kind ≡ 3 → leaf_of t n ≡ free_bytes t n.second
+unfolding leaf_of
+leaf_free t n e = rw e
 
-pub leaf-bits : (t : ℕ) (n : Node) → 5 ≤ n.kind → leafOf t n ≡ bitList t n.second
-unfolding leafOf
+pub leaf-bits : (t : ℕ) (n : Node) → 5 ≤ n.kind → leaf_of t n ≡ bit_list t n.second
+unfolding leaf_of
 leaf-bits t n h =
     let no : (i : ℕ) → i < 5 → n.kind ≡ i → ⊥ = λ (i : ℕ) (k : i < 5) (e : n.kind ≡ i). omega arith in
     rw (
@@ -174,14 +174,14 @@ leaf-bits t n h =
     )
 
 -- what is of variable size and no free bytes
-pub variable-bits : (t : ℕ) (n : Node) → head (leafOf t n) ≡ Variable → (n.kind ≡ 3 → ⊥) → 5 ≤ n.kind
-unfolding leafOf head
-variable-bits t n h f = go n.kind h f
+pub variable_bits : (t : ℕ) (n : Node) → head (leaf_of t n) ≡ Variable → (n.kind ≡ 3 → ⊥) → 5 ≤ n.kind
+unfolding leaf_of head
+variable_bits t n h f = go n.kind h f
   where
     no : (k : ℕ) → Fixed k ≡ Variable → ⊥
     no k e = let z : ◌≡◌ {A = ℕ} 0 1 = cc in omega arith
 
-    go : (i : ℕ) → head (leafOf t (record { kind = i; at = n.at; second = n.second })) ≡ Variable → (i ≡ 3 → ⊥) → 5 ≤ i
+    go : (i : ℕ) → head (leaf_of t (record { kind = i; at = n.at; second = n.second })) ≡ Variable → (i ≡ 3 → ⊥) → 5 ≤ i
     go zero h f = absurd (no _ h)
     go (suc zero) h f = absurd (no _ h)
     go (suc (suc zero)) h f = absurd (no _ h)
@@ -190,9 +190,9 @@ variable-bits t n h f = go n.kind h f
     go (suc (suc (suc (suc (suc i))))) h f = omega arith
 
 -- A body that is refused is not accepted.
-pub bits-refused : (t limit : ℕ) (b : List ℕ) (r : Refusal) → BodyBits.Refused r ≡ bitListBody b limit → Accepts (bitList t limit) b → ⊥
-unfolding readItem
-bits-refused t limit b r e g = rw (← e) at g.accepted
+pub bits_refused : (t limit : ℕ) (b : List ℕ) (r : Refusal) → BodyBits.Refused r ≡ bit_list_body b limit → Accepts (bit_list t limit) b → ⊥
+unfolding read_item
+bits_refused t limit b r e g = rw (← e) at g.accepted
 
 -- Where there are no words x, and the bytes y are b
 module _ (x y b : List ℕ) (e : (x ≡ []) × (y ≡ b)) (o p : List ℕ) (at : Place) where
@@ -205,25 +205,25 @@ module _ (x y b : List ℕ) (e : (x ≡ []) × (y ≡ b)) (o p : List ℕ) (at :
 -- A leaf's room and what is stored there, by its kind
 module _ (t : ℕ) (n : Node) (b o p : List ℕ) (at : Place) where
   module _ (k : n.kind ≡ 3) where
-    pub free-rooms : Rooms o p at (unfoldWords (leafOf t n) b) (unfoldBytes (leafOf t n) b) → Rooms o p at (length b ∷ []) b
-    unfolding unfoldWords unfoldBytes
-    free-rooms g = rw (leaf-free t n k) at g
+    pub free_rooms : Rooms o p at (unfold_words (leaf_of t n) b) (unfold_bytes (leaf_of t n) b) → Rooms o p at (length b ∷ []) b
+    unfolding unfold_words unfold_bytes
+    free_rooms g = rw (leaf_free t n k) at g
 
-    pub free-filled : (r : Place) (o' p' : List ℕ) → Filled o p at (length b ∷ []) b r o' p' →
-        Filled o p at (unfoldWords (leafOf t n) b) (unfoldBytes (leafOf t n) b) r o' p'
-    unfolding unfoldWords unfoldBytes
-    free-filled r o' p' g = rw (leaf-free t n k) g
+    pub free_filled : (r : Place) (o' p' : List ℕ) → Filled o p at (length b ∷ []) b r o' p' →
+        Filled o p at (unfold_words (leaf_of t n) b) (unfold_bytes (leaf_of t n) b) r o' p'
+    unfolding unfold_words unfold_bytes
+    free_filled r o' p' g = rw (leaf_free t n k) g
 
-  module _ (k : 5 ≤ n.kind) (c : ℕ) (e : BodyBits.Bits c ≡ bitListBody b n.second) where
-    pub bits-rooms : Rooms o p at (unfoldWords (leafOf t n) b) (unfoldBytes (leafOf t n) b) → Rooms o p at (c ∷ []) (rawOf b c)
-    unfolding unfoldWords unfoldBytes
+  module _ (k : 5 ≤ n.kind) (c : ℕ) (e : BodyBits.Bits c ≡ bit_list_body b n.second) where
+    pub bits-rooms : Rooms o p at (unfold_words (leaf_of t n) b) (unfold_bytes (leaf_of t n) b) → Rooms o p at (c ∷ []) (raw_of b c)
+    unfolding unfold_words unfold_bytes
     bits-rooms g = rw (leaf-bits t n k, ← e) at g
 
-    pub bits-filled : (r : Place) (o' p' : List ℕ) → Filled o p at (c ∷ []) (rawOf b c) r o' p' →
-        Filled o p at (unfoldWords (leafOf t n) b) (unfoldBytes (leafOf t n) b) r o' p'
-    unfolding unfoldWords unfoldBytes
+    pub bits-filled : (r : Place) (o' p' : List ℕ) → Filled o p at (c ∷ []) (raw_of b c) r o' p' →
+        Filled o p at (unfold_words (leaf_of t n) b) (unfold_bytes (leaf_of t n) b) r o' p'
+    unfolding unfold_words unfold_bytes
     bits-filled r o' p' g = rw (leaf-bits t n k, ← e) g
 
-pub bits-never : {A : Type 0} (t : ℕ) (n : Node) (b : List ℕ) → 5 ≤ n.kind → (r : Refusal) → BodyBits.Refused r ≡ bitListBody b n.second →
-    Accepts (leafOf t n) b → A
-bits-never t n b k r e g = absurd (bits-refused t n.second b r e (rw (leaf-bits t n k) at g))
+pub bits-never : {A : Type 0} (t : ℕ) (n : Node) (b : List ℕ) → 5 ≤ n.kind → (r : Refusal) → BodyBits.Refused r ≡ bit_list_body b n.second →
+    Accepts (leaf_of t n) b → A
+bits-never t n b k r e g = absurd (bits_refused t n.second b r e (rw (leaf-bits t n k) at g))

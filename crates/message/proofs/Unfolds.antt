@@ -16,22 +16,22 @@ use Rattle.standard.specs.Parts.{span_of, part, InRange}
 use Rattle.standard.specs.declared.Head.TheVariants.{Fixed, Variable}
 use Rattle.standard.specs.declared.Span.{Span}
 use Rattle.standard.specs.declared.Refusal.{Refusal}
-use Rattle.standard.proofs.Store.{stored-then, stored-none, room-first, room-then}
-use Rattle.layout.specs.Tree.{node_of, leafOf, options, trees, tree_of}
+use Rattle.standard.proofs.Store.{stored_then, stored-none, room-first, room_then}
+use Rattle.layout.specs.Tree.{node_of, leaf_of, options, trees, tree_of}
 use Rattle.layout.specs.declared.Node.{Node}
-use Rattle.layout.proofs.Facts.{trees-get, as-union, as-leaf}
-use Rattle.layout.proofs.Trees.{legal-tree}
-use Rattle.message.specs.Read.{readItem, readFields}
-use Rattle.message.specs.Unfold.{unfoldWords, wordsFields, wordsOption, unfoldBytes, bytesFields, bytesOption, Accepts, Rooms, Filled}
-use Rattle.message.specs.Steps.{Under, Row, Named, row_of, headsOf, choose, IsAccepted}
-use Rattle.message.specs.Series.{MadeOf, types_of, countWord}
+use Rattle.layout.proofs.Facts.{trees-get, as_union, as_leaf}
+use Rattle.layout.proofs.Trees.{legal_tree}
+use Rattle.message.specs.Read.{read_item, read_fields}
+use Rattle.message.specs.Unfold.{unfold_words, words_fields, words_option, unfold_bytes, bytes_fields, bytes_option, Accepts, Rooms, Filled}
+use Rattle.message.specs.Steps.{Under, Row, Named, row_of, heads_of, choose, IsAccepted}
+use Rattle.message.specs.Series.{MadeOf, types_of, count_word}
 use Rattle.message.specs.Unfolding.{Filling}
 use Rattle.message.specs.declared.items.Choice.{Choice}
 use Rattle.message.specs.declared.parts.Series.{Series}
 use Rattle.message.specs.declared.unfolding.Place.{Place}
 use Rattle.message.specs.declared.unfolding.Opened.{Opened}
-use Rattle.message.proofs.Answers.{pick-left, then-both}
-use Rattle.message.proofs.Rows.{under-below, under-head, row-none, row_first, row_next, row-fixed, first_fits, span-ok}
+use Rattle.message.proofs.Answers.{pick-left, then_both}
+use Rattle.message.proofs.Rows.{under-below, under-head, row-none, row_first, row_next, row-fixed, first_fits, span_ok}
 use Rattle.message.proofs.Bodies.{fields_read, bare-says, body-says, body_below}
 use Rattle.message.proofs.Entries.{accepted-start, union-never, body-accepted}
 use Rattle.message.proofs.Repeats.{element-below}
@@ -39,17 +39,17 @@ use Rattle.message.proofs.Fixed.{fixed-form, fixed-long}
 use Rattle.message.proofs.UnfoldLeaves.{bytes-room, bytes-filled}
 
 -- An item that is accepted where it starts
-pub accepts-at : (t : Ty) (b : List ℕ) (s : ℕ) → IsAccepted (readItem t b s) → Accepts t b
-accepts-at t b s h = record { accepted = accepted-start t b s 0 h }
+pub accepts_at : (t : Ty) (b : List ℕ) (s : ℕ) → IsAccepted (read_item t b s) → Accepts t b
+accepts_at t b s h = record { accepted = accepted-start t b s 0 h }
 
 -- First x and y, then x' and y': together u and v.
-pub filled-then :
+pub filled_then :
     (o p : List ℕ) (at : Place) (x y : List ℕ) (r : Place) (o₁ p₁ x' y' : List ℕ) (r' : Place) (o₂ p₂ u v : List ℕ)
     → Filled o p at x y r o₁ p₁ → Filled o₁ p₁ r x' y' r' o₂ p₂ → u ≡ x ++ x' → v ≡ y ++ y' → Filled o p at u v r' o₂ p₂
-filled-then o p at x y r o₁ p₁ x' y' r' o₂ p₂ u v g h e f =
+filled_then o p at x y r o₁ p₁ x' y' r' o₂ p₂ u v g h e f =
     record {
-      words = stored-then o at.word x r.word o₁ x' r'.word o₂ u g.words h.words e;
-      bytes = stored-then p at.byte y r.byte p₁ y' r'.byte p₂ v g.bytes h.bytes f;
+      words = stored_then o at.word x r.word o₁ x' r'.word o₂ u g.words h.words e;
+      bytes = stored_then p at.byte y r.byte p₁ y' r'.byte p₂ v g.bytes h.bytes f;
     }
 
 pub filled_none : (o p : List ℕ) (at : Place) → Filled o p at [] [] at o p
@@ -60,13 +60,13 @@ pub rooms-first :
 rooms-first o p at u v x y x' y' g e f =
     record { words = room-first o at.word u x x' g.words e; bytes = room-first p at.byte v y y' g.bytes f }
 
-pub rooms-then :
+pub rooms_then :
     (o p : List ℕ) (at : Place) (u v x y x' y' : List ℕ) (r : Place) (o₁ p₁ : List ℕ)
     → Rooms o p at u v → u ≡ x ++ x' → v ≡ y ++ y' → Filled o p at x y r o₁ p₁ → Rooms o₁ p₁ r x' y'
-rooms-then o p at u v x y x' y' r o₁ p₁ g e f h =
+rooms_then o p at u v x y x' y' r o₁ p₁ g e f h =
     record {
-      words = room-then o at.word u x x' r.word o₁ g.words e h.words;
-      bytes = room-then p at.byte v y y' r.byte p₁ g.bytes f h.bytes;
+      words = room_then o at.word u x x' r.word o₁ g.words e h.words;
+      bytes = room_then p at.byte v y y' r.byte p₁ g.bytes f h.bytes;
     }
 
 -- Words alone: the selector of a union, the count of a list
@@ -77,86 +77,86 @@ words-filled o p at x r o' g e = record { words = g; bytes = record { list = ref
 
 -- The first field's value form, and that of the rest
 module _ (lens l : List ℕ) (t a step left f : ℕ) (b : List ℕ) (q : ℕ) (g : Row lens l t a step left) (z : 0 < left) (e : f ≡ word_at l a) (w : Span)
-    (i : w ≡ span_of (head (tree_of l f)) (headsOf l t (a + step) step (left - 1)) b q) where
-  fields-words : wordsFields (row_of l t a step left) b q ≡ unfoldWords (tree_of l f) (part b w) ++ wordsFields (row_of l t (a + step) step (left - 1)) b w.next
-  unfolding unfoldWords
+    (i : w ≡ span_of (head (tree_of l f)) (heads_of l t (a + step) step (left - 1)) b q) where
+  fields-words : words_fields (row_of l t a step left) b q ≡ unfold_words (tree_of l f) (part b w) ++ words_fields (row_of l t (a + step) step (left - 1)) b w.next
+  unfolding unfold_words
   fields-words = rw (row_first l t a step left g.named z, i, e)
 
-  fields-bytes : bytesFields (row_of l t a step left) b q ≡ unfoldBytes (tree_of l f) (part b w) ++ bytesFields (row_of l t (a + step) step (left - 1)) b w.next
-  unfolding unfoldBytes
+  fields-bytes : bytes_fields (row_of l t a step left) b q ≡ unfold_bytes (tree_of l f) (part b w) ++ bytes_fields (row_of l t (a + step) step (left - 1)) b w.next
+  unfolding unfold_bytes
   fields-bytes = rw (row_first l t a step left g.named z, i, e)
 
 -- The loop of `unfold_fields`.
 module _ {lens l : List ℕ} {t step : ℕ} {b x y o₀ p₀ : List ℕ} {at₀ : Place} {o p : List ℕ} {at : Place} {a left q : ℕ}
     (g : Filling lens l t step b x y o₀ p₀ at₀ o p at a left q) where
   module _ (f : ℕ) (z : 0 < left) (e : f ≡ word_at l a) where
-    module _ (w : Span) (i : w ≡ span_of (head (tree_of l f)) (headsOf l t (a + step) step (left - 1)) b q) where
-      filling-both : IsAccepted (readItem (tree_of l f) (part b w) (0 + w.from)) ×
-          IsAccepted (readFields (row_of l t (a + step) step (left - 1)) b w.next 0)
-      filling-both = then-both (readItem (tree_of l f) (part b w) (0 + w.from)) (readFields (row_of l t (a + step) step (left - 1)) b w.next 0)
+    module _ (w : Span) (i : w ≡ span_of (head (tree_of l f)) (heads_of l t (a + step) step (left - 1)) b q) where
+      filling_both : IsAccepted (read_item (tree_of l f) (part b w) (0 + w.from)) ×
+          IsAccepted (read_fields (row_of l t (a + step) step (left - 1)) b w.next 0)
+      filling_both = then_both (read_item (tree_of l f) (part b w) (0 + w.from)) (read_fields (row_of l t (a + step) step (left - 1)) b w.next 0)
           (rw (fields_read lens l t a step left f b q g.row z e w i 0) at g.accepted.accepted)
 
-      pub filling-accepts : Accepts (tree_of l f) (part b w)
-      filling-accepts = accepts-at (tree_of l f) (part b w) (0 + w.from) filling-both.0
+      pub filling_accepts : Accepts (tree_of l f) (part b w)
+      filling_accepts = accepts_at (tree_of l f) (part b w) (0 + w.from) filling_both.0
 
-      pub filling-rooms : Rooms o p at (unfoldWords (tree_of l f) (part b w)) (unfoldBytes (tree_of l f) (part b w))
-      filling-rooms = rooms-first o p at _ _ _ _ _ _ g.rooms (fields-words lens l t a step left f b q g.row z e w i)
+      pub filling_rooms : Rooms o p at (unfold_words (tree_of l f) (part b w)) (unfold_bytes (tree_of l f) (part b w))
+      filling_rooms = rooms-first o p at _ _ _ _ _ _ g.rooms (fields-words lens l t a step left f b q g.row z e w i)
           (fields-bytes lens l t a step left f b q g.row z e w i)
 
-      pub filling-next :
-          (r : Place) (o' p' : List ℕ) → Filled o p at (unfoldWords (tree_of l f) (part b w)) (unfoldBytes (tree_of l f) (part b w)) r o' p'
+      pub filling_next :
+          (r : Place) (o' p' : List ℕ) → Filled o p at (unfold_words (tree_of l f) (part b w)) (unfold_bytes (tree_of l f) (part b w)) r o' p'
           → Filling lens l t step b x y o₀ p₀ at₀ o' p' r (a + step) (left - 1) w.next
-      filling-next r o' p' h =
+      filling_next r o' p' h =
           let u = fields-words lens l t a step left f b q g.row z e w i in
           let v = fields-bytes lens l t a step left f b q g.row z e w i in
           record {
             row = row_next lens l t a step left f g.row z e;
-            ranges = (span-ok lens l t a step left f b q g.row z e g.ranges w i).2;
-            accepted = record { accepted = filling-both.1 };
-            rooms = rooms-then o p at _ _ _ _ _ _ r o' p' g.rooms u v h;
-            words = g.words ++ unfoldWords (tree_of l f) (part b w);
-            bytes = g.bytes ++ unfoldBytes (tree_of l f) (part b w);
-            filled = filled-then o₀ p₀ at₀ g.words g.bytes at o p _ _ r o' p' _ _ g.filled h refl refl;
+            ranges = (span_ok lens l t a step left f b q g.row z e g.ranges w i).2;
+            accepted = record { accepted = filling_both.1 };
+            rooms = rooms_then o p at _ _ _ _ _ _ r o' p' g.rooms u v h;
+            words = g.words ++ unfold_words (tree_of l f) (part b w);
+            bytes = g.bytes ++ unfold_bytes (tree_of l f) (part b w);
+            filled = filled_then o₀ p₀ at₀ g.words g.bytes at o p _ _ r o' p' _ _ g.filled h refl refl;
             all_words = g.all_words ∙ rw (u, ← append_assoc);
             all-bytes = g.all-bytes ∙ rw (v, ← append_assoc);
           }
 
     -- A field of the fixed length k is its own bytes.
     module _ (k : ℕ) (i : k ≡ get_or lens f 0) (j : 0 < k) where
-      abbrev ownSpan : Span
-      ownSpan = record { from = q; to = q + k; next = q + k }
+      abbrev own_span : Span
+      own_span = record { from = q; to = q + k; next = q + k }
 
       own-head : Fixed k ≡ head (tree_of l f)
       own-head = row-fixed lens l t a step left f g.row z e k i (λ (v : k ≡ 0). omega arith)
 
-      own-span : ownSpan ≡ span_of (head (tree_of l f)) (headsOf l t (a + step) step (left - 1)) b q
-      own-span = rw (← own-head)
+      own_span_lem : own_span ≡ span_of (head (tree_of l f)) (heads_of l t (a + step) step (left - 1)) b q
+      own_span_lem = rw (← own-head)
 
       pub own-fits : q + k ≤ length b
       own-fits = first_fits lens l t a step left f b q g.row z e g.ranges k own-head
 
-      own-form : (unfoldWords (tree_of l f) (part b ownSpan) ≡ []) × (unfoldBytes (tree_of l f) (part b ownSpan) ≡ part b ownSpan)
+      own-form : (unfold_words (tree_of l f) (part b own_span) ≡ []) × (unfold_bytes (tree_of l f) (part b own_span) ≡ part b own_span)
       own-form =
           let r = own-fits in
-          let m : length (part b ownSpan) ≡ k = simp (length-take, length-drop) (omega arith) in
-          fixed-form (tree_of l f) (part b ownSpan) (sym own-head ∙ ap Fixed (sym m))
+          let m : length (part b own_span) ≡ k = simp (length-take, length-drop) (omega arith) in
+          fixed-form (tree_of l f) (part b own_span) (sym own-head ∙ ap Fixed (sym m))
 
-      pub own_room : Room p at.byte (part b ownSpan)
-      own_room = bytes-room _ _ _ own-form o p at (filling-rooms ownSpan own-span)
+      pub own_room : Room p at.byte (part b own_span)
+      own_room = bytes-room _ _ _ own-form o p at (filling_rooms own_span own_span_lem)
 
-      pub own-next : (r : Place) (p' : List ℕ) → Stored p at.byte (part b ownSpan) r.byte p' → r.word ≡ at.word →
+      pub own-next : (r : Place) (p' : List ℕ) → Stored p at.byte (part b own_span) r.byte p' → r.word ≡ at.word →
           Filling lens l t step b x y o₀ p₀ at₀ o p' r (a + step) (left - 1) (q + k)
-      own-next r p' h v = filling-next ownSpan own-span r o p' (bytes-filled _ _ _ own-form o p at r p' h v)
+      own-next r p' h v = filling_next own_span own_span_lem r o p' (bytes-filled _ _ _ own-form o p at r p' h v)
 
   -- what is left, stored
-  pub filling-last :
-      (r : Place) (o' p' : List ℕ) → Filled o p at (wordsFields (row_of l t a step left) b q) (bytesFields (row_of l t a step left) b q) r o' p'
+  pub filling_last :
+      (r : Place) (o' p' : List ℕ) → Filled o p at (words_fields (row_of l t a step left) b q) (bytes_fields (row_of l t a step left) b q) r o' p'
       → Filled o₀ p₀ at₀ x y r o' p'
-  filling-last r o' p' h = filled-then o₀ p₀ at₀ g.words g.bytes at o p _ _ r o' p' x y g.filled h g.all_words g.all-bytes
+  filling_last r o' p' h = filled_then o₀ p₀ at₀ g.words g.bytes at o p _ _ r o' p' x y g.filled h g.all_words g.all-bytes
 
-  pub filling-end : left ≤ 0 → Filled o₀ p₀ at₀ x y at o p
-  unfolding unfoldWords unfoldBytes
-  filling-end h =
+  pub filling_end : left ≤ 0 → Filled o₀ p₀ at₀ x y at o p
+  unfolding unfold_words unfold_bytes
+  filling_end h =
       let e : x ≡ g.words = g.all_words ∙ rw (row-none l t a step left h, append-nil) in
       let f : y ≡ g.bytes = g.all-bytes ∙ rw (row-none l t a step left h, append-nil) in
       rw (e, f) g.filled
@@ -176,9 +176,9 @@ module _ (l : List ℕ) (lower : List Ty) (b : List ℕ) (item : Ty → List ℕ
       go true = at_bare k os k ∙ rw (eq-eqb k k refl)
       go false = at_body k _ os k ∙ rw (eq-eqb k k refl)
 
-  made-skip : (c : Bool) (x : Ty) (os : Opts) (j k : ℕ) → (k ≡ j → ⊥) → option (pick c (bare j os) (body j x os)) k b ≡ option os k b
-  made-skip true x os j k h = at_bare j os k ∙ rw (ne_eqb k j h)
-  made-skip false x os j k h = at_body j x os k ∙ rw (ne_eqb k j h)
+  made_skip : (c : Bool) (x : Ty) (os : Opts) (j k : ℕ) → (k ≡ j → ⊥) → option (pick c (bare j os) (body j x os)) k b ≡ option os k b
+  made_skip true x os j k h = at_bare j os k ∙ rw (ne_eqb k j h)
+  made_skip false x os j k h = at_body j x os k ∙ rw (ne_eqb k j h)
 
   made-option : (n a j k : ℕ) → j ≤ k → k < j + n → option (options l lower a j n) k b ≡ made lower b item (word_at l (a + (k - j)))
   unfolding options
@@ -196,49 +196,49 @@ module _ (l : List ℕ) (lower : List Ty) (b : List ℕ) (item : Ty → List ℕ
       go false p f =
           let q : k ≡ j → ⊥ = eqb-false _ _ p in
           let m : a + 1 + (k - (j + 1)) ≡ a + (k - j) = omega arith in
-          made-skip (eqb (word_at l a) 4294967295) (get_or lower (word_at l a) (boolean 0)) (options l lower (a + 1) (j + 1) n) j k q ∙
+          made_skip (eqb (word_at l a) 4294967295) (get_or lower (word_at l a) (boolean 0)) (options l lower (a + 1) (j + 1) n) j k q ∙
           rw m at (f (omega arith) (omega arith))
 
   made-chosen : (a n : ℕ) → get_or b 0 0 < n → option (options l lower a 0 n) (get_or b 0 0) b ≡ made lower b item (word_at l (a + get_or b 0 0))
   made-chosen a n h = let j : get_or b 0 0 - 0 ≡ get_or b 0 0 = omega arith in rw j at (made-option n a 0 (get_or b 0 0) (omega arith) (omega arith))
 
 module _ (l : List ℕ) (lower : List Ty) (b : List ℕ) (a n : ℕ) (h : get_or b 0 0 < n) where
-  words-chosen : wordsOption (options l lower a 0 n) (get_or b 0 0) b ≡ made lower b unfoldWords (word_at l (a + get_or b 0 0))
-  unfolding unfoldWords
-  words-chosen = made-chosen l lower b unfoldWords wordsOption (λ j os k. refl) (λ j o os k. refl) a n h
+  words-chosen : words_option (options l lower a 0 n) (get_or b 0 0) b ≡ made lower b unfold_words (word_at l (a + get_or b 0 0))
+  unfolding unfold_words
+  words-chosen = made-chosen l lower b unfold_words words_option (λ j os k. refl) (λ j o os k. refl) a n h
 
-  bytes_chosen : bytesOption (options l lower a 0 n) (get_or b 0 0) b ≡ made lower b unfoldBytes (word_at l (a + get_or b 0 0))
-  unfolding unfoldBytes
-  bytes_chosen = made-chosen l lower b unfoldBytes bytesOption (λ j os k. refl) (λ j o os k. refl) a n h
+  bytes_chosen : bytes_option (options l lower a 0 n) (get_or b 0 0) b ≡ made lower b unfold_bytes (word_at l (a + get_or b 0 0))
+  unfolding unfold_bytes
+  bytes_chosen = made-chosen l lower b unfold_bytes bytes_option (λ j os k. refl) (λ j o os k. refl) a n h
 
 pub no_more : (k : ℕ) → k ≤ 0 → k ≡ 0
 no_more k h = omega arith
 
 -- An item of a type whose length stands in the table
 module _ (lens l : List ℕ) (t : ℕ) (g : Under lens l (t + 1)) where
-  pub len-variable : get_or lens t 0 ≡ 0 → head (tree_of l t) ≡ Variable
-  len-variable z = sym (under-head lens l (t + 1) g t (omega arith)) ∙ rw (eq-eqb (get_or lens t 0) 0 z)
+  pub len_variable : get_or lens t 0 ≡ 0 → head (tree_of l t) ≡ Variable
+  len_variable z = sym (under-head lens l (t + 1) g t (omega arith)) ∙ rw (eq-eqb (get_or lens t 0) 0 z)
 
-  len-fixed : 0 < get_or lens t 0 → head (tree_of l t) ≡ Fixed (get_or lens t 0)
-  len-fixed z = sym (under-head lens l (t + 1) g t (omega arith)) ∙ rw (ne_eqb (get_or lens t 0) 0 (λ (v : get_or lens t 0 ≡ 0). omega arith))
+  len_fixed : 0 < get_or lens t 0 → head (tree_of l t) ≡ Fixed (get_or lens t 0)
+  len_fixed z = sym (under-head lens l (t + 1) g t (omega arith)) ∙ rw (ne_eqb (get_or lens t 0) 0 (λ (v : get_or lens t 0 ≡ 0). omega arith))
 
-  pub item-form : (b : List ℕ) → Accepts (tree_of l t) b → 0 < get_or lens t 0 → (unfoldWords (tree_of l t) b ≡ []) × (unfoldBytes (tree_of l t) b ≡ b)
+  pub item-form : (b : List ℕ) → Accepts (tree_of l t) b → 0 < get_or lens t 0 → (unfold_words (tree_of l t) b ≡ []) × (unfold_bytes (tree_of l t) b ≡ b)
   item-form b h z =
-      let m = fixed-long (tree_of l t) b (get_or lens t 0) (legal-tree l (t + 1) t g.legal (omega arith)) h (len-fixed z) in
-      fixed-form (tree_of l t) b (len-fixed z ∙ ap Fixed (sym m))
+      let m = fixed-long (tree_of l t) b (get_or lens t 0) (legal_tree l (t + 1) t g.legal (omega arith)) h (len_fixed z) in
+      fixed-form (tree_of l t) b (len_fixed z ∙ ap Fixed (sym m))
 
   -- Nothing is left of an item that was stored.
   pub all-stored :
       (b x y o₀ p₀ : List ℕ) (at₀ : Place) (o p : List ℕ) (at : Place) (r : Opened)
       → r ≡ record { at = at; left = record { first = 0; step = 0; many = 0 } } → Rooms o₀ p₀ at₀ x y → Filled o₀ p₀ at₀ x y at o p
       → Filling lens l t r.left.step b x y o₀ p₀ at₀ o p r.at r.left.first r.left.many 0
-  unfolding row_of heads InRange Named readItem unfoldWords unfoldBytes
+  unfolding row_of heads InRange Named read_item unfold_words unfold_bytes
   all-stored b x y o₀ p₀ at₀ o p at r e i h =
       rw e (record {
         row = record { under = under-below lens l (t + 1) t (omega arith) g; near = omega arith; steps = omega arith; named = tt };
         ranges = omega arith;
         accepted = record { accepted = tt };
-        rooms = rooms-then o₀ p₀ at₀ x y x y [] [] at o p i (sym (append-nil x)) (sym (append-nil y)) h;
+        rooms = rooms_then o₀ p₀ at₀ x y x y [] [] at o p i (sym (append-nil x)) (sym (append-nil y)) h;
         words = x;
         bytes = y;
         filled = h;
@@ -257,22 +257,22 @@ fixed-list i k c e h =
 
 -- An item that is made of fields or elements: a list's count, then theirs.
 module _ {lens l : List ℕ} {t : ℕ} {n : Node} {b : List ℕ} {r : Series} (g : MadeOf lens l t n b r) (k : 6 ≤ n.kind) {o p : List ℕ} {at : Place}
-    (h : Rooms o p at (unfoldWords (tree_of l t) b) (unfoldBytes (tree_of l t) b)) where
-  pub count_room : Room o at.word (countWord n r.many)
-  count_room = room-first o at.word _ (countWord n r.many) _ h.words (g.words k)
+    (h : Rooms o p at (unfold_words (tree_of l t) b) (unfold_bytes (tree_of l t) b)) where
+  pub count_room : Room o at.word (count_word n r.many)
+  count_room = room-first o at.word _ (count_word n r.many) _ h.words (g.words k)
 
-  module _ (i : Place) (o' : List ℕ) (s : Stored o at.word (countWord n r.many) i.word o') (q : i.byte ≡ at.byte) where
-    pub parts-rooms : Rooms o' p i (wordsFields (types_of l t r) b 0) (bytesFields (types_of l t r) b 0)
-    parts-rooms = rooms-then o p at _ _ _ _ _ _ i o' p h (g.words k) (g.bytes k) (words-filled o p at _ i o' s q)
+  module _ (i : Place) (o' : List ℕ) (s : Stored o at.word (count_word n r.many) i.word o') (q : i.byte ≡ at.byte) where
+    pub parts-rooms : Rooms o' p i (words_fields (types_of l t r) b 0) (bytes_fields (types_of l t r) b 0)
+    parts-rooms = rooms_then o p at _ _ _ _ _ _ i o' p h (g.words k) (g.bytes k) (words-filled o p at _ i o' s q)
 
-    pub parts-left : Filling lens l t r.step b (unfoldWords (tree_of l t) b) (unfoldBytes (tree_of l t) b) o p at o' p i r.first r.many 0
+    pub parts-left : Filling lens l t r.step b (unfold_words (tree_of l t) b) (unfold_bytes (tree_of l t) b) o p at o' p i r.first r.many 0
     parts-left =
         record {
           row = g.row;
           ranges = g.ranges;
           accepted = record { accepted = g.accepted 0 };
           rooms = parts-rooms;
-          words = countWord n r.many;
+          words = count_word n r.many;
           bytes = [];
           filled = words-filled o p at _ i o' s q;
           all_words = g.words k;
@@ -281,51 +281,51 @@ module _ {lens l : List ℕ} {t : ℕ} {n : Node} {b : List ℕ} {r : Series} (g
 
 -- Items, by their kind
 pub union-some : (t : ℕ) (os : Opts) (b : List ℕ) → Accepts (union t os) b → 1 ≤ length b
-unfolding readItem
+unfolding read_item
 union-some t os [] g = absurd g.accepted
 union-some t os (x ∷ b) g = omega arith
 
 module _ (lens l : List ℕ) (t : ℕ) (n : Node) (e : n ≡ node_of l t) (g : Under lens l (t + 1)) (b : List ℕ) (h : Accepts (tree_of l t) b) where
   module _ (c : n.kind < 6) where
-    pub leaf-variable : get_or lens t 0 ≡ 0 → head (leafOf t n) ≡ Variable
-    leaf-variable z = rw (as-leaf l t n e c) at (len-variable lens l t g z)
+    pub leaf_variable : get_or lens t 0 ≡ 0 → head (leaf_of t n) ≡ Variable
+    leaf_variable z = rw (as_leaf l t n e c) at (len_variable lens l t g z)
 
-    pub leaf-accepts : Accepts (leafOf t n) b
-    leaf-accepts = rw (as-leaf l t n e c) at h
+    pub leaf_accepts : Accepts (leaf_of t n) b
+    leaf_accepts = rw (as_leaf l t n e c) at h
 
-    pub leaf-rooms : (o p : List ℕ) (at : Place) → Rooms o p at (unfoldWords (tree_of l t) b) (unfoldBytes (tree_of l t) b) →
-        Rooms o p at (unfoldWords (leafOf t n) b) (unfoldBytes (leafOf t n) b)
-    leaf-rooms o p at r = rw (as-leaf l t n e c) at r
+    pub leaf-rooms : (o p : List ℕ) (at : Place) → Rooms o p at (unfold_words (tree_of l t) b) (unfold_bytes (tree_of l t) b) →
+        Rooms o p at (unfold_words (leaf_of t n) b) (unfold_bytes (leaf_of t n) b)
+    leaf-rooms o p at r = rw (as_leaf l t n e c) at r
 
     pub leaf-filled :
-        (o p : List ℕ) (at r : Place) (o' p' : List ℕ) → Filled o p at (unfoldWords (leafOf t n) b) (unfoldBytes (leafOf t n) b) r o' p'
-        → Filled o p at (unfoldWords (tree_of l t) b) (unfoldBytes (tree_of l t) b) r o' p'
-    leaf-filled o p at r o' p' q = rw (as-leaf l t n e c) q
+        (o p : List ℕ) (at r : Place) (o' p' : List ℕ) → Filled o p at (unfold_words (leaf_of t n) b) (unfold_bytes (leaf_of t n) b) r o' p'
+        → Filled o p at (unfold_words (tree_of l t) b) (unfold_bytes (tree_of l t) b) r o' p'
+    leaf-filled o p at r o' p' q = rw (as_leaf l t n e c) q
 
   module _ (k : n.kind ≡ 7) where
-    pub union-room : (o p : List ℕ) (at : Place) → Rooms o p at (unfoldWords (tree_of l t) b) (unfoldBytes (tree_of l t) b) → at.word < length o
-    unfolding unfoldWords
-    union-room o p at r = let q = rw (as-union l t n e k) at r.words in omega (arith, q.room)
+    pub union-room : (o p : List ℕ) (at : Place) → Rooms o p at (unfold_words (tree_of l t) b) (unfold_bytes (tree_of l t) b) → at.word < length o
+    unfolding unfold_words
+    union-room o p at r = let q = rw (as_union l t n e k) at r.words in omega (arith, q.room)
 
     pub union-long : 1 ≤ length b
-    union-long = union-some t _ b (rw (as-union l t n e k) at h)
+    union-long = union-some t _ b (rw (as_union l t n e k) at h)
 
-    union-words : get_or b 0 0 < n.second → unfoldWords (tree_of l t) b ≡ get_or b 0 0 ∷ made (trees l t) b unfoldWords (word_at l (n.at + 2 + get_or b 0 0))
-    unfolding unfoldWords
-    union-words i = rw (as-union l t n e k, words-chosen l (trees l t) b (n.at + 2) n.second i)
+    union-words : get_or b 0 0 < n.second → unfold_words (tree_of l t) b ≡ get_or b 0 0 ∷ made (trees l t) b unfold_words (word_at l (n.at + 2 + get_or b 0 0))
+    unfolding unfold_words
+    union-words i = rw (as_union l t n e k, words-chosen l (trees l t) b (n.at + 2) n.second i)
 
-    union-bytes : get_or b 0 0 < n.second → unfoldBytes (tree_of l t) b ≡ made (trees l t) b unfoldBytes (word_at l (n.at + 2 + get_or b 0 0))
-    unfolding unfoldBytes
-    union-bytes i = rw (as-union l t n e k, bytes_chosen l (trees l t) b (n.at + 2) n.second i)
+    union-bytes : get_or b 0 0 < n.second → unfold_bytes (tree_of l t) b ≡ made (trees l t) b unfold_bytes (word_at l (n.at + 2 + get_or b 0 0))
+    unfolding unfold_bytes
+    union-bytes i = rw (as_union l t n e k, bytes_chosen l (trees l t) b (n.at + 2) n.second i)
 
     module _ (q : Choice.Bare ≡ choose l (n.at + 2) n.second b) where
-      pub bare-words : unfoldWords (tree_of l t) b ≡ get_or b 0 0 ∷ []
+      pub bare-words : unfold_words (tree_of l t) b ≡ get_or b 0 0 ∷ []
       unfolding made
       bare-words =
           let r = bare-says l (n.at + 2) n.second b (sym q) in
           union-words r.0 ∙ rw r.1
 
-      pub bare-bytes : unfoldBytes (tree_of l t) b ≡ []
+      pub bare-bytes : unfold_bytes (tree_of l t) b ≡ []
       unfolding made
       bare-bytes =
           let r = bare-says l (n.at + 2) n.second b (sym q) in
@@ -333,7 +333,7 @@ module _ (lens l : List ℕ) (t : ℕ) (n : Node) (e : n ≡ node_of l t) (g : U
 
       pub bare-filled :
           (o p : List ℕ) (at r : Place) (o' p' : List ℕ) → Filled o p at (get_or b 0 0 ∷ []) [] r o' p'
-          → Filled o p at (unfoldWords (tree_of l t) b) (unfoldBytes (tree_of l t) b) r o' p'
+          → Filled o p at (unfold_words (tree_of l t) b) (unfold_bytes (tree_of l t) b) r o' p'
       bare-filled o p at r o' p' i = rw (bare-words, bare-bytes) i
 
     pub never : {A : Type 0} (r : Refusal) → Choice.Wrong r ≡ choose l (n.at + 2) n.second b → A
@@ -354,15 +354,15 @@ module _ (lens l : List ℕ) (t : ℕ) (n : Node) (e : n ≡ node_of l t) (g : U
                 (simp length-drop (omega arith)),
           )
 
-      pub body-words : unfoldWords (tree_of l t) b ≡ (get_or b 0 0 ∷ []) ++ unfoldWords (tree_of l o) (take (length b - 1) (drop 1 b))
+      pub body-words : unfold_words (tree_of l t) b ≡ (get_or b 0 0 ∷ []) ++ unfold_words (tree_of l o) (take (length b - 1) (drop 1 b))
       body-words =
           let r = body-says l (n.at + 2) n.second b o (sym q) in
-          union-words r.0 ∙ ap (λ (x : List ℕ). get_or b 0 0 ∷ x) (body-made unfoldWords)
+          union-words r.0 ∙ ap (λ (x : List ℕ). get_or b 0 0 ∷ x) (body-made unfold_words)
 
-      pub body_bytes : unfoldBytes (tree_of l t) b ≡ [] ++ unfoldBytes (tree_of l o) (take (length b - 1) (drop 1 b))
+      pub body_bytes : unfold_bytes (tree_of l t) b ≡ [] ++ unfold_bytes (tree_of l o) (take (length b - 1) (drop 1 b))
       body_bytes =
           let r = body-says l (n.at + 2) n.second b o (sym q) in
-          union-bytes r.0 ∙ body-made unfoldBytes
+          union-bytes r.0 ∙ body-made unfold_bytes
 
-      pub body-accepts : Accepts (tree_of l o) (take (length b - 1) (drop 1 b))
-      body-accepts = accepts-at _ _ (0 + 1) (body-accepted lens l t n e g b 0 h.accepted k o q)
+      pub body_accepts : Accepts (tree_of l o) (take (length b - 1) (drop 1 b))
+      body_accepts = accepts_at _ _ (0 + 1) (body-accepted lens l t n e g b 0 h.accepted k o q)

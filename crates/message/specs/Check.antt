@@ -8,23 +8,23 @@ use Rattle.layout.specs.Tree.{tree_of}
 use Rattle.layout.specs.Table.{table_of}
 use Rattle.layout.specs.declared.Checked.{Checked}
 use Rattle.layout.specs.declared.Checked.TheVariants.{Bad, Upto}
-use Rattle.message.specs.Read.{readItem}
-use Rattle.message.specs.Listing.{listItem}
+use Rattle.message.specs.Read.{read_item}
+use Rattle.message.specs.Listing.{list_item_lem}
 use Rattle.message.specs.declared.Answer.{Answer}
 use Rattle.message.specs.declared.Answer.TheVariants.{Accepted, Refused}
 use Rattle.message.specs.declared.Listed.{Listed}
 
 -- "The message has the type T-1"
-abbrev pub messageType : List ℕ → ℕ → Ty
-messageType l n = tree_of l (n - 1)
+abbrev pub message_type : List ℕ → ℕ → Ty
+message_type l n = tree_of l (n - 1)
 
 -- 20, then 21 "by length alone", then the rules of reading
-abbrev pub underTable : Checked → List ℕ → List ℕ → Answer
-underTable (Bad w) l m = Refused (BadLayout w) 0 0
-underTable (Upto n) l m = pick (ltb 4294967295 (length m)) (Refused TooLarge 0 0) (readItem (messageType l n) m 0)
+abbrev pub under_table_lem : Checked → List ℕ → List ℕ → Answer
+under_table_lem (Bad w) l m = Refused (BadLayout w) 0 0
+under_table_lem (Upto n) l m = pick (ltb 4294967295 (length m)) (Refused TooLarge 0 0) (read_item (message_type l n) m 0)
 
-unfoldable pub checkMessage : List ℕ → List ℕ → Answer
-checkMessage l m = underTable (table_of l) l m
+unfoldable pub check_message : List ℕ → List ℕ → Answer
+check_message l m = under_table_lem (table_of l) l m
 
 -- "22 is given exactly when all else is well and the result is longer than the room .. for the listing it counts whole records"
 abbrev pub listed_of : Answer → List ℕ → Listed
@@ -32,17 +32,17 @@ listed_of (Refused r t s) o = Listed.Refused r t s
 listed_of (Accepted c) o = pick (ltb (length o / 12) c.records) (Listed.Refused (NoRoom c.records (length o / 12)) 0 0) (Listed.Records c.records)
 
 -- "Success fills exactly the result's length and keeps the rest"; a refusal changes nothing
-abbrev pub recordsOf : Answer → Ty → List ℕ → List ℕ → List ℕ
-recordsOf (Refused r t s) x m o = o
-recordsOf (Accepted c) x m o = pick (ltb (length o / 12) c.records) o (sets o 0 (listItem x m 0))
+abbrev pub records_of : Answer → Ty → List ℕ → List ℕ → List ℕ
+records_of (Refused r t s) x m o = o
+records_of (Accepted c) x m o = pick (ltb (length o / 12) c.records) o (sets o 0 (list_item_lem x m 0))
 
-unfoldable pub listMessage : List ℕ → List ℕ → List ℕ → Listed
-listMessage l m o = listed_of (checkMessage l m) o
+unfoldable pub list_message : List ℕ → List ℕ → List ℕ → Listed
+list_message l m o = listed_of (check_message l m) o
 
 -- The type of the message, where the table has one
-abbrev pub typeUnder : Checked → List ℕ → Ty
-typeUnder (Bad w) l = tree_of l 0
-typeUnder (Upto n) l = messageType l n
+abbrev pub type_under : Checked → List ℕ → Ty
+type_under (Bad w) l = tree_of l 0
+type_under (Upto n) l = message_type l n
 
-unfoldable pub listedRecords : List ℕ → List ℕ → List ℕ → List ℕ
-listedRecords l m o = recordsOf (checkMessage l m) (typeUnder (table_of l) l) m o
+unfoldable pub listed_records : List ℕ → List ℕ → List ℕ → List ℕ
+listed_records l m o = records_of (check_message l m) (type_under (table_of l) l) m o

@@ -2,7 +2,7 @@
 use Rattle.std.specs.Prelude.{ℕ, zero, suc, List, [], ◌∷◌, drop, ltb}
 use Rattle.standard.specs.Choice.{pick}
 use Rattle.standard.specs.Bytes.{four}
-use Rattle.standard.specs.Pieces.{Kind, offsetWord, selectorByte, leafBody, Piece}
+use Rattle.standard.specs.Pieces.{Kind, offset_word, selector_byte, leaf_body, Piece}
 use Rattle.layout.specs.Tree.{node_of}
 
 -- An item: its type, and the positions from its start to before its end
@@ -17,17 +17,17 @@ items_in zero b = []
 items_in (suc n) b = record { type = four b 0; from = four b 4; to = four b 8 } ∷ items_in n (drop 12 b)
 
 -- Those that are leaves: the kind word of their type in the table l is below 6
-unfoldable pub leavesOf : List ℕ → List Item → List Item
-leavesOf l [] = []
-leavesOf l (x ∷ xs) = pick (ltb (node_of l x.type).kind 6) (x ∷ leavesOf l xs) (leavesOf l xs)
+unfoldable pub leaves_of : List ℕ → List Item → List Item
+leaves_of l [] = []
+leaves_of l (x ∷ xs) = pick (ltb (node_of l x.type).kind 6) (x ∷ leaves_of l xs) (leaves_of l xs)
 
 -- A piece before some items: a leaf's body is an item, an offset word or a selector byte is none
-abbrev pub itemBefore : Kind → ℕ → ℕ → List Item → List Item
-itemBefore offsetWord from to xs = xs
-itemBefore selectorByte from to xs = xs
-itemBefore (leafBody t) from to xs = record { type = t; from = from; to = to } ∷ xs
+abbrev pub item_before : Kind → ℕ → ℕ → List Item → List Item
+item_before offset_word from to xs = xs
+item_before selector_byte from to xs = xs
+item_before (leaf_body t) from to xs = record { type = t; from = from; to = to } ∷ xs
 
 -- The leaf bodies among some pieces, as items
-unfoldable pub leafPieces : List Piece → List Item
-leafPieces [] = []
-leafPieces (p ∷ ps) = itemBefore p.kind p.from p.to (leafPieces ps)
+unfoldable pub leaf_pieces : List Piece → List Item
+leaf_pieces [] = []
+leaf_pieces (p ∷ ps) = item_before p.kind p.from p.to (leaf_pieces ps)

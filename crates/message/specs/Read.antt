@@ -2,15 +2,15 @@
 use Rattle.std.specs.Prelude.{ℕ, zero, suc, ◌+◌, ◌-◌, ◌*◌, ◌/◌, ◌%◌, max, List, [], ◌∷◌, length, get_or, drop, replicate, eqb, ltb, leb}
 use Rattle.standard.specs.Choice.{pick, or_else}
 use Rattle.standard.specs.Bytes.{four}
-use Rattle.standard.specs.Types.{Ty, Tys, Opts, number, boolean, fixedBytes, freeBytes, bitVector, bitList, container, union, list, vector, end, field, over, bare, body, head, heads}
+use Rattle.standard.specs.Types.{Ty, Tys, Opts, number, boolean, fixed_bytes, free_bytes, bit_vector, bit_list, container, union, list, vector, end, field, over, bare, body, head, heads}
 use Rattle.standard.specs.Parts.{span_of, part}
 use Rattle.standard.specs.declared.Head.{Head}
 use Rattle.standard.specs.declared.Head.TheVariants.{Fixed, Variable}
 use Rattle.standard.specs.declared.Told.{Told}
 use Rattle.standard.specs.declared.Refusal.{Refusal}
 use Rattle.standard.specs.declared.Refusal.TheVariants.{InvalidByteLength, InvalidLengthPrefix, OutOfBoundsByte, OffsetIntoFixedPortion, OffsetsAreDecreasing, OffsetOutOfBounds, UnionSelectorInvalid, BadBoolean, OverLimit, InvalidListFixedBytesLen}
-use Rattle.decode.specs.Builder.{layOut}
-use Rattle.bitfield.specs.Body.{bitListBody, bitVectorBody}
+use Rattle.decode.specs.Builder.{lay_out_lem}
+use Rattle.bitfield.specs.Body.{bit_list_body, bit_vector_body}
 use Rattle.bitfield.specs.declared.BodyBits.{BodyBits}
 use Rattle.message.specs.declared.elements.Elements.{Elements}
 use Rattle.message.specs.declared.elements.Elements.TheVariants.{Many}
@@ -19,8 +19,8 @@ use Rattle.message.specs.declared.Answer.{Answer}
 use Rattle.message.specs.declared.Answer.TheVariants.{Accepted, Refused}
 
 -- "Raw bytes are max(1, bits/8 rounded up)"
-abbrev pub rawBytes : ℕ → ℕ
-rawBytes k = max 1 ((k + 7) / 8)
+abbrev pub raw_bytes_lem : ℕ → ℕ
+raw_bytes_lem k = max 1 ((k + 7) / 8)
 
 -- One item, with so many contents words and body bytes
 abbrev pub one : ℕ → ℕ → Answer
@@ -41,17 +41,17 @@ built (Told.Refused r) t s x = Refused r t s
 built Told.Fine t s x = x
 
 -- The body of bits
-abbrev pub ofVector : Told → ℕ → ℕ → ℕ → Answer
-ofVector (Told.Refused r) t s n = Refused r t s
-ofVector Told.Fine t s n = one 0 n
+abbrev pub of_vector_lem : Told → ℕ → ℕ → ℕ → Answer
+of_vector_lem (Told.Refused r) t s n = Refused r t s
+of_vector_lem Told.Fine t s n = one 0 n
 
 abbrev pub of_list : BodyBits → ℕ → ℕ → Answer
 of_list (BodyBits.Refused r) t s = Refused r t s
-of_list (BodyBits.Bits k) t s = one 1 (rawBytes k)
+of_list (BodyBits.Bits k) t s = one 1 (raw_bytes_lem k)
 
 -- "wrong length is 1"
-abbrev pub readExact : ℕ → ℕ → List ℕ → ℕ → Answer
-readExact w t b s = pick (eqb (length b) w) (one 0 (length b)) (Refused (InvalidByteLength (length b) w) t s)
+abbrev pub read_exact : ℕ → ℕ → List ℕ → ℕ → Answer
+read_exact w t b s = pick (eqb (length b) w) (one 0 (length b)) (Refused (InvalidByteLength (length b) w) t s)
 
 -- "count above limit 14"
 abbrev pub within : ℕ → ℕ → Elements
@@ -68,95 +68,95 @@ further b first previous p (suc n) =
     (further b first o (p + 4) n)))
 
 -- The elements that the first offset o says, if the offsets behind it are well
-abbrev pub thenMany : Told → ℕ → Elements
-thenMany Told.Fine n = Many n
-thenMany (Told.Refused r) n = Elements.Refused r
+abbrev pub then_many : Told → ℕ → Elements
+then_many Told.Fine n = Many n
+then_many (Told.Refused r) n = Elements.Refused r
 
-abbrev pub behindFirst : Elements → List ℕ → ℕ → Elements
-behindFirst (Elements.Refused r) b o = Elements.Refused r
-behindFirst (Many n) b o = thenMany (further b o o 4 (n - 1)) n
+abbrev pub behind_first_lem : Elements → List ℕ → ℕ → Elements
+behind_first_lem (Elements.Refused r) b o = Elements.Refused r
+behind_first_lem (Many n) b o = then_many (further b o o 4 (n - 1)) n
 
 -- "List of variable elements, empty is no elements; else 2; first offset above the length 7; zero or not a multiple of four 15 (offset); count above
 -- limit 14; further offsets"
-abbrev pub offsetElements : ℕ → List ℕ → Elements
-offsetElements limit b =
+abbrev pub offset_elements_lem : ℕ → List ℕ → Elements
+offset_elements_lem limit b =
     let o = four b 0 in
     pick (eqb (length b) 0) (Many 0)
     (pick (ltb (length b) 4) (Elements.Refused (InvalidLengthPrefix (length b) 4))
     (pick (ltb (length b) o) (Elements.Refused (OffsetOutOfBounds o))
     (pick (or_else (eqb o 0) (ltb 0 (o % 4))) (Elements.Refused (InvalidListFixedBytesLen o))
-    (behindFirst (within (o / 4) limit) b o))))
+    (behind_first_lem (within (o / 4) limit) b o))))
 
 -- How many elements with this head a list has. "List of fixed elements, 1 (length, element length) if not a multiple, then 14 (count, limit)."
 unfoldable pub elements : Head → ℕ → List ℕ → Elements
 elements (Fixed k) limit b =
     pick (eqb (length b % k) 0) (within (length b / k) limit) (Elements.Refused (InvalidByteLength (length b) k))
-elements Variable limit b = offsetElements limit b
+elements Variable limit b = offset_elements_lem limit b
 
-abbrev pub manyOf : Elements → ℕ
-manyOf (Many n) = n
-manyOf (Elements.Refused r) = 0
+abbrev pub many_of : Elements → ℕ
+many_of (Many n) = n
+many_of (Elements.Refused r) = 0
 
 -- A list's refusal, for the type t that starts at s; else the answer of so many elements
-abbrev pub ofElements : Elements → ℕ → ℕ → (ℕ → Answer) → Answer
-ofElements (Elements.Refused r) t s x = Refused r t s
-ofElements (Many n) t s x = x n
+abbrev pub of_elements : Elements → ℕ → ℕ → (ℕ → Answer) → Answer
+of_elements (Elements.Refused r) t s x = Refused r t s
+of_elements (Many n) t s x = x n
 
 -- n elements with this head in a vector: "fixed vector of wrong length, 1 (length, expected)"; "one of variable elements .. is read by the container rules"
-unfoldable pub vectorTold : Head → ℕ → List ℕ → Told
-vectorTold (Fixed k) n b = pick (eqb (length b) (n * k)) Told.Fine (Told.Refused (InvalidByteLength (length b) (n * k)))
-vectorTold Variable n b = layOut (replicate n Variable) b
+unfoldable pub vector_told_lem : Head → ℕ → List ℕ → Told
+vector_told_lem (Fixed k) n b = pick (eqb (length b) (n * k)) Told.Fine (Told.Refused (InvalidByteLength (length b) (n * k)))
+vector_told_lem Variable n b = lay_out_lem (replicate n Variable) b
 
 -- n elements with this head from position p on, each read by `item`
-unfoldable pub readEach : (List ℕ → ℕ → Answer) → Head → ℕ → List ℕ → ℕ → ℕ → Answer
-readEach item h zero b p s = Accepted (record { records = 0; words = 0; bytes = 0 })
-readEach item h (suc n) b p s =
+unfoldable pub read_each : (List ℕ → ℕ → Answer) → Head → ℕ → List ℕ → ℕ → ℕ → Answer
+read_each item h zero b p s = Accepted (record { records = 0; words = 0; bytes = 0 })
+read_each item h (suc n) b p s =
     let w = span_of h (replicate n h) b p in
-    and_then (item (part b w) (s + w.from)) (readEach item h n b w.next s)
+    and_then (item (part b w) (s + w.from)) (read_each item h n b w.next s)
 
 unfoldable mutual
   -- The item b, which starts at s in the message. A refusal carries the item's type and start.
-  pub readItem : Ty → List ℕ → ℕ → Answer
+  pub read_item : Ty → List ℕ → ℕ → Answer
   -- "Number, boolean, fixed bytes: wrong length is 1"
-  readItem (number t w) b s = readExact w t b s
-  readItem (boolean t) b s =
+  read_item (number t w) b s = read_exact w t b s
+  read_item (boolean t) b s =
       pick (eqb (length b) 1)
       (pick (ltb (get_or b 0 0) 2) (one 0 1) (Refused (BadBoolean (get_or b 0 0)) t s))
       (Refused (InvalidByteLength (length b) 1) t s)
-  readItem (fixedBytes t n) b s = readExact n t b s
+  read_item (fixed_bytes t n) b s = read_exact n t b s
   -- "Free bytes above their limit: 14"
-  readItem (freeBytes t limit) b s = pick (leb (length b) limit) (one 1 (length b)) (Refused (OverLimit (length b) limit) t s)
-  readItem (bitVector t n) b s = ofVector (bitVectorBody b n) t s (length b)
-  readItem (bitList t limit) b s = of_list (bitListBody b limit) t s
+  read_item (free_bytes t limit) b s = pick (leb (length b) limit) (one 1 (length b)) (Refused (OverLimit (length b) limit) t s)
+  read_item (bit_vector t n) b s = of_vector_lem (bit_vector_body b n) t s (length b)
+  read_item (bit_list t limit) b s = of_list (bit_list_body b limit) t s
   -- "all fields are registered in order, the container is built, then fields are checked left to right"
-  readItem (container t ts) b s = built (layOut (heads ts) b) t s (and_then (one 0 0) (readFields ts b 0 s))
+  read_item (container t ts) b s = built (lay_out_lem (heads ts) b) t s (and_then (one 0 0) (read_fields ts b 0 s))
   -- "no bytes is 3 with 0; a selector above 127, or without an option in the table, is 8"
-  readItem (union t os) b s =
+  read_item (union t os) b s =
       pick (eqb (length b) 0) (Refused (OutOfBoundsByte 0) t s)
-      (pick (leb (get_or b 0 0) 127) (readOption os (get_or b 0 0) b t s) (Refused (UnionSelectorInvalid (get_or b 0 0)) t s))
+      (pick (leb (get_or b 0 0) 127) (read_option os (get_or b 0 0) b t s) (Refused (UnionSelectorInvalid (get_or b 0 0)) t s))
   -- "then elements in order"; a list's count is a contents word
-  readItem (list t e limit) b s =
-      ofElements (elements (head e) limit b) t s
-      (λ (n : ℕ). and_then (one 1 0) (readEach (λ (x : List ℕ) (u : ℕ). readItem e x u) (head e) n b 0 s))
-  readItem (vector t e n) b s =
-      built (vectorTold (head e) n b) t s
-      (and_then (one 0 0) (readEach (λ (x : List ℕ) (u : ℕ). readItem e x u) (head e) n b 0 s))
+  read_item (list t e limit) b s =
+      of_elements (elements (head e) limit b) t s
+      (λ (n : ℕ). and_then (one 1 0) (read_each (λ (x : List ℕ) (u : ℕ). read_item e x u) (head e) n b 0 s))
+  read_item (vector t e n) b s =
+      built (vector_told_lem (head e) n b) t s
+      (and_then (one 0 0) (read_each (λ (x : List ℕ) (u : ℕ). read_item e x u) (head e) n b 0 s))
 
   -- The fields from position p on
-  pub readFields : Tys → List ℕ → ℕ → ℕ → Answer
-  readFields end b p s = Accepted (record { records = 0; words = 0; bytes = 0 })
-  readFields (field t ts) b p s =
+  pub read_fields : Tys → List ℕ → ℕ → ℕ → Answer
+  read_fields end b p s = Accepted (record { records = 0; words = 0; bytes = 0 })
+  read_fields (field t ts) b p s =
       let w = span_of (head t) (heads ts) b p in
-      and_then (readItem t (part b w) (s + w.from)) (readFields ts b w.next s)
+      and_then (read_item t (part b w) (s + w.from)) (read_fields ts b w.next s)
 
   -- The option with selector k: "An option without body is encoded as its selector byte alone ..; followed by bytes it is 1 (bytes left, 0)"
-  pub readOption : Opts → ℕ → List ℕ → ℕ → ℕ → Answer
-  readOption over k b t s = Refused (UnionSelectorInvalid k) t s
-  readOption (bare j os) k b t s =
+  pub read_option : Opts → ℕ → List ℕ → ℕ → ℕ → Answer
+  read_option over k b t s = Refused (UnionSelectorInvalid k) t s
+  read_option (bare j os) k b t s =
       pick (eqb k j)
       (pick (eqb (length b) 1) (one 1 0) (Refused (InvalidByteLength (length b - 1) 0) t s))
-      (readOption os k b t s)
-  readOption (body j o os) k b t s =
+      (read_option os k b t s)
+  read_option (body j o os) k b t s =
       pick (eqb k j)
-      (and_then (one 1 0) (readItem o (drop 1 b) (s + 1)))
-      (readOption os k b t s)
+      (and_then (one 1 0) (read_item o (drop 1 b) (s + 1)))
+      (read_option os k b t s)

@@ -8,14 +8,14 @@ use Rattle.standard.specs.declared.Head.{Head}
 use Rattle.standard.specs.declared.Maybe.{Maybe}
 use Rattle.standard.specs.declared.Maybe.TheVariants.{Just, Nothing}
 use Rattle.standard.specs.declared.Refusal.TheVariants.{InvalidByteLength, UnionSelectorInvalid}
-use Rattle.decode.specs.Unions.{splitUnion}
+use Rattle.decode.specs.Unions.{split_union}
 use Rattle.decode.specs.declared.builder.Progress.{Progress}
 use Rattle.decode.specs.declared.union_selector.SelectorResult.{SelectorResult}
 use Rattle.layout.specs.Tree.{tree_of, trees, len_of}
 use Rattle.layout.specs.Table.{count}
 use Rattle.layout.specs.declared.Node.{Node}
 use Rattle.layout.specs.Legal.{Legal}
-use Rattle.message.specs.Read.{elements, manyOf, one, and_then, readItem, readFields}
+use Rattle.message.specs.Read.{elements, many_of, one, and_then, read_item, read_fields}
 use Rattle.message.specs.declared.Counts.{Counts}
 use Rattle.message.specs.declared.Answer.{Answer}
 use Rattle.message.specs.declared.Answer.TheVariants.{Accepted, Refused}
@@ -37,8 +37,8 @@ row_of l t at step zero = end
 row_of l t at step (suc n) = field (get_or (trees l t) (word_at l at) (boolean 0)) (row_of l t (at + step) step n)
 
 -- Their heads
-abbrev pub headsOf : List ℕ → ℕ → ℕ → ℕ → ℕ → List Head
-headsOf l t at step n = heads (row_of l t at step n)
+abbrev pub heads_of : List ℕ → ℕ → ℕ → ℕ → ℕ → List Head
+heads_of l t at step n = heads (row_of l t at step n)
 
 -- The words that name them are there and name lower types.
 unfoldable pub Named : List ℕ → ℕ → ℕ → ℕ → ℕ → Type 0
@@ -57,8 +57,8 @@ pub record Alike (lens l : List ℕ) (t at n e : ℕ) (b : List ℕ) : Type 0 wh
   pub row : Row lens l t at 0 n
   pub shared : e ≡ word_at l at
   pub lower : e < t
-  pub ranges : InRange (headsOf l t at 0 n) b 0 0
-  pub first : next (headsOf l t at 0 n) b 0 ≡ portion (headsOf l t at 0 n)
+  pub ranges : InRange (heads_of l t at 0 n) b 0 0
+  pub first : next (heads_of l t at 0 n) b 0 ≡ portion (heads_of l t at 0 n)
 
 -- What a leaf of type t that starts at s says
 abbrev pub placed : LeafTold → ℕ → ℕ → Answer
@@ -68,41 +68,41 @@ placed (LeafTold.Refused r) t s = Refused r t s
 -- What is found of the inside of the item b of type t is what the rules of reading say: a refusal, what it counts, or the fields or elements
 -- that are left to be read, inside something with `own` contents words.
 abbrev pub Found : List ℕ → List ℕ → ℕ → List ℕ → Inside → Type 0
-Found lens l t b (Inside.Wrong r) = (s : ℕ) → Refused r t s ≡ readItem (tree_of l t) b s
-Found lens l t b (Inside.Counted n own) = (s : ℕ) → Accepted (record { records = n; words = own; bytes = length b }) ≡ readItem (tree_of l t) b s
+Found lens l t b (Inside.Wrong r) = (s : ℕ) → Refused r t s ≡ read_item (tree_of l t) b s
+Found lens l t b (Inside.Counted n own) = (s : ℕ) → Accepted (record { records = n; words = own; bytes = length b }) ≡ read_item (tree_of l t) b s
 Found lens l t b (Inside.Fields at step n own) =
-    Row lens l t at step n × InRange (headsOf l t at step n) b 0 0 × (own ≤ 1) ×
-    ((s : ℕ) → and_then (one own 0) (readFields (row_of l t at step n) b 0 s) ≡ readItem (tree_of l t) b s)
+    Row lens l t at step n × InRange (heads_of l t at step n) b 0 0 × (own ≤ 1) ×
+    ((s : ℕ) → and_then (one own 0) (read_fields (row_of l t at step n) b 0 s) ≡ read_item (tree_of l t) b s)
 
 -- How many elements with this head a list or vector b has, of which the table says n
-abbrev pub manyIn : List ℕ → Node → Head → List ℕ → ℕ
-manyIn l n h b = pick (eqb n.kind 9) (word_at l (n.at + 2)) (manyOf (elements h (word_at l (n.at + 2)) b))
+abbrev pub many_in_lem : List ℕ → Node → Head → List ℕ → ℕ
+many_in_lem l n h b = pick (eqb n.kind 9) (word_at l (n.at + 2)) (many_of (elements h (word_at l (n.at + 2)) b))
 
 -- The contents words that stand before m elements: a list's count; a vector has none
 abbrev pub count_of : Node → ℕ → List ℕ
 count_of n m = pick (eqb n.kind 9) [] (m ∷ [])
 
 -- Registration in plain numbers: an offset is known if there is a first one, and 2^64 - 1 stands for no first one.
-abbrev pub knownIf : ℕ → ℕ → Maybe
-knownIf first o = pick (eqb first 18446744073709551615) Nothing (Just o)
+abbrev pub known_if : ℕ → ℕ → Maybe
+known_if first o = pick (eqb first 18446744073709551615) Nothing (Just o)
 
-abbrev pub progressOf : ℕ → ℕ → ℕ → Progress
-progressOf first previous p = record { pos = p; first = knownIf first first; previous = knownIf first previous }
+abbrev pub progress_of : ℕ → ℕ → ℕ → Progress
+progress_of first previous p = record { pos = p; first = known_if first first; previous = known_if first previous }
 
 -- The word of an option, where the selector is behind its byte alone or not
-abbrev pub optionAt : ℕ → ℕ → Choice
-optionAt w len =
+abbrev pub option_at_lem : ℕ → ℕ → Choice
+option_at_lem w len =
     pick (eqb w 4294967295)
     (pick (eqb len 1) Choice.Bare (Choice.Wrong (InvalidByteLength (len - 1) 0)))
     (Choice.Body w)
 
 abbrev pub choice_of : SelectorResult → List ℕ → ℕ → ℕ → ℕ → Choice
 choice_of (SelectorResult.Refused r) l a n len = Choice.Wrong r
-choice_of (SelectorResult.Selector k) l a n len = pick (ltb k.0 n) (optionAt (word_at l (a + k.0)) len) (Choice.Wrong (UnionSelectorInvalid k.0))
+choice_of (SelectorResult.Selector k) l a n len = pick (ltb k.0 n) (option_at_lem (word_at l (a + k.0)) len) (Choice.Wrong (UnionSelectorInvalid k.0))
 
 -- What the selector chooses among the n options that the words from a on name
 unfoldable pub choose : List ℕ → ℕ → ℕ → List ℕ → Choice
-choose l a n b = choice_of (splitUnion b) l a n (length b)
+choose l a n b = choice_of (split_union b) l a n (length b)
 
 -- Kind 0 is a number, kind 2 fixed bytes: "wrong length is 1", and no other rule
 unfoldable pub is_plain : ℕ → Bool

@@ -2,8 +2,8 @@
 ghost use Rattle.std.specs.Prelude.{◌≡◌, ℕ, ◌+◌, ◌*◌, ◌/◌, ◌≤◌, ◌<◌, ◌^◌, length};
 ghost use Rattle.standard.specs.Types.{head};
 ghost use Rattle.layout.specs.Tree.{node_of, tree_of, head_of};
-ghost use Rattle.message.specs.Read.{within, further, behindFirst, offsetElements, elements, vectorTold, readItem};
-ghost use Rattle.message.specs.Steps.{Under, IsAccepted, manyIn};
+ghost use Rattle.message.specs.Read.{within, further, behind_first_lem, offset_elements_lem, elements, vector_told_lem, read_item};
+ghost use Rattle.message.specs.Steps.{Under, IsAccepted, many_in_lem};
 ghost use Rattle.message.specs.declared.elements.Elements.TheVariants.{Many};
 
 use crate::words::{four_in, word_in};
@@ -57,7 +57,7 @@ fn further_offsets(b: &[u8], first: usize, n: usize) -> Told
 // The elements that the first offset o says: all their offsets lie before it.
 fn behind_first(limit: usize, b: &[u8], o: usize) -> Elements
     requires { (4 ≤ o) × (o ≤ length b.now) × (length b.now < 2 ^ 32) }
-    ensures { result ≡ behindFirst (within (o / 4) limit) b.now o }
+    ensures { result ≡ behind_first_lem (within (o / 4) limit) b.now o }
 {
     let n = o / 4;
     if n > limit {
@@ -74,7 +74,7 @@ fn behind_first(limit: usize, b: &[u8], o: usize) -> Elements
 // The elements of variable size: the first offset says how many.
 fn offset_elements(limit: usize, b: &[u8]) -> Elements
     requires { length b.now < 2 ^ 32 }
-    ensures { result ≡ offsetElements limit b.now }
+    ensures { result ≡ offset_elements_lem limit b.now }
 {
     let len = b.len();
     if len == 0 {
@@ -127,8 +127,8 @@ pub(crate) fn count_of(k: usize, b: &[u8]) -> usize
 
 // How many elements a list or vector of the type t has that was accepted, whose words are n.
 pub(crate) fn many_in(lens: &[u32; 64], layout: &[u8], n: Node, t: usize, b: &[u8]) -> usize
-    requires { Under lens.now layout.now (t + 1) × (n ≡ node_of layout.now t) × (8 ≤ n.kind) × IsAccepted (readItem (tree_of layout.now t) b.now 0) }
-    ensures { result ≡ manyIn layout.now n (head (tree_of layout.now n.second)) b.now }
+    requires { Under lens.now layout.now (t + 1) × (n ≡ node_of layout.now t) × (8 ≤ n.kind) × IsAccepted (read_item (tree_of layout.now t) b.now 0) }
+    ensures { result ≡ many_in_lem layout.now n (head (tree_of layout.now n.second)) b.now }
 {
     if n.kind == 9 {
         return word_in(layout, n.at + 2);
@@ -140,7 +140,7 @@ pub(crate) fn many_in(lens: &[u32; 64], layout: &[u8], n: Node, t: usize, b: &[u
 // What is found of a vector of n elements of the fixed length k: only its length is asked.
 pub(crate) fn exact_told(k: usize, n: usize, b: &[u8]) -> Told
     requires { (0 < k) × (n * k < 2 ^ 32) }
-    ensures { result ≡ vectorTold (head_of k) n b.now }
+    ensures { result ≡ vector_told_lem (head_of k) n b.now }
 {
     let len = b.len();
     let whole = n * k;

@@ -4,10 +4,10 @@ ghost use Rattle.std.specs.Prelude.{◌≡◌, ◌+◌, ◌-◌, ◌*◌, ◌≤
 ghost use Rattle.standard.specs.Bytes.{word_at};
 ghost use Rattle.standard.specs.Types.{head, width, container};
 ghost use Rattle.standard.specs.Parts.{next, span_of, InRange};
-ghost use Rattle.decode.specs.Builder.{buildAt, layOut};
+ghost use Rattle.decode.specs.Builder.{build_at, lay_out_lem};
 ghost use Rattle.layout.specs.Tree.{tree_of};
-ghost use Rattle.message.specs.Read.{vectorTold};
-ghost use Rattle.message.specs.Steps.{Under, Row, row_of, headsOf, knownIf};
+ghost use Rattle.message.specs.Read.{vector_told_lem};
+ghost use Rattle.message.specs.Steps.{Under, Row, row_of, heads_of, known_if};
 
 use crate::elements::exact_told;
 use crate::words::{four_in, word_in};
@@ -18,7 +18,7 @@ const NONE: usize = 18446744073709551615;
 
 // The end of a registration that has come to p, over len bytes.
 fn finish(first: usize, p: usize, len: usize) -> Told
-    ensures { result ≡ buildAt (knownIf first first) p len }
+    ensures { result ≡ build_at (known_if first first) p len }
 {
     if first == NONE {
         if p == len {
@@ -46,7 +46,7 @@ fn lay_out(
     b: &[u8],
 ) -> Told
     requires { Row lens.now layout.now t a0 step n × (length b.now < 2 ^ 32) }
-    ensures { result ≡ layOut (headsOf layout.now t a0 step n) b.now }
+    ensures { result ≡ lay_out_lem (heads_of layout.now t a0 step n) b.now }
 {
     let len = b.len();
     let mut p = 0;
@@ -94,7 +94,7 @@ pub(crate) fn container_told(
     b: &[u8],
 ) -> Told
     requires { Under lens.now layout.now (t + 1) × Row lens.now layout.now t a0 1 n × (length b.now < 2 ^ 32) × (tree_of layout.now t ≡ container t (row_of layout.now t a0 1 n)) }
-    ensures { result ≡ layOut (headsOf layout.now t a0 1 n) b.now }
+    ensures { result ≡ lay_out_lem (heads_of layout.now t a0 1 n) b.now }
 {
     let own = lens[t] as usize;
     if own > 0 && own == b.len() {
@@ -115,7 +115,7 @@ pub(crate) fn vector_told(
     b: &[u8],
 ) -> Told
     requires { Row lens.now layout.now t a0 0 n × (e ≡ word_at layout.now a0) × (e < t) × (length b.now < 2 ^ 32) × (n * width (head (tree_of layout.now e)) < 2 ^ 32) }
-    ensures { result ≡ vectorTold (head (tree_of layout.now e)) n b.now }
+    ensures { result ≡ vector_told_lem (head (tree_of layout.now e)) n b.now }
 {
     let k = lens[e] as usize;
     if k == 0 {
@@ -135,8 +135,8 @@ fn next_start(
     b: &[u8],
     p0: usize,
 ) -> usize
-    requires { Row lens.now layout.now t a0 step n × InRange (headsOf layout.now t a0 step n) b.now p0 0 }
-    ensures { result ≡ next (headsOf layout.now t a0 step n) b.now p0 }
+    requires { Row lens.now layout.now t a0 step n × InRange (heads_of layout.now t a0 step n) b.now p0 0 }
+    ensures { result ≡ next (heads_of layout.now t a0 step n) b.now p0 }
 {
     let mut a = a0;
     let mut left = n;
@@ -166,8 +166,8 @@ pub(crate) fn locate(
     b: &[u8],
     p: usize,
 ) -> Span
-    requires { Row lens.now layout.now t a step left × (0 < left) × (f ≡ word_at layout.now a) × InRange (headsOf layout.now t a step left) b.now p 0 }
-    ensures { result ≡ span_of (head (tree_of layout.now f)) (headsOf layout.now t (a + step) step (left - 1)) b.now p }
+    requires { Row lens.now layout.now t a step left × (0 < left) × (f ≡ word_at layout.now a) × InRange (heads_of layout.now t a step left) b.now p 0 }
+    ensures { result ≡ span_of (head (tree_of layout.now f)) (heads_of layout.now t (a + step) step (left - 1)) b.now p }
 {
     let k = lens[f] as usize;
     if k == 0 {

@@ -1,16 +1,16 @@
 // The items of a message: leaves, unions, containers with their fields, and lists and vectors with their elements.
 ghost use Rattle.std.specs.Prelude.{◌≡◌, ℕ, ◌+◌, ◌≤◌, ◌<◌, ◌^◌, length, eqb, leb};
-ghost use Rattle.standard.specs.Choice.{pick, andAlso};
-ghost use Rattle.standard.specs.Types.{boolean, freeBytes, bitVector, bitList};
+ghost use Rattle.standard.specs.Choice.{pick, and_also};
+ghost use Rattle.standard.specs.Types.{boolean, free_bytes, bit_vector, bit_list};
 ghost use Rattle.standard.specs.Parts.{InRange};
-ghost use Rattle.layout.specs.Tree.{node_of, leafOf, tree_of};
+ghost use Rattle.layout.specs.Tree.{node_of, leaf_of, tree_of};
 ghost use Rattle.layout.specs.Legal.{Legal};
-ghost use Rattle.message.specs.Read.{rawBytes, one, plus, and_then, readExact, readItem, readFields};
+ghost use Rattle.message.specs.Read.{raw_bytes_lem, one, plus, and_then, read_exact, read_item, read_fields};
 ghost use Rattle.message.specs.declared.Counts.{Counts};
 ghost use Rattle.message.specs.declared.Answer.TheVariants.{Accepted};
 ghost use Rattle.message.specs.declared.items.Inside.{Inside};
 ghost use Rattle.decode.specs.declared.union_selector.SelectorResult.{SelectorResult};
-ghost use Rattle.message.specs.Steps.{Under, Row, row_of, headsOf, Found, placed, optionAt, choice_of, choose, is_plain, Small};
+ghost use Rattle.message.specs.Steps.{Under, Row, row_of, heads_of, Found, placed, option_at_lem, choice_of, choose, is_plain, Small};
 
 use crate::elements::{Elements, elements_of};
 use crate::fields::{container_told, locate, vector_told};
@@ -34,7 +34,7 @@ pub(crate) enum Choice {
 
 // The raw bytes of so many bits.
 fn raw_bytes(bits: usize) -> usize
-    ensures { result ≡ rawBytes bits }
+    ensures { result ≡ raw_bytes_lem bits }
 {
     let q = bits / 8;
     if bits % 8 != 0 {
@@ -66,7 +66,7 @@ enum LeafTold {
 
 // A number or fixed bytes: w bytes.
 fn exact_check(w: usize, b: &[u8]) -> LeafTold
-    ensures { (t s : ℕ) → placed result t s ≡ readExact w t b.now s }
+    ensures { (t s : ℕ) → placed result t s ≡ read_exact w t b.now s }
 {
     let len = b.len();
     if len == w {
@@ -78,7 +78,7 @@ fn exact_check(w: usize, b: &[u8]) -> LeafTold
 
 // A boolean: one byte, 0 or 1.
 fn boolean_check(b: &[u8]) -> LeafTold
-    ensures { (t s : ℕ) → placed result t s ≡ readItem (boolean t) b.now s }
+    ensures { (t s : ℕ) → placed result t s ≡ read_item (boolean t) b.now s }
 {
     let len = b.len();
     if len != 1 {
@@ -94,7 +94,7 @@ fn boolean_check(b: &[u8]) -> LeafTold
 
 // Free bytes up to their limit; they are not looked at.
 fn free_check(limit: usize, b: &[u8]) -> LeafTold
-    ensures { (t s : ℕ) → placed result t s ≡ readItem (freeBytes t limit) b.now s }
+    ensures { (t s : ℕ) → placed result t s ≡ read_item (free_bytes t limit) b.now s }
 {
     let len = b.len();
     if len <= limit {
@@ -106,7 +106,7 @@ fn free_check(limit: usize, b: &[u8]) -> LeafTold
 
 // A bit vector of n bits.
 fn vector_check(n: usize, b: &[u8]) -> LeafTold
-    ensures { (t s : ℕ) → placed result t s ≡ readItem (bitVector t n) b.now s }
+    ensures { (t s : ℕ) → placed result t s ≡ read_item (bit_vector t n) b.now s }
 {
     let told = bitvector_body(b, n);
     match told {
@@ -117,7 +117,7 @@ fn vector_check(n: usize, b: &[u8]) -> LeafTold
 
 // A bit list of at most limit bits.
 fn list_check(limit: usize, b: &[u8]) -> LeafTold
-    ensures { (t s : ℕ) → placed result t s ≡ readItem (bitList t limit) b.now s }
+    ensures { (t s : ℕ) → placed result t s ≡ read_item (bit_list t limit) b.now s }
 {
     let bits = bitlist_body(b, limit);
     match bits {
@@ -128,7 +128,7 @@ fn list_check(limit: usize, b: &[u8]) -> LeafTold
 
 // An item of a type that has no lower types.
 fn leaf_check(n: Node, b: &[u8]) -> LeafTold
-    ensures { (t s : ℕ) → placed result t s ≡ readItem (leafOf t n) b.now s }
+    ensures { (t s : ℕ) → placed result t s ≡ read_item (leaf_of t n) b.now s }
 {
     let kind = n.kind;
     let second = n.second;
@@ -153,7 +153,7 @@ fn leaf_check(n: Node, b: &[u8]) -> LeafTold
 // The option whose word is w: without body it is its selector byte alone.
 fn option_at(w: usize, len: usize) -> Choice
     requires { 1 ≤ len }
-    ensures { result ≡ optionAt w len }
+    ensures { result ≡ option_at_lem w len }
 {
     if w != NO_BODY {
         return Choice::Body(w);
@@ -259,7 +259,7 @@ fn is_plain(kind: usize) -> bool
 
 // Free bytes within their limit: of them nothing else is asked.
 fn is_within(n: Node, len: usize) -> bool
-    ensures { result ≡ andAlso (eqb n.kind 3) (leb len n.second) }
+    ensures { result ≡ and_also (eqb n.kind 3) (leb len n.second) }
 {
     if n.kind != 3 {
         return false;
@@ -339,7 +339,7 @@ pub(crate) fn item_check(
     start: usize,
 ) -> Answer
     requires { Under lens.now layout.now (t + 1) × (start + length b.now < 2 ^ 32) }
-    ensures { result ≡ readItem (tree_of layout.now t) b.now start }
+    ensures { result ≡ read_item (tree_of layout.now t) b.now start }
 {
     let n = look_in(layout, t);
     if n.kind < 6 {
@@ -391,8 +391,8 @@ fn field_check(
     b: &[u8],
     start: usize,
 ) -> Answer
-    requires { Row lens.now layout.now t a0 step n × (start + length b.now < 2 ^ 32) × InRange (headsOf layout.now t a0 step n) b.now 0 0 × (own ≤ 1) }
-    ensures { result ≡ and_then (one own 0) (readFields (row_of layout.now t a0 step n) b.now 0 start) }
+    requires { Row lens.now layout.now t a0 step n × (start + length b.now < 2 ^ 32) × InRange (heads_of layout.now t a0 step n) b.now 0 0 × (own ≤ 1) }
+    ensures { result ≡ and_then (one own 0) (read_fields (row_of layout.now t a0 step n) b.now 0 start) }
 {
     let mut sum = own_record(own);
     let mut a = a0;

@@ -9,9 +9,9 @@ mod words;
 
 ghost use Rattle.std.specs.Prelude.{◌≡◌, ◌-◌, ◌+◌, ◌≤◌, ◌<◌, ◌^◌};
 ghost use Rattle.layout.specs.declared.Checked.TheVariants.{Upto};
-ghost use Rattle.message.specs.Check.{messageType, underTable, checkMessage, listed_of, recordsOf, listMessage, listedRecords};
+ghost use Rattle.message.specs.Check.{message_type, under_table_lem, check_message, listed_of, records_of, list_message, listed_records};
 ghost use Rattle.message.specs.Steps.{Under};
-ghost use Rattle.message.specs.Unfold.{unfoldWords, unfoldBytes, unfoldedOf, filledOf, unfoldMessage, unfoldedWords, unfoldedBytes};
+ghost use Rattle.message.specs.Unfold.{unfold_words, unfold_bytes, unfolded_of, filled_of, unfold_message, unfolded_words, unfolded_bytes};
 
 use items::item_check;
 use layout::{Checked, table_of};
@@ -51,7 +51,7 @@ pub enum Unfolded {
 // The message under a legal table of n types.
 fn check_under(lens: &[u32; 64], layout: &[u8], n: usize, message: &[u8]) -> Answer
     requires { Under lens.now layout.now n × (1 ≤ n) }
-    ensures { result ≡ underTable (Upto n) layout.now message.now }
+    ensures { result ≡ under_table_lem (Upto n) layout.now message.now }
 {
     if message.len() > 4294967295 {
         return Answer::Refused(Refusal::TooLarge, 0, 0);
@@ -62,7 +62,7 @@ fn check_under(lens: &[u32; 64], layout: &[u8], n: usize, message: &[u8]) -> Ans
 
 // Checks a message: 20 for a bad table, 21 for 2^32 bytes or more, then the rules of reading.
 pub fn check(layout: &[u8], message: &[u8]) -> Answer
-    ensures { result ≡ checkMessage layout.now message.now }
+    ensures { result ≡ check_message layout.now message.now }
 {
     let mut lens = [0u32; 64];
     let c = table_of(&mut lens, layout);
@@ -81,8 +81,8 @@ fn list_under(
     message: &[u8],
 ) -> Listed
     requires { Under lens.now layout.now n × (1 ≤ n) }
-    ensures value { result ≡ listed_of (underTable (Upto n) layout.now message.now) records.old }
-    ensures records_after { records.new ≡ recordsOf (underTable (Upto n) layout.now message.now) (messageType layout.now n) message.now records.old }
+    ensures value { result ≡ listed_of (under_table_lem (Upto n) layout.now message.now) records.old }
+    ensures records_after { records.new ≡ records_of (under_table_lem (Upto n) layout.now message.now) (message_type layout.now n) message.now records.old }
 {
     let r = check_under(lens, layout, n, message);
     match r {
@@ -102,8 +102,8 @@ fn list_under(
 
 // Lists the items of a message in records of three words: the check's refusals, then 22 (records needed, room in whole records).
 pub fn list(layout: &[u8], message: &[u8], records: &mut [u8]) -> Listed
-    ensures value { result ≡ listMessage layout.now message.now records.old }
-    ensures records_after { records.new ≡ listedRecords layout.now message.now records.old }
+    ensures value { result ≡ list_message layout.now message.now records.old }
+    ensures records_after { records.new ≡ listed_records layout.now message.now records.old }
 {
     let mut lens = [0u32; 64];
     let c = table_of(&mut lens, layout);
@@ -123,9 +123,9 @@ fn unfold_under(
     message: &[u8],
 ) -> Unfolded
     requires { Under lens.now layout.now n × (1 ≤ n) }
-    ensures value { result ≡ unfoldedOf (underTable (Upto n) layout.now message.now) contents.old bodies.old }
-    ensures contents_after { contents.new ≡ filledOf (underTable (Upto n) layout.now message.now) contents.old bodies.old contents.old (unfoldWords (messageType layout.now n) message.now) }
-    ensures bodies_after { bodies.new ≡ filledOf (underTable (Upto n) layout.now message.now) contents.old bodies.old bodies.old (unfoldBytes (messageType layout.now n) message.now) }
+    ensures value { result ≡ unfolded_of (under_table_lem (Upto n) layout.now message.now) contents.old bodies.old }
+    ensures contents_after { contents.new ≡ filled_of (under_table_lem (Upto n) layout.now message.now) contents.old bodies.old contents.old (unfold_words (message_type layout.now n) message.now) }
+    ensures bodies_after { bodies.new ≡ filled_of (under_table_lem (Upto n) layout.now message.now) contents.old bodies.old bodies.old (unfold_bytes (message_type layout.now n) message.now) }
 {
     let r = check_under(lens, layout, n, message);
     match r {
@@ -149,9 +149,9 @@ fn unfold_under(
 
 // Unfolds a message into contents words and body bytes: the check's refusals, then 22 (words needed, bytes needed) if either room is short.
 pub fn unfold(layout: &[u8], message: &[u8], contents: &mut [u32], bodies: &mut [u8]) -> Unfolded
-    ensures value { result ≡ unfoldMessage layout.now message.now contents.old bodies.old }
-    ensures contents_after { contents.new ≡ unfoldedWords layout.now message.now contents.old bodies.old }
-    ensures bodies_after { bodies.new ≡ unfoldedBytes layout.now message.now contents.old bodies.old }
+    ensures value { result ≡ unfold_message layout.now message.now contents.old bodies.old }
+    ensures contents_after { contents.new ≡ unfolded_words layout.now message.now contents.old bodies.old }
+    ensures bodies_after { bodies.new ≡ unfolded_bytes layout.now message.now contents.old bodies.old }
 {
     let mut lens = [0u32; 64];
     let c = table_of(&mut lens, layout);

@@ -3,9 +3,9 @@ ghost use Rattle.std.specs.Prelude.{◌+◌, ◌≤◌, ◌<◌, ◌^◌, length
 ghost use Rattle.standard.specs.Bytes.{Stored, Room};
 ghost use Rattle.standard.specs.Parts.{InRange};
 ghost use Rattle.layout.specs.Tree.{tree_of};
-ghost use Rattle.message.specs.Read.{readItem, readFields};
-ghost use Rattle.message.specs.Listing.{entry, listItem, listFields};
-ghost use Rattle.message.specs.Steps.{Under, Row, row_of, headsOf, IsAccepted};
+ghost use Rattle.message.specs.Read.{read_item, read_fields};
+ghost use Rattle.message.specs.Listing.{entry, list_item_lem, list_fields_lem};
+ghost use Rattle.message.specs.Steps.{Under, Row, row_of, heads_of, IsAccepted};
 
 use crate::fields::locate;
 use crate::items::{Choice, select};
@@ -37,8 +37,8 @@ pub(crate) fn list_item(
     b: &[u8],
     start: usize,
 ) -> usize
-    requires { Under lens.now layout.now (t + 1) × (start + length b.now < 2 ^ 32) × IsAccepted (readItem (tree_of layout.now t) b.now start) × Room out.old at (listItem (tree_of layout.now t) b.now start) }
-    ensures { Stored out.old at (listItem (tree_of layout.now t) b.now start) result out.new }
+    requires { Under lens.now layout.now (t + 1) × (start + length b.now < 2 ^ 32) × IsAccepted (read_item (tree_of layout.now t) b.now start) × Room out.old at (list_item_lem (tree_of layout.now t) b.now start) }
+    ensures { Stored out.old at (list_item_lem (tree_of layout.now t) b.now start) result out.new }
 {
     put_entry(out, at, t, b, start);
     let next = at + 12;
@@ -76,8 +76,8 @@ fn list_fields(
     b: &[u8],
     start: usize,
 ) -> usize
-    requires { Row lens.now layout.now t a0 step n × (start + length b.now < 2 ^ 32) × InRange (headsOf layout.now t a0 step n) b.now 0 0 × IsAccepted (readFields (row_of layout.now t a0 step n) b.now 0 start) × Room out.old at0 (listFields (row_of layout.now t a0 step n) b.now 0 start) }
-    ensures { Stored out.old at0 (listFields (row_of layout.now t a0 step n) b.now 0 start) result out.new }
+    requires { Row lens.now layout.now t a0 step n × (start + length b.now < 2 ^ 32) × InRange (heads_of layout.now t a0 step n) b.now 0 0 × IsAccepted (read_fields (row_of layout.now t a0 step n) b.now 0 start) × Room out.old at0 (list_fields_lem (row_of layout.now t a0 step n) b.now 0 start) }
+    ensures { Stored out.old at0 (list_fields_lem (row_of layout.now t a0 step n) b.now 0 start) result out.new }
 {
     let mut at = at0;
     let mut a = a0;

@@ -1,7 +1,7 @@
 // The items that an item is made of: what listing and unfolding go through.
 ghost use Rattle.std.specs.Prelude.{◌≡◌, ◌+◌, ◌<◌, ◌^◌, length};
 ghost use Rattle.layout.specs.Tree.{node_of, tree_of};
-ghost use Rattle.message.specs.Read.{readItem};
+ghost use Rattle.message.specs.Read.{read_item};
 ghost use Rattle.message.specs.Steps.{Under, IsAccepted};
 ghost use Rattle.message.specs.Series.{MadeOf};
 
@@ -29,7 +29,7 @@ pub(crate) fn no_items() -> Series
 
 // The fields or elements of an accepted item b of the type t, whose words are n. A leaf has none; a union has no series.
 pub(crate) fn series_in(lens: &[u32; 64], layout: &[u8], n: Node, t: usize, b: &[u8]) -> Series
-    requires { Under lens.now layout.now (t + 1) × (length b.now < 2 ^ 32) × (n ≡ node_of layout.now t) × (n.kind ≡ 7 → ⊥) × IsAccepted (readItem (tree_of layout.now t) b.now 0) }
+    requires { Under lens.now layout.now (t + 1) × (length b.now < 2 ^ 32) × (n ≡ node_of layout.now t) × (n.kind ≡ 7 → ⊥) × IsAccepted (read_item (tree_of layout.now t) b.now 0) }
     ensures { MadeOf lens.now layout.now t n b.now result }
 {
     if n.kind < 6 {

@@ -5,10 +5,10 @@ ghost use Rattle.standard.specs.Bytes.{Stored, Room};
 ghost use Rattle.standard.specs.Types.{head};
 ghost use Rattle.standard.specs.declared.Head.TheVariants.{Variable};
 ghost use Rattle.standard.specs.Parts.{InRange};
-ghost use Rattle.layout.specs.Tree.{node_of, leafOf, tree_of};
-ghost use Rattle.message.specs.Steps.{Under, Row, row_of, headsOf};
-ghost use Rattle.message.specs.Unfold.{rawOf, unfoldWords, wordsFields, unfoldBytes, bytesFields, Accepts, AcceptsAll, Rooms, Filled, MarkedAt};
-ghost use Rattle.message.specs.Series.{countWord};
+ghost use Rattle.layout.specs.Tree.{node_of, leaf_of, tree_of};
+ghost use Rattle.message.specs.Steps.{Under, Row, row_of, heads_of};
+ghost use Rattle.message.specs.Unfold.{raw_of, unfold_words, words_fields, unfold_bytes, bytes_fields, Accepts, AcceptsAll, Rooms, Filled, MarkedAt};
+ghost use Rattle.message.specs.Series.{count_word};
 ghost use Rattle.message.specs.Unfolding.{Filling};
 
 use crate::fields::locate;
@@ -59,8 +59,8 @@ fn put_last(out: &mut [u8], at: usize, last: u8, h: usize) -> usize
 
 // Stores the k bits of a marked body as raw bytes, and returns where they end.
 fn put_raw(out: &mut [u8], at: usize, b: &[u8], k: usize) -> usize
-    requires { MarkedAt b.now k × Room out.old at (rawOf b.now k) }
-    ensures { Stored out.old at (rawOf b.now k) result out.new }
+    requires { MarkedAt b.now k × Room out.old at (raw_of b.now k) }
+    ensures { Stored out.old at (raw_of b.now k) result out.new }
 {
     let full = k / 8;
     let rest = k % 8;
@@ -90,8 +90,8 @@ fn unfold_free(contents: &mut [u32], bodies: &mut [u8], at: Place, b: &[u8]) -> 
 
 // A bit list: how many bits, and their raw bytes.
 fn unfold_bits(contents: &mut [u32], bodies: &mut [u8], at: Place, k: usize, b: &[u8]) -> Place
-    requires { (k < 2 ^ 32) × MarkedAt b.now k × Rooms contents.old bodies.old at (k ∷ []) (rawOf b.now k) }
-    ensures { Filled contents.old bodies.old at (k ∷ []) (rawOf b.now k) result contents.new bodies.new }
+    requires { (k < 2 ^ 32) × MarkedAt b.now k × Rooms contents.old bodies.old at (k ∷ []) (raw_of b.now k) }
+    ensures { Filled contents.old bodies.old at (k ∷ []) (raw_of b.now k) result contents.new bodies.new }
 {
     let place = at.word;
     let from = at.byte;
@@ -121,8 +121,8 @@ fn unfold_leaf(
     t: usize,
     b: &[u8],
 ) -> Place
-    requires { (head (leafOf t n) ≡ Variable) × (n.second < 2 ^ 32) × (length b.now < 2 ^ 32) × Accepts (leafOf t n) b.now × Rooms contents.old bodies.old at (unfoldWords (leafOf t n) b.now) (unfoldBytes (leafOf t n) b.now) }
-    ensures { Filled contents.old bodies.old at (unfoldWords (leafOf t n) b.now) (unfoldBytes (leafOf t n) b.now) result contents.new bodies.new }
+    requires { (head (leaf_of t n) ≡ Variable) × (n.second < 2 ^ 32) × (length b.now < 2 ^ 32) × Accepts (leaf_of t n) b.now × Rooms contents.old bodies.old at (unfold_words (leaf_of t n) b.now) (unfold_bytes (leaf_of t n) b.now) }
+    ensures { Filled contents.old bodies.old at (unfold_words (leaf_of t n) b.now) (unfold_bytes (leaf_of t n) b.now) result contents.new bodies.new }
 {
     let second = n.second;
     if n.kind == 3 {
@@ -149,8 +149,8 @@ fn put_selector(contents: &mut [u32], at: Place, b: &[u8]) -> Place
 
 // Stores the count of a list; a container and a vector have none.
 fn put_count(contents: &mut [u32], at: Place, n: Node, m: usize) -> Place
-    requires { Room contents.old at.word (countWord n m) × (m < 2 ^ 32) }
-    ensures { Stored contents.old at.word (countWord n m) result.word contents.new × (result.byte ≡ at.byte) }
+    requires { Room contents.old at.word (count_word n m) × (m < 2 ^ 32) }
+    ensures { Stored contents.old at.word (count_word n m) result.word contents.new × (result.byte ≡ at.byte) }
 {
     if n.kind != 8 {
         return at;
@@ -194,8 +194,8 @@ fn begin(
     t: usize,
     b: &[u8],
 ) -> Opened
-    requires { Under lens.now layout.now (t + 1) × (length b.now < 2 ^ 32) × (n ≡ node_of layout.now t) × (n.kind ≡ 7 → ⊥) × Accepts (tree_of layout.now t) b.now × Rooms contents.old bodies.old at (unfoldWords (tree_of layout.now t) b.now) (unfoldBytes (tree_of layout.now t) b.now) }
-    ensures { Filling lens.now layout.now t result.left.step b.now (unfoldWords (tree_of layout.now t) b.now) (unfoldBytes (tree_of layout.now t) b.now) contents.old bodies.old at contents.new bodies.new result.at result.left.first result.left.many 0 }
+    requires { Under lens.now layout.now (t + 1) × (length b.now < 2 ^ 32) × (n ≡ node_of layout.now t) × (n.kind ≡ 7 → ⊥) × Accepts (tree_of layout.now t) b.now × Rooms contents.old bodies.old at (unfold_words (tree_of layout.now t) b.now) (unfold_bytes (tree_of layout.now t) b.now) }
+    ensures { Filling lens.now layout.now t result.left.step b.now (unfold_words (tree_of layout.now t) b.now) (unfold_bytes (tree_of layout.now t) b.now) contents.old bodies.old at contents.new bodies.new result.at result.left.first result.left.many 0 }
 {
     if lens[t] > 0 {
         let end = put_bytes(bodies, at, b);
@@ -225,8 +225,8 @@ pub(crate) fn unfold_item(
     t: usize,
     b: &[u8],
 ) -> Place
-    requires { Under lens.now layout.now (t + 1) × (length b.now < 2 ^ 32) × Accepts (tree_of layout.now t) b.now × Rooms contents.old bodies.old at (unfoldWords (tree_of layout.now t) b.now) (unfoldBytes (tree_of layout.now t) b.now) }
-    ensures { Filled contents.old bodies.old at (unfoldWords (tree_of layout.now t) b.now) (unfoldBytes (tree_of layout.now t) b.now) result contents.new bodies.new }
+    requires { Under lens.now layout.now (t + 1) × (length b.now < 2 ^ 32) × Accepts (tree_of layout.now t) b.now × Rooms contents.old bodies.old at (unfold_words (tree_of layout.now t) b.now) (unfold_bytes (tree_of layout.now t) b.now) }
+    ensures { Filled contents.old bodies.old at (unfold_words (tree_of layout.now t) b.now) (unfold_bytes (tree_of layout.now t) b.now) result contents.new bodies.new }
 {
     let n = look_in(layout, t);
     if n.kind == 7 {
@@ -263,8 +263,8 @@ fn unfold_fields(
     n: usize,
     b: &[u8],
 ) -> Place
-    requires { Row lens.now layout.now t a0 step n × (length b.now < 2 ^ 32) × InRange (headsOf layout.now t a0 step n) b.now 0 0 × AcceptsAll (row_of layout.now t a0 step n) b.now 0 × Rooms contents.old bodies.old at0 (wordsFields (row_of layout.now t a0 step n) b.now 0) (bytesFields (row_of layout.now t a0 step n) b.now 0) }
-    ensures { Filled contents.old bodies.old at0 (wordsFields (row_of layout.now t a0 step n) b.now 0) (bytesFields (row_of layout.now t a0 step n) b.now 0) result contents.new bodies.new }
+    requires { Row lens.now layout.now t a0 step n × (length b.now < 2 ^ 32) × InRange (heads_of layout.now t a0 step n) b.now 0 0 × AcceptsAll (row_of layout.now t a0 step n) b.now 0 × Rooms contents.old bodies.old at0 (words_fields (row_of layout.now t a0 step n) b.now 0) (bytes_fields (row_of layout.now t a0 step n) b.now 0) }
+    ensures { Filled contents.old bodies.old at0 (words_fields (row_of layout.now t a0 step n) b.now 0) (bytes_fields (row_of layout.now t a0 step n) b.now 0) result contents.new bodies.new }
 {
     let mut at = at0;
     let mut a = a0;

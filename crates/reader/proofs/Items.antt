@@ -40,23 +40,23 @@ use denote.Exit.{yes}
 use Rattle.decode.specs.declared.decoder.SszDecoder.{SszDecoder}
 use Rattle.decode.specs.contracts.decoder.SszDecoder as S
 use Rattle.decode.proofs.decoder.SszDecoder.TheLaws as S'
-use Rattle.reader.specs.Walked.{readerAt}
+use Rattle.reader.specs.Walked.{reader_at}
 use Rattle.reader.specs.declared.SszReader.{SszReader}
 use Rattle.reader.specs.declared.Taken.{Taken}
 use Rattle.reader.proofs.Land.{spelled_as}
 use Rattle.reader.proofs.Steps.{α, B, B', bytes-val, ranges-val, mach, left, Own, passed, Said, New, Next, Held, held_out}
-use Rattle.reader.proofs.Steps.{to-next, goes-next, next-given, next-said, to-new, goes-new, new-given, new-said}
+use Rattle.reader.proofs.Steps.{to-next, goes_next, next-given, next-said, to-new, goes_new, new-given, new-said}
 use Rattle.reader.specs.contracts.SszReader as T
 use Rattle.reader.proofs.SszReader.TheLaws as T'
 use Rattle.reader.specs.contracts.Taken as N
 use Rattle.reader.proofs.Taken.TheLaws as N'
 use Rattle.reader.specs.contracts.new as new
-use Rattle.reader.proofs.new.Symbol as new-def
+use Rattle.reader.proofs.new.Symbol as new_def
 use Rattle.reader.proofs.new.Symbol.{name as #reader·new}
-use Rattle.reader.proofs.new.Met as new-thm
-use Rattle.reader.proofs.decode_next.Symbol as next-def
+use Rattle.reader.proofs.new.Met as new_thm
+use Rattle.reader.proofs.decode_next.Symbol as next_def
 use Rattle.reader.proofs.decode_next.Symbol.{name as #reader·decode-next}
-use Rattle.reader.proofs.decode_next.Met as next-thm
+use Rattle.reader.proofs.decode_next.Met as next_thm
 use Rattle.reader.specs.contracts.item_after as item
 
 -- the structs' lifetime in a local
@@ -75,8 +75,8 @@ module _ {M : Type 1} {𝓤 : Ura M} (𝓛 : Logic 𝓤) (κ : Lft) where
   pub ranges_typed : (d : SszDecoder) → Is S.the_row d (ranges-val d ∷ []) → Typed (S.the_row).mir (ranges-val d ∷ [])
   ranges_typed d is = (LL.lawful S.the_type S'.the_laws 𝓛).typed d (ranges-val d ∷ []) is
 
-  pub reader-typed : (r : SszReader) (u : Val) → Is (B κ) r (u ∷ []) → Typed (T.the_row (αᵉ κ)).mir (u ∷ [])
-  reader-typed r u is = (LL.lawful (T.the_type (αᵉ κ)) (T'.the_laws (αᵉ κ)) 𝓛).typed r (u ∷ []) is
+  pub reader_typed : (r : SszReader) (u : Val) → Is (B κ) r (u ∷ []) → Typed (T.the_row (αᵉ κ)).mir (u ∷ [])
+  reader_typed r u is = (LL.lawful (T.the_type (αᵉ κ)) (T'.the_laws (αᵉ κ)) 𝓛).typed r (u ∷ []) is
 
   module _ (t : Taken) (is : Shown κ t) where
     pub taken-typed : Typed (N.the_row (αᵉ κ)).mir (mach κ t ∷ [])
@@ -84,7 +84,7 @@ module _ {M : Type 1} {𝓤 : Ura M} (𝓛 : Logic 𝓤) (κ : Lft) where
         (LL.owes (N.the_type (αᵉ κ)) (N'.the_laws (αᵉ κ)) t (LL.owed (N.the_type (α κ)) (N'.the_laws (α κ)) t _ is))
 
     pub rest_typed : Typed (T.the_row (αᵉ κ)).mir (left κ t ∷ [])
-    rest_typed = reader-typed t.rest (left κ t) (LL.owed (N.the_type (α κ)) (N'.the_laws (α κ)) t _ is).1.1.0
+    rest_typed = reader_typed t.rest (left κ t) (LL.owed (N.the_type (α κ)) (N'.the_laws (α κ)) t _ is).1.1.0
 
     pub item-typed : Typed (ShrSlice (named 0) κ u8).mir (bytes-val t.item ∷ [])
     item-typed = bytes-typed t.item (LL.owed (N.the_type (α κ)) (N'.the_laws (α κ)) t _ is).1.0
@@ -97,15 +97,15 @@ module _ {M : Type 1} {𝓤 : Ura M} {𝓛 : Logic 𝓤} {K : Type 0} {Γ : List
   pub makes : K → (mem : Memory → SProp 𝓤) (run : Routine → Fun 𝓤) (κ : Lft) (q : Share) (s : Bor (List ℕ)) (d : SszDecoder) (n : ℕ)
       → FmC 𝓤 H 𝓛.laws C → Triple 𝓤 (C f) (New 𝓛 mem run)
       → Opds K 𝓛 (raw ((New 𝓛 mem run).pre (to-new 𝓛 mem run κ q s d n)) ∷ ‵ (Own κ s) ∷ Γ) E xs (bytes-val s ∷ ranges-val d ∷ vint w64 n ∷ [])
-      → ((r : SszReader) → r ≡ readerAt s d n → (u : Val) → Is (B κ) r (u ∷ [])
+      → ((r : SszReader) → r ≡ reader_at s d n → (u : Val) → Is (B κ) r (u ∷ [])
       → Seq K 𝓛 (‵ ((B κ).own r (u ∷ [])) ∷ (‵ (flft κ q) ⊛ ‵ ftrue) ∷ ‵ (Own κ s) ∷ Γ) (lands C Λ E l u rest p))
       → Seq K 𝓛 (raw (on_entry 𝓛 new.signature (κ, tt) (q, tt) (s, (d, (n, tt))) (passed κ s d n)) ∷ Γ) (runs C Λ E (seq (call f xs l) rest) p)
   makes g mem run κ q s d n fm known args k =
-      use1 𝓛 (raw ((New 𝓛 mem run).pre (to-new 𝓛 mem run κ q s d n)) ⊛ ‵ (Own κ s)) (goes-new 𝓛 mem run κ q s d n) $ split g $
+      use1 𝓛 (raw ((New 𝓛 mem run).pre (to-new 𝓛 mem run κ q s d n)) ⊛ ‵ (Own κ s)) (goes_new 𝓛 mem run κ q s d n) $ split g $
       calls_at g fm (New 𝓛 mem run) known (to-new 𝓛 mem run κ q s d n) args (λ u.
       use1 𝓛 (new-given 𝓛 mem run κ q s d n u) (id⊢ 𝓤 _) $ await g tt $ pick g (λ r.
-      split g $ move g (1 ∷ []) $ use1 𝓛 (raw (fact 𝓤 (r ≡ readerAt s d n))) (new-said 𝓛 mem run κ q s d n r) $
-      heard g (r ≡ readerAt s d n) (λ e. split g $ move g (1 ∷ []) $ peeks g (B κ) (Is (B κ)) (shows 𝓛 (B κ)) r (u ∷ []) (λ is. k r e u is))))
+      split g $ move g (1 ∷ []) $ use1 𝓛 (raw (fact 𝓤 (r ≡ reader_at s d n))) (new-said 𝓛 mem run κ q s d n r) $
+      heard g (r ≡ reader_at s d n) (λ e. split g $ move g (1 ∷ []) $ peeks g (B κ) (Is (B κ)) (shows 𝓛 (B κ)) r (u ∷ []) (λ is. k r e u is))))
 
   -- the call of `decode_next`: a reader becomes an answer
   pub takes : K → (mem : Memory → SProp 𝓤) (run : Routine → Fun 𝓤) (κ : Lft) (q : Share) (r : SszReader) (u : Val)
@@ -115,7 +115,7 @@ module _ {M : Type 1} {𝓤 : Ura M} {𝓛 : Logic 𝓤} {K : Type 0} {Γ : List
       → Seq K 𝓛 (‵ ((B' κ).own t (mach κ t ∷ [])) ∷ (‵ (flft κ q) ⊛ ‵ ftrue) ∷ Γ) (lands C Λ E l (mach κ t) rest p))
       → Seq K 𝓛 (‵ ((B κ).own r (u ∷ [])) ∷ (‵ (flft κ q) ⊛ ‵ ftrue) ∷ Γ) (runs C Λ E (seq (call f xs l) rest) p)
   takes g mem run κ q r u fm known args k =
-      use2 𝓛 (raw ((Next 𝓛 mem run).pre (to-next 𝓛 mem run κ q r u))) (goes-next 𝓛 mem run κ q r u) $
+      use2 𝓛 (raw ((Next 𝓛 mem run).pre (to-next 𝓛 mem run κ q r u))) (goes_next 𝓛 mem run κ q r u) $
       calls_at g fm (Next 𝓛 mem run) known (to-next 𝓛 mem run κ q r u) args (λ v.
       use1 𝓛 (next-given 𝓛 mem run κ q r v) (id⊢ 𝓤 _) $ await g tt $ pick g (λ t.
       split g $ move g (1 ∷ []) $ use1 𝓛 (raw (fact 𝓤 (Said r t))) (next-said 𝓛 mem run κ q r t) $
@@ -168,8 +168,8 @@ module _ {M : Type 1} {𝓤 : Ura M} (𝓛 : Logic 𝓤) (F : Content) where
         use1 𝓛 (‵ (Held κ 1 t)) (held_out 𝓛 κ 1 t) $ done !
 
     -- whoever shows the walk meets the contract
-    meets-by : (run : Fun 𝓤) → ((vs : List Val) → Mono 𝓤 (run vs)) → Walk run → Meets 𝓛 item.signature run (closing 𝓛 item.ended Hands)
-    meets-by run mono walk = walk_Meets 𝓛 item.ended stayed (
+    meets_by : (run : Fun 𝓤) → ((vs : List Val) → Mono 𝓤 (run vs)) → Walk run → Meets 𝓛 item.signature run (closing 𝓛 item.ended Hands)
+    meets_by run mono walk = walk_Meets 𝓛 item.ended stayed (
       Goes-none_slice 𝓛 1 (0 ∷ []) tt (plain (λ _. u8)) yes,
       (Goes-none 𝓛 1 (λ _. S.the_row) yes (λ κs x f. refl), (Goes-none 𝓛 1 (λ _. usize) yes (λ κs x f. refl), tt)),
     ) Hands run mono (walked 𝓛 item.ended stayed Hands run
@@ -189,13 +189,13 @@ module _ {M : Type 1} {𝓤 : Ura M} (𝓛 : Logic 𝓤) (𝓜 : Model 𝓤 𝓛
   open 𝓛 use {H}
 
   pub stands : (env : R.Env) (key : Name) (fn : Fn) → Closed 𝓤 H (tables 𝓤 H 𝓜 𝓡 env).C (tables 𝓤 H 𝓜 𝓡 env).Λ key fn
-      → env #reader·new ≡ new-def.routine → env #reader·decode-next ≡ next-def.routine → Walks 𝓛 F 𝓜.mem 𝓡.run fn
+      → env #reader·new ≡ new_def.routine → env #reader·decode-next ≡ next_def.routine → Walks 𝓛 F 𝓜.mem 𝓡.run fn
       → Meets 𝓛 item.signature ((tables 𝓤 H 𝓜 𝓡 env).C key) (closing 𝓛 item.ended (Hands 𝓛 F))
   unfolding tables_of
   stands env key fn unfolded is-new is-next walk =
       let 𝓣 : Tables 𝓤 H = tables_of 𝓤 H 𝓜 (tables 𝓤 H 𝓜 𝓡 env) in
       entered 𝓤 H (triple_of 𝓛 item.signature (closing 𝓛 item.ended (Hands 𝓛 F)))
       (tables 𝓤 H 𝓜 𝓡 env).C (tables 𝓤 H 𝓜 𝓡 env).Λ key fn unfolded
-      (meets-by 𝓛 F (WpFn 𝓤 H 𝓣.C 𝓣.Λ fn) (WpFn-mono 𝓤 H 𝓛.laws 𝓣 fn) (walk 𝓣.C 𝓣.Λ (fm_of 𝓤 H 𝓛.laws 𝓣)
-      (cited 𝓤 H (New 𝓛 𝓜.mem 𝓡.run) 𝓜 𝓡 env #reader·new new-def.routine is-new (new-thm.met 𝓤 𝓛 𝓜 𝓡))
-      (cited 𝓤 H (Next 𝓛 𝓜.mem 𝓡.run) 𝓜 𝓡 env #reader·decode-next next-def.routine is-next (next-thm.met 𝓤 𝓛 𝓜 𝓡))))
+      (meets_by 𝓛 F (WpFn 𝓤 H 𝓣.C 𝓣.Λ fn) (WpFn-mono 𝓤 H 𝓛.laws 𝓣 fn) (walk 𝓣.C 𝓣.Λ (fm_of 𝓤 H 𝓛.laws 𝓣)
+      (cited 𝓤 H (New 𝓛 𝓜.mem 𝓡.run) 𝓜 𝓡 env #reader·new new_def.routine is-new (new_thm.met 𝓤 𝓛 𝓜 𝓡))
+      (cited 𝓤 H (Next 𝓛 𝓜.mem 𝓡.run) 𝓜 𝓡 env #reader·decode-next next_def.routine is-next (next_thm.met 𝓤 𝓛 𝓜 𝓡))))

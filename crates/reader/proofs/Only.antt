@@ -8,43 +8,43 @@ use contract.Lifetimes.{Lfts}
 use denote.Ref.{Bor}
 use denote.Triple.Clauses.{AtExit}
 use borrow.Fn.Kinds.{Dens, res_t, ended_of}
-use Rattle.standard.proofs.Only.{Only, only-answer}
+use Rattle.standard.proofs.Only.{Only, only_answer}
 use Rattle.decode.specs.declared.decoder.SszDecoder.{SszDecoder}
-use Rattle.reader.specs.Walked.{readerAt, toldNext, itemNext, readerAfter}
+use Rattle.reader.specs.Walked.{reader_at, told_next, item_next, reader_after}
 use Rattle.reader.specs.declared.SszReader.{SszReader}
 use Rattle.reader.specs.declared.Taken.{Taken}
-use Rattle.reader.proofs.step_after.Kinds as step-after-kinds
+use Rattle.reader.proofs.step_after.Kinds as step-after_kinds
 use Rattle.reader.proofs.step_after.Reads as step-after-reads
-use Rattle.reader.proofs.item_after.Kinds as item-after-kinds
+use Rattle.reader.proofs.item_after.Kinds as item-after_kinds
 use Rattle.reader.proofs.item_after.Reads as item-after-reads
-use Rattle.reader.proofs.item_then.Kinds as item-then-kinds
-use Rattle.reader.proofs.item_then.Reads as item-then-reads
+use Rattle.reader.proofs.item_then.Kinds as item_then_kinds
+use Rattle.reader.proofs.item_then.Reads as item_then_reads
 
-pub step-after-only : Only step-after-kinds.ps step-after-kinds.r step-after-reads.Post
-step-after-only κs a x y e f p q = only-answer _ x y p q
+pub step-after_only : Only step-after_kinds.ps step-after_kinds.r step-after-reads.Post
+step-after_only κs a x y e f p q = only_answer _ x y p q
 
-pub item-after-only :
-    (κs : Lfts 1) (a : Dens κs item-after-kinds.ps) (x y : (res_t item-after-kinds.r κs).Denot)
-    (e f : AtExit (ended_of 1 item-after-kinds.ps item-after-kinds.r) κs)
+pub item-after_only :
+    (κs : Lfts 1) (a : Dens κs item-after_kinds.ps) (x y : (res_t item-after_kinds.r κs).Denot)
+    (e f : AtExit (ended_of 1 item-after_kinds.ps item-after_kinds.r) κs)
     → item-after-reads.Post κs a x e → item-after-reads.Post κs a y f → x.now ≡ y.now
-item-after-only κs a x y e f p q = only-answer _ _ _ p q
+item-after_only κs a x y e f p q = only_answer _ _ _ p q
 
-pub item-then-only :
-    (κs : Lfts 1) (a : Dens κs item-then-kinds.ps) (x y : (res_t item-then-kinds.r κs).Denot)
-    (e f : AtExit (ended_of 1 item-then-kinds.ps item-then-kinds.r) κs)
-    → item-then-reads.Post κs a x e → item-then-reads.Post κs a y f → x.now ≡ y.now
-item-then-only κs a x y e f p q = only-answer _ _ _ p q
+pub item_then_only :
+    (κs : Lfts 1) (a : Dens κs item_then_kinds.ps) (x y : (res_t item_then_kinds.r κs).Denot)
+    (e f : AtExit (ended_of 1 item_then_kinds.ps item_then_kinds.r) κs)
+    → item_then_reads.Post κs a x e → item_then_reads.Post κs a y f → x.now ≡ y.now
+item_then_only κs a x y e f p q = only_answer _ _ _ p q
 
-pub new-only : (b : Bor (List ℕ)) (d : SszDecoder) (n : ℕ) (x y : SszReader) → x ≡ readerAt b d n → y ≡ readerAt b d n → x ≡ y
-new-only b d n x y p q = only-answer (readerAt b d n) x y p q
+pub new_only : (b : Bor (List ℕ)) (d : SszDecoder) (n : ℕ) (x y : SszReader) → x ≡ reader_at b d n → y ≡ reader_at b d n → x ≡ y
+new_only b d n x y p q = only_answer (reader_at b d n) x y p q
 
 -- What `decode_next` promises of what it gives
 abbrev Promised : SszReader → Taken → Type 0
-Promised r t = (t.told ≡ toldNext r) × ((t.item.now ≡ itemNext r) × (t.rest ≡ readerAfter r))
+Promised r t = (t.told ≡ told_next r) × ((t.item.now ≡ item_next r) × (t.rest ≡ reader_after r))
 
-pub decode-next-only :
+pub decode_next_only :
     (r : SszReader) (t u : Taken) → Promised r t → Promised r u → (t.told ≡ u.told) × ((t.item.now ≡ u.item.now) × (t.rest ≡ u.rest))
-decode-next-only r t u p q = (
-  only-answer (toldNext r) _ _ p.0 q.0,
-  (only-answer (itemNext r) _ _ p.1.0 q.1.0, only-answer (readerAfter r) _ _ p.1.1 q.1.1),
+decode_next_only r t u p q = (
+  only_answer (told_next r) _ _ p.0 q.0,
+  (only_answer (item_next r) _ _ p.1.0 q.1.0, only_answer (reader_after r) _ _ p.1.1 q.1.1),
 )

@@ -7,22 +7,22 @@ use denote.Ref.{Bor}
 use Rattle.standard.specs.declared.Told.{Told}
 use Rattle.standard.specs.declared.Refusal.{Refusal}
 use Rattle.standard.specs.declared.Refusal.TheVariants.{BadState}
-use Rattle.decode.specs.Reader.{itemTold, item_of}
+use Rattle.decode.specs.Reader.{item_told_lem, item_of}
 use Rattle.decode.specs.declared.decoder.SszDecoder.{SszDecoder}
-use Rattle.reader.specs.Walked.{nextAfter, readerAt, toldNext, itemNext, readerAfter}
+use Rattle.reader.specs.Walked.{next_after, reader_at, told_next, item_next, reader_after}
 use Rattle.reader.specs.declared.SszReader.{SszReader}
 
-pub moves : (r : SszReader) → toldNext r ≡ Told.Fine → readerAfter r ≡ readerAt r.bytes r.ranges (r.next + 1)
-moves r e = ap (λ (t : Told). readerAt r.bytes r.ranges (nextAfter t r.next)) e
+pub moves : (r : SszReader) → told_next r ≡ Told.Fine → reader_after r ≡ reader_at r.bytes r.ranges (r.next + 1)
+moves r e = ap (λ (t : Told). reader_at r.bytes r.ranges (next_after t r.next)) e
 
 -- So the second of two steps hands out the item behind the first one's.
-pub then-item : (b : Bor (List ℕ)) (d : SszDecoder) (n : ℕ) → toldNext (readerAt b d n) ≡ Told.Fine
-    → itemNext (readerAfter (readerAt b d n)) ≡ item_of d (n + 1) b.now
-then-item b d n e = ap itemNext (moves (readerAt b d n) e)
+pub then_item : (b : Bor (List ℕ)) (d : SszDecoder) (n : ℕ) → told_next (reader_at b d n) ≡ Told.Fine
+    → item_next (reader_after (reader_at b d n)) ≡ item_of d (n + 1) b.now
+then_item b d n e = ap item_next (moves (reader_at b d n) e)
 
-pub stays : (r : SszReader) (x : Refusal) → toldNext r ≡ Told.Refused x → readerAfter r ≡ r
-stays r x e = ap (λ (t : Told). readerAt r.bytes r.ranges (nextAfter t r.next)) e
+pub stays : (r : SszReader) (x : Refusal) → told_next r ≡ Told.Refused x → reader_after r ≡ r
+stays r x e = ap (λ (t : Told). reader_at r.bytes r.ranges (next_after t r.next)) e
 
-pub past-last : (r : SszReader) → r.ranges.count ≤ r.next → toldNext r ≡ Told.Refused BadState
-unfolding itemTold
+pub past-last : (r : SszReader) → r.ranges.count ≤ r.next → told_next r ≡ Told.Refused BadState
+unfolding item_told_lem
 past-last r h = rw (le-ltb _ _ h)

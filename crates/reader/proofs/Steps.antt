@@ -32,7 +32,7 @@ use denote.Triple.Clauses.{ensured, lasts}
 use Rattle.decode.specs.declared.decoder.SszDecoder.{SszDecoder}
 use Rattle.decode.specs.contracts.decoder.SszDecoder as S
 use Rattle.decode.proofs.decoder.SszDecoder.TheLaws as S'
-use Rattle.reader.specs.Walked.{readerAt, readerAfter, itemNext, toldNext}
+use Rattle.reader.specs.Walked.{reader_at, reader_after, item_next, told_next}
 use Rattle.reader.specs.declared.SszReader.{SszReader}
 use Rattle.reader.specs.declared.Taken.{Taken}
 use Rattle.reader.specs.contracts.SszReader as T
@@ -79,7 +79,7 @@ passed κ s d n = (bytes-val s ∷ [], (ranges-val d ∷ [], (vint w64 n ∷ [],
 
 -- what `decode_next` says of its result
 abbrev pub Said : SszReader → Taken → Type 0
-Said r t = (t.told ≡ toldNext r) × ((t.item.now ≡ itemNext r) × (t.rest ≡ readerAfter r))
+Said r t = (t.told ≡ told_next r) × ((t.item.now ≡ item_next r) × (t.rest ≡ reader_after r))
 
 module _ {M : Type 1} {𝓤 : Ura M} (𝓛 : Logic 𝓤) (mem : Memory → SProp 𝓤) (run : Routine → Fun 𝓤) where
   -- the contracts that the proofs cite
@@ -94,9 +94,9 @@ module _ {M : Type 1} {𝓤 : Ura M} (𝓛 : Logic 𝓤) (mem : Memory → SProp
   abbrev pub to-next : SszReader → Val → (Next 𝓛 mem run).Ghost
   to-next r u = (((κ, tt), (q, tt), tt, (r, tt), (u ∷ [], tt)), tt)
 
-  pub goes-next : (r : SszReader) (u : Val) → ent 𝓤 (⋆ 𝓛 (‵ ((B κ).own r (u ∷ [])) ∷ (‵ (flft κ q) ⊛ ‵ ftrue) ∷ []))
+  pub goes_next : (r : SszReader) (u : Val) → ent 𝓤 (⋆ 𝓛 (‵ ((B κ).own r (u ∷ [])) ∷ (‵ (flft κ q) ⊛ ‵ ftrue) ∷ []))
       ((Next 𝓛 mem run).pre (to-next r u))
-  goes-next r u = qed 𝓛 (‵ ((B κ).own r (u ∷ [])) ∷ (‵ (flft κ q) ⊛ ‵ ftrue) ∷ []) ∵ nothing ! $ move ! (1 ∷ 0 ∷ []) $ fjoin ! $ move !
+  goes_next r u = qed 𝓛 (‵ ((B κ).own r (u ∷ [])) ∷ (‵ (flft κ q) ⊛ ‵ ftrue) ∷ []) ∵ nothing ! $ move ! (1 ∷ 0 ∷ []) $ fjoin ! $ move !
       (1 ∷ 0 ∷ []) $ join ! $ frame ! $ done !
 
   -- what it gives back with the machine value u, and what is known of that
@@ -113,9 +113,9 @@ module _ {M : Type 1} {𝓤 : Ura M} (𝓛 : Logic 𝓤) (mem : Memory → SProp
     abbrev pub to-new : (New 𝓛 mem run).Ghost
     to-new = (((κ, tt), (q, tt), tt, (s, (d, (n, tt))), passed κ s d n), tt)
 
-    pub goes-new : ent 𝓤 (on_entry 𝓛 new.signature (κ, tt) (q, tt) (s, (d, (n, tt))) (passed κ s d n))
+    pub goes_new : ent 𝓤 (on_entry 𝓛 new.signature (κ, tt) (q, tt) (s, (d, (n, tt))) (passed κ s d n))
         (sep 𝓤 ((New 𝓛 mem run).pre to-new) (sem 𝓛 (Own κ s)))
-    goes-new =
+    goes_new =
         qed 𝓛 ((‵ (flft κ q) ⊛ ‵ ftrue) ∷ ‵ (owns (ShrSlice (named 0) κ u8 ∷ S.the_row ∷ usize ∷ []) (s, (d, (n, tt))) (passed κ s d n)) ∷ []) ∵
         move ! (1 ∷ []) $ fsplit ! $ use1 𝓛 (‵ (Own κ s) ⊛ ‵ (Own κ s)) ((shr_slice_copy 𝓛 (named 0) κ u8).twice s (bytes-val s ∷ [])) $ split ! $
         move ! (0 ∷ 2 ∷ []) $ fjoin ! $ move ! (2 ∷ 0 ∷ []) $
@@ -127,8 +127,8 @@ module _ {M : Type 1} {𝓤 : Ura M} (𝓛 : Logic 𝓤) (mem : Memory → SProp
         later (some (λ (r : SszReader). ((‵ (flft κ q) ⊛ ‵ ftrue) ⊛ ‵ ((B κ).own r (u ∷ [])))
         ⊛ raw (ensured 𝓛 new.ended (new.clauses 𝓛 mem run) (κ, tt) (s, (d, (n, tt))) tt r)))
 
-    pub new-said : (r : SszReader) → ent 𝓤 (ensured 𝓛 new.ended (new.clauses 𝓛 mem run) (κ, tt) (s, (d, (n, tt))) tt r) (fact 𝓤 (r ≡ readerAt s d n))
-    new-said r = ex_e 𝓤 _ (λ ws. snd∗ 𝓤 (sem 𝓛 (lasts new.ended (κ, tt) (s, (d, (n, tt))) ws)) (fact 𝓤 (r ≡ readerAt s d n)))
+    pub new-said : (r : SszReader) → ent 𝓤 (ensured 𝓛 new.ended (new.clauses 𝓛 mem run) (κ, tt) (s, (d, (n, tt))) tt r) (fact 𝓤 (r ≡ reader_at s d n))
+    new-said r = ex_e 𝓤 _ (λ ws. snd∗ 𝓤 (sem 𝓛 (lasts new.ended (κ, tt) (s, (d, (n, tt))) ws)) (fact 𝓤 (r ≡ reader_at s d n)))
 
 -- What an answer's field k owns, taken out of what the answer owns
 abbrev pub Held : (κ : Lft) → ℕ → Taken → Fml

@@ -3,27 +3,27 @@ use Rattle.std.specs.Prelude.{ℕ, ◌+◌, List, length}
 use Rattle.std.specs.Borrow.{Bor}
 use Rattle.standard.specs.declared.Told.{Told}
 use Rattle.decode.specs.declared.decoder.SszDecoder.{SszDecoder}
-use Rattle.decode.specs.Reader.{itemTold, item_of}
+use Rattle.decode.specs.Reader.{item_told_lem, item_of}
 use Rattle.reader.specs.declared.ReaderStep.{ReaderStep}
 use Rattle.reader.specs.declared.SszReader.{SszReader}
 
 -- The number behind an item that there is
-abbrev pub nextAfter : Told → ℕ → ℕ
-nextAfter Told.Fine n = n + 1
-nextAfter (Told.Refused r) n = n
+abbrev pub next_after : Told → ℕ → ℕ
+next_after Told.Fine n = n + 1
+next_after (Told.Refused r) n = n
 
-abbrev pub stepAfter : SszDecoder → ℕ → ℕ → ReaderStep
-stepAfter d n len = record { told = itemTold d n len; next = nextAfter (itemTold d n len) n }
+abbrev pub step_after_lem : SszDecoder → ℕ → ℕ → ReaderStep
+step_after_lem d n len = record { told = item_told_lem d n len; next = next_after (item_told_lem d n len) n }
 
-abbrev pub readerAt : Bor (List ℕ) → SszDecoder → ℕ → SszReader
-readerAt b d n = record { bytes = b; ranges = d; next = n }
+abbrev pub reader_at : Bor (List ℕ) → SszDecoder → ℕ → SszReader
+reader_at b d n = record { bytes = b; ranges = d; next = n }
 
 -- "hands out the next item as a part of the slice and the reader that comes after it; past the last it answers 23"
-abbrev pub toldNext : SszReader → Told
-toldNext r = itemTold r.ranges r.next (length r.bytes.now)
+abbrev pub told_next : SszReader → Told
+told_next r = item_told_lem r.ranges r.next (length r.bytes.now)
 
-abbrev pub itemNext : SszReader → List ℕ
-itemNext r = item_of r.ranges r.next r.bytes.now
+abbrev pub item_next : SszReader → List ℕ
+item_next r = item_of r.ranges r.next r.bytes.now
 
-abbrev pub readerAfter : SszReader → SszReader
-readerAfter r = record { bytes = r.bytes; ranges = r.ranges; next = nextAfter (toldNext r) r.next }
+abbrev pub reader_after : SszReader → SszReader
+reader_after r = record { bytes = r.bytes; ranges = r.ranges; next = next_after (told_next r) r.next }

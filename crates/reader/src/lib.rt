@@ -2,8 +2,8 @@
 // the number of the next item. The source's name stands for the ranges themselves here, in crate `decode`. A function over a struct that
 // holds a slice is proved by a walk of its code by hand, so they are few, and leave the work to `step_after` and `SszDecoder::item`.
 ghost use Rattle.std.specs.Prelude.{◌≡◌, length};
-ghost use Rattle.decode.specs.Reader.{itemTold, item_of};
-ghost use Rattle.reader.specs.Walked.{stepAfter, readerAt, toldNext, itemNext, readerAfter};
+ghost use Rattle.decode.specs.Reader.{item_told_lem, item_of};
+ghost use Rattle.reader.specs.Walked.{step_after_lem, reader_at, told_next, item_next, reader_after};
 
 use decode::decoder::SszDecoder;
 use standard::Told;
@@ -32,7 +32,7 @@ pub struct Taken<'a> {
 
 // The work, on numbers.
 pub fn step_after(ranges: SszDecoder, next: usize, len: usize) -> ReaderStep
-    ensures { result ≡ stepAfter ranges next len }
+    ensures { result ≡ step_after_lem ranges next len }
 {
     let told = ranges.item_told(next, len);
     match told {
@@ -49,7 +49,7 @@ pub fn step_after(ranges: SszDecoder, next: usize, len: usize) -> ReaderStep
 
 // A reader of a built state, from a number on: 0 reads all.
 pub fn new<'a>(bytes: &'a [u8], ranges: SszDecoder, next: usize) -> SszReader<'a>
-    ensures { result ≡ readerAt bytes.entry ranges next }
+    ensures { result ≡ reader_at bytes.entry ranges next }
 {
     SszReader {
         bytes,
@@ -60,7 +60,7 @@ pub fn new<'a>(bytes: &'a [u8], ranges: SszDecoder, next: usize) -> SszReader<'a
 
 // The next item, told 23 past the last one, and the reader that comes after it.
 pub fn decode_next<'a>(r: SszReader<'a>) -> Taken<'a>
-    ensures { (result.told ≡ toldNext r.entry) × ((result.item.now ≡ itemNext r.entry) × (result.rest ≡ readerAfter r.entry)) }
+    ensures { (result.told ≡ told_next r.entry) × ((result.item.now ≡ item_next r.entry) × (result.rest ≡ reader_after r.entry)) }
 {
     let bytes = r.bytes;
     let ranges = r.ranges;
@@ -89,7 +89,7 @@ pub fn item_after<'a>(bytes: &'a [u8], ranges: SszDecoder, skip: usize) -> &'a [
 // The item behind the one that is behind so many, by a reader that goes on: the second step is one of the reader that the first leaves.
 // Where the first is refused, that reader still stands at its item.
 pub fn item_then<'a>(bytes: &'a [u8], ranges: SszDecoder, skip: usize) -> &'a [u8]
-    ensures { result.now ≡ itemNext (readerAfter (readerAt bytes.entry ranges skip)) }
+    ensures { result.now ≡ item_next (reader_after (reader_at bytes.entry ranges skip)) }
 {
     let first = decode_next(new(bytes, ranges, skip));
     let second = decode_next(first.rest);

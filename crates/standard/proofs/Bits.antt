@@ -11,108 +11,108 @@ use lib.Pow as Pow
 use lib.ListN.{length, take, drop, length-append, length-take}
 use Rattle.standard.specs.Bytes.{Bytes, le, num}
 unfoldable pub use Rattle.standard.specs.Bits.{bits_of}
-use Rattle.standard.specs.Bits.{bit, bitNum, packs, pack, marked}
+use Rattle.standard.specs.Bits.{bit, bit_num, packs, pack, marked}
 use Rattle.standard.proofs.Bytes.{length-le, bytes_le, bytes-append, le-num, num-le, num-bound}
 
 -- Widths in bytes and in bits
-pub pow-bytes : (w : ℕ) → 256 ^ w ≡ 2 ^ (8 * w)
-pow-bytes zero = refl
-pow-bytes (suc w) =
+pub pow_bytes : (w : ℕ) → 256 ^ w ≡ 2 ^ (8 * w)
+pow_bytes zero = refl
+pow_bytes (suc w) =
     let e : 8 * suc w ≡ 8 + 8 * w = omega arith in
-    let q = pow-bytes w in
+    let q = pow_bytes w in
     rw (e, pow-add 2 8 (8 * w), pow-succ' 256 w) (omega arith)
 
 -- The number of some bits, cut in two
-pub bitNum-split : (k : ℕ) (bs : List Bool) → bitNum bs ≡ bitNum (take k bs) + 2 ^ k * bitNum (drop k bs)
-unfolding bitNum
-bitNum-split zero bs = omega arith
-bitNum-split (suc k) [] = omega arith
-bitNum-split (suc k) (x ∷ xs) = let r = bitNum-split k xs in rw (pow-succ' 2 k) (omega arith)
+pub bit_num-split : (k : ℕ) (bs : List Bool) → bit_num bs ≡ bit_num (take k bs) + 2 ^ k * bit_num (drop k bs)
+unfolding bit_num
+bit_num-split zero bs = omega arith
+bit_num-split (suc k) [] = omega arith
+bit_num-split (suc k) (x ∷ xs) = let r = bit_num-split k xs in rw (pow-succ' 2 k) (omega arith)
 
 pub bit-bound : (x : Bool) → bit x < 2
 bit-bound true = omega arith
 bit-bound false = omega arith
 
-pub bitNum-bound : (bs : List Bool) → bitNum bs < 2 ^ length bs
-unfolding bitNum
-bitNum-bound [] = omega arith
-bitNum-bound (x ∷ xs) =
-    let r = bitNum-bound xs in
+pub bit_num-bound : (bs : List Bool) → bit_num bs < 2 ^ length bs
+unfolding bit_num
+bit_num-bound [] = omega arith
+bit_num-bound (x ∷ xs) =
+    let r = bit_num-bound xs in
     let b = bit-bound x in
     rw (pow-succ' 2 (length xs)) (omega arith)
 
-first-bound : (k : ℕ) (bs : List Bool) → bitNum (take k bs) < 2 ^ k
+first-bound : (k : ℕ) (bs : List Bool) → bit_num (take k bs) < 2 ^ k
 first-bound k bs =
-    let r = bitNum-bound (take k bs) in
+    let r = bit_num-bound (take k bs) in
     let m : length (take k bs) ≤ k = rw length-take (omega arith) in
     let p = pow_mono m in
     omega arith
 
-pub bitNum-take : (k : ℕ) (bs : List Bool) → bitNum (take k bs) ≡ bitNum bs % 2 ^ k
-bitNum-take k bs =
-    let e : bitNum bs ≡ bitNum (drop k bs) * 2 ^ k + bitNum (take k bs) = omega (arith, bitNum-split k bs) in
-    rw e (sym (Pow.low (bitNum (drop k bs)) k (first-bound k bs)))
+pub bit_num-take : (k : ℕ) (bs : List Bool) → bit_num (take k bs) ≡ bit_num bs % 2 ^ k
+bit_num-take k bs =
+    let e : bit_num bs ≡ bit_num (drop k bs) * 2 ^ k + bit_num (take k bs) = omega (arith, bit_num-split k bs) in
+    rw e (sym (Pow.low (bit_num (drop k bs)) k (first-bound k bs)))
 
-pub bitNum-drop : (k : ℕ) (bs : List Bool) → bitNum (drop k bs) ≡ bitNum bs / 2 ^ k
-bitNum-drop k bs =
-    let e : bitNum bs ≡ bitNum (drop k bs) * 2 ^ k + bitNum (take k bs) = omega (arith, bitNum-split k bs) in
-    rw e (sym (Pow.high (bitNum (drop k bs)) k (first-bound k bs)))
+pub bit_num-drop : (k : ℕ) (bs : List Bool) → bit_num (drop k bs) ≡ bit_num bs / 2 ^ k
+bit_num-drop k bs =
+    let e : bit_num bs ≡ bit_num (drop k bs) * 2 ^ k + bit_num (take k bs) = omega (arith, bit_num-split k bs) in
+    rw e (sym (Pow.high (bit_num (drop k bs)) k (first-bound k bs)))
 
 -- The bytes that hold some bits are the number of the bits in bytes.
-pub packs-le : (n : ℕ) (bs : List Bool) → packs n bs ≡ le n (bitNum bs)
+pub packs-le : (n : ℕ) (bs : List Bool) → packs n bs ≡ le n (bit_num bs)
 unfolding packs le
 packs-le zero bs = refl
-packs-le (suc n) bs = rw (packs-le n (drop 8 bs), bitNum-take 8 bs, bitNum-drop 8 bs)
+packs-le (suc n) bs = rw (packs-le n (drop 8 bs), bit_num-take 8 bs, bit_num-drop 8 bs)
 
 pub length-packs : (n : ℕ) (bs : List Bool) → length (packs n bs) ≡ n
-length-packs n bs = rw (packs-le n bs, length-le n (bitNum bs))
+length-packs n bs = rw (packs-le n bs, length-le n (bit_num bs))
 
 pub bytes-packs : (n : ℕ) (bs : List Bool) → Bytes (packs n bs)
-bytes-packs n bs = rw (packs-le n bs) (bytes_le n (bitNum bs))
+bytes-packs n bs = rw (packs-le n bs) (bytes_le n (bit_num bs))
 
-pub num-packs : (n : ℕ) (bs : List Bool) → length bs ≤ 8 * n → num (packs n bs) ≡ bitNum bs
+pub num-packs : (n : ℕ) (bs : List Bool) → length bs ≤ 8 * n → num (packs n bs) ≡ bit_num bs
 num-packs n bs h =
-    let b = bitNum-bound bs in
+    let b = bit_num-bound bs in
     let p = pow_mono h in
-    let e = pow-bytes n in
-    rw (packs-le n bs) (num-le n (bitNum bs) (omega arith))
+    let e = pow_bytes n in
+    rw (packs-le n bs) (num-le n (bit_num bs) (omega arith))
 
 -- The lowest bits of a number.
-pub length-bitsOf : (k n : ℕ) → length (bits_of k n) ≡ k
+pub length-bits_of : (k n : ℕ) → length (bits_of k n) ≡ k
 unfolding bits_of
-length-bitsOf zero n = refl
-length-bitsOf (suc k) n = ap suc (length-bitsOf k (n / 2))
+length-bits_of zero n = refl
+length-bits_of (suc k) n = ap suc (length-bits_of k (n / 2))
 
 bit-odd : (m : ℕ) → m < 2 → bit (eqb m 1) ≡ m
 bit-odd zero h = refl
 bit-odd (suc zero) h = refl
 bit-odd (suc (suc m)) h = absurd (omega arith)
 
-pub bitNum-low : (k n : ℕ) → bitNum (bits_of k n) ≡ n % 2 ^ k
-unfolding bits_of bitNum
-bitNum-low zero n = omega arith
-bitNum-low (suc k) n =
+pub bit_num-low : (k n : ℕ) → bit_num (bits_of k n) ≡ n % 2 ^ k
+unfolding bits_of bit_num
+bit_num-low zero n = omega arith
+bit_num-low (suc k) n =
     let b = bit-odd (n % 2) (omega arith) in
-    let r = bitNum-low k (n / 2) in
+    let r = bit_num-low k (n / 2) in
     let m = Pow.mod-pow-add n k 1 in
     let e : suc k ≡ k + 1 = omega arith in
     rw (b, r, e, m) (omega arith)
 
-pub bitNum-bitsOf : (k n : ℕ) → n < 2 ^ k → bitNum (bits_of k n) ≡ n
-bitNum-bitsOf k n h = bitNum-low k n ∙ mod-eq_of_lt h
+pub bit_num-bits_of : (k n : ℕ) → n < 2 ^ k → bit_num (bits_of k n) ≡ n
+bit_num-bits_of k n h = bit_num-low k n ∙ mod-eq_of_lt h
 
 pub odd-bit : (x : Bool) (m : ℕ) → eqb ((bit x + 2 * m) % 2) 1 ≡ x
 odd-bit true m = let e : (1 + 2 * m) % 2 ≡ 1 = omega arith in rw e
 odd-bit false m = let e : (0 + 2 * m) % 2 ≡ 0 = omega arith in rw e
 
-pub half-bit : (x : Bool) (m : ℕ) → (bit x + 2 * m) / 2 ≡ m
-half-bit true m = omega arith
-half-bit false m = omega arith
+pub half_bit : (x : Bool) (m : ℕ) → (bit x + 2 * m) / 2 ≡ m
+half_bit true m = omega arith
+half_bit false m = omega arith
 
-pub bitsOf-bitNum : (bs : List Bool) → bits_of (length bs) (bitNum bs) ≡ bs
-unfolding bits_of bitNum
-bitsOf-bitNum [] = refl
-bitsOf-bitNum (x ∷ xs) = rw (odd-bit x (bitNum xs), half-bit x (bitNum xs), bitsOf-bitNum xs)
+pub bits_of-bit_num : (bs : List Bool) → bits_of (length bs) (bit_num bs) ≡ bs
+unfolding bits_of bit_num
+bits_of-bit_num [] = refl
+bits_of-bit_num (x ∷ xs) = rw (odd-bit x (bit_num xs), half_bit x (bit_num xs), bits_of-bit_num xs)
 
 -- Bit vectors
 pub length-pack : (bs : List Bool) → length (pack bs) ≡ (length bs + 7) / 8
@@ -123,20 +123,20 @@ pub bytes-pack : (bs : List Bool) → Bytes (pack bs)
 unfolding pack
 bytes-pack bs = bytes-packs _ bs
 
-pub num-pack : (bs : List Bool) → num (pack bs) ≡ bitNum bs
+pub num-pack : (bs : List Bool) → num (pack bs) ≡ bit_num bs
 unfolding pack
 num-pack bs = num-packs ((length bs + 7) / 8) bs (omega arith)
 
-pub bitNum-injective : (xs ys : List Bool) → length xs ≡ length ys → bitNum xs ≡ bitNum ys → xs ≡ ys
-bitNum-injective xs ys h e = sym (bitsOf-bitNum xs) ∙ rw (h, e) (bitsOf-bitNum ys)
+pub bit_num-injective : (xs ys : List Bool) → length xs ≡ length ys → bit_num xs ≡ bit_num ys → xs ≡ ys
+bit_num-injective xs ys h e = sym (bits_of-bit_num xs) ∙ rw (h, e) (bits_of-bit_num ys)
 
 pub pack-injective : (xs ys : List Bool) → length xs ≡ length ys → pack xs ≡ pack ys → xs ≡ ys
-pack-injective xs ys h e = bitNum-injective xs ys h (sym (num-pack xs) ∙ ap num e ∙ num-pack ys)
+pack-injective xs ys h e = bit_num-injective xs ys h (sym (num-pack xs) ∙ ap num e ∙ num-pack ys)
 
 pub pack-bits : (l : List ℕ) (n : ℕ) → Bytes l → length l ≡ (n + 7) / 8 → num l < 2 ^ n → pack (bits_of n (num l)) ≡ l
 unfolding pack
 pack-bits l n b h k =
-    rw (packs-le, length-bitsOf n (num l), bitNum-bitsOf n (num l) k, ← h) (le-num l b)
+    rw (packs-le, length-bits_of n (num l), bit_num-bits_of n (num l) k, ← h) (le-num l b)
 
 -- Bit lists
 pub length_marked : (bs : List Bool) → length (marked bs) ≡ length bs / 8 + 1
@@ -147,14 +147,14 @@ pub bytes-marked : (bs : List Bool) → Bytes (marked bs)
 unfolding marked
 bytes-marked bs = bytes-pack _
 
-pub bitNum-marked : (bs : List Bool) → bitNum (bs ++ (true ∷ [])) ≡ bitNum bs + 2 ^ length bs
-unfolding bitNum
-bitNum-marked [] = refl
-bitNum-marked (x ∷ xs) = let r = bitNum-marked xs in rw (pow-succ' 2 (length xs)) (omega arith)
+pub bit_num-marked : (bs : List Bool) → bit_num (bs ++ (true ∷ [])) ≡ bit_num bs + 2 ^ length bs
+unfolding bit_num
+bit_num-marked [] = refl
+bit_num-marked (x ∷ xs) = let r = bit_num-marked xs in rw (pow-succ' 2 (length xs)) (omega arith)
 
-pub num-marked : (bs : List Bool) → num (marked bs) ≡ bitNum bs + 2 ^ length bs
+pub num-marked : (bs : List Bool) → num (marked bs) ≡ bit_num bs + 2 ^ length bs
 unfolding marked
-num-marked bs = num-pack _ ∙ bitNum-marked bs
+num-marked bs = num-pack _ ∙ bit_num-marked bs
 
 heads : (x y : Bool) (m n : ℕ) → bit x + 2 * m ≡ bit y + 2 * n → (x ≡ y) × (m ≡ n)
 heads true true m n e = (refl, omega arith)
@@ -166,11 +166,11 @@ alone : (y : Bool) (m : ℕ) → 1 ≤ m → bit y + 2 * m ≡ 1 → ⊥
 alone true m h e = omega arith
 alone false m h e = omega arith
 
-some-marked : (bs : List Bool) → 1 ≤ bitNum (bs ++ (true ∷ []))
-some-marked bs = let r = bitNum-marked bs in let p = pow_pos (length bs) in omega arith
+some-marked : (bs : List Bool) → 1 ≤ bit_num (bs ++ (true ∷ []))
+some-marked bs = let r = bit_num-marked bs in let p = pow_pos (length bs) in omega arith
 
-marks : (xs ys : List Bool) → bitNum (xs ++ (true ∷ [])) ≡ bitNum (ys ++ (true ∷ [])) → xs ≡ ys
-unfolding bitNum
+marks : (xs ys : List Bool) → bit_num (xs ++ (true ∷ [])) ≡ bit_num (ys ++ (true ∷ [])) → xs ≡ ys
+unfolding bit_num
 marks [] [] e = refl
 marks [] (y ∷ ys) e = absurd (alone y _ (some-marked ys) (sym e))
 marks (x ∷ xs) [] e = absurd (alone x _ (some-marked xs) e)
@@ -190,10 +190,10 @@ unfolding marked pack
 marked-bits l k b h from to =
     let n = num l in
     let top : n % 2 ^ k ≡ n - 2 ^ k = rest n (2 ^ k) from (rw (pow-succ' 2 k) at to) in
-    let e : bitNum (bits_of k n ++ (true ∷ [])) ≡ n =
-    rw (bitNum-marked, length-bitsOf k n, bitNum-low k n, top) (omega arith) in
+    let e : bit_num (bits_of k n ++ (true ∷ [])) ≡ n =
+    rw (bit_num-marked, length-bits_of k n, bit_num-low k n, top) (omega arith) in
     let w : (length (bits_of k n ++ (true ∷ [])) + 7) / 8 ≡ length l =
-    rw (length-append, length-bitsOf k n) (omega arith) in
+    rw (length-append, length-bits_of k n) (omega arith) in
     rw (packs-le, w, e) (le-num l b)
   where
     rest : (n p : ℕ) → p ≤ n → n < 2 * p → n % p ≡ n - p
@@ -214,14 +214,14 @@ num-append (x ∷ xs) b = let r = num-append xs b in rw (pow-succ' 256 (length x
 pub top_from : (l : List ℕ) (x h : ℕ) → 2 ^ h ≤ x → 2 ^ (8 * length l + h) ≤ num (l ++ (x ∷ []))
 unfolding num
 top_from l x h from =
-    let p = pow-bytes (length l) in
+    let p = pow_bytes (length l) in
     let m = mul-le-mul_left (256 ^ length l) from in
     rw (num-append l (x ∷ []), pow-add 2 (8 * length l) h, ← p) (omega arith)
 
 pub top_to : (l : List ℕ) (x h : ℕ) → Bytes l → x < 2 ^ suc h → num (l ++ (x ∷ [])) < 2 ^ suc (8 * length l + h)
 unfolding num
 top_to l x h b to =
-    let p = pow-bytes (length l) in
+    let p = pow_bytes (length l) in
     let n = num-bound l b in
     let m = mul-le-mul_left {m = suc x} (256 ^ length l) to in
     let e : suc (8 * length l + h) ≡ 8 * length l + suc h = omega arith in

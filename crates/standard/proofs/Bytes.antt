@@ -71,23 +71,23 @@ pub num-injective : (a b : List ℕ) → Bytes a → Bytes b → length a ≡ le
 num-injective a b h k l e = sym (le-num a h) ∙ rw (l, e) (le-num b k)
 
 -- A number at a place.
-pub numAt-drop : (w : ℕ) (b : List ℕ) (p : ℕ) → num_at w (drop p b) 0 ≡ num_at w b p
+pub num_at-drop : (w : ℕ) (b : List ℕ) (p : ℕ) → num_at w (drop p b) 0 ≡ num_at w b p
 unfolding num_at
-numAt-drop w b p = refl
+num_at-drop w b p = refl
 
-pub le-numAt : (w : ℕ) (b : List ℕ) (p : ℕ) → Bytes b → p + w ≤ length b → le w (num_at w b p) ≡ take w (drop p b)
+pub le-num_at : (w : ℕ) (b : List ℕ) (p : ℕ) → Bytes b → p + w ≤ length b → le w (num_at w b p) ≡ take w (drop p b)
 unfolding num_at
-le-numAt w b p h k =
+le-num_at w b p h k =
     let l : length (take w (drop p b)) ≡ w = simp (length-take, length-drop) (omega arith) in
     rw l at (le-num (take w (drop p b)) (bytes_take w (drop p b) (bytes_drop p b h)))
 
-pub numAt-le : (w n : ℕ) (xs : List ℕ) → n < 256 ^ w → num_at w (le w n ++ xs) 0 ≡ n
+pub num_at-le : (w n : ℕ) (xs : List ℕ) → n < 256 ^ w → num_at w (le w n ++ xs) 0 ≡ n
 unfolding num_at
-numAt-le w n xs h = rw (take_at (le w n) xs w (length-le w n)) (num-le w n h)
+num_at-le w n xs h = rw (take_at (le w n) xs w (length-le w n)) (num-le w n h)
 
-pub numAt-bound : (w : ℕ) (b : List ℕ) (p : ℕ) → Bytes b → p + w ≤ length b → num_at w b p < 256 ^ w
+pub num_at-bound : (w : ℕ) (b : List ℕ) (p : ℕ) → Bytes b → p + w ≤ length b → num_at w b p < 256 ^ w
 unfolding num_at
-numAt-bound w b p h k =
+num_at-bound w b p h k =
     let l : length (take w (drop p b)) ≡ w = simp (length-take, length-drop) (omega arith) in
     rw l at (num-bound (take w (drop p b)) (bytes_take w (drop p b) (bytes_drop p b h)))
 

@@ -1,6 +1,6 @@
 -- Elements are fields: n elements of one type are read, written and laid out as n fields of it. Assumes nothing.
 --     copies        n fields of one type
---     by-copies     what holds of every row of such fields holds of every list of elements
+--     by_copies     what holds of every row of such fields holds of every list of elements
 -- So a law about a row of fields, from a law P about each of its types (`All P`), is a law about elements too.
 use mathlib.Core.Path.{◌≡◌, refl, sym, ap, ap₂, ◌∙◌}
 use mathlib.Core.List.{List, [], ◌∷◌, ◌++◌}
@@ -10,7 +10,7 @@ use lib.ListN.{length, replicate}
 use Rattle.standard.specs.Types.{Ty, Tys, end, field, head, heads, width, portion, times}
 use Rattle.standard.specs.Parts.{Part, piece, alike}
 use Rattle.standard.specs.Serialize.{Val, Vals, Each, Ok, OkAll, serialize, parts}
-use Rattle.standard.specs.Pieces.{Piece, field_at, nextFixed, nextVariable, pieces, fieldPieces, alikePieces}
+use Rattle.standard.specs.Pieces.{Piece, field_at, next_fixed, next_variable, pieces, field_pieces, alike_pieces}
 use Rattle.standard.specs.declared.Head.{Head}
 use Rattle.standard.specs.declared.Head.TheVariants.{Fixed, Variable}
 
@@ -34,49 +34,49 @@ heads-copies e zero = refl
 heads-copies e (suc n) = ap (λ (hs : List Head). head e ∷ hs) (heads-copies e n)
 
 -- Their values as a list, and every list is one of some fields' values.
-abbrev pub asList : (e : Ty) (n : ℕ) → Vals (copies e n) → List (Val e)
-asList e zero vs = []
-asList e (suc n) vs = vs.0 ∷ asList e n vs.1
+abbrev pub as_list : (e : Ty) (n : ℕ) → Vals (copies e n) → List (Val e)
+as_list e zero vs = []
+as_list e (suc n) vs = vs.0 ∷ as_list e n vs.1
 
-pub length-asList : (e : Ty) (n : ℕ) (vs : Vals (copies e n)) → length (asList e n vs) ≡ n
-length-asList e zero vs = refl
-length-asList e (suc n) vs = ap suc (length-asList e n vs.1)
+pub length-as_list : (e : Ty) (n : ℕ) (vs : Vals (copies e n)) → length (as_list e n vs) ≡ n
+length-as_list e zero vs = refl
+length-as_list e (suc n) vs = ap suc (length-as_list e n vs.1)
 
-asFields : (e : Ty) (vs : List (Val e)) → (n : ℕ) × (ws : Vals (copies e n)) × (asList e n ws ≡ vs)
-asFields e [] = (0, tt, refl)
-asFields e (v ∷ vs) =
-    let r = asFields e vs in
+as_fields : (e : Ty) (vs : List (Val e)) → (n : ℕ) × (ws : Vals (copies e n)) × (as_list e n ws ≡ vs)
+as_fields e [] = (0, tt, refl)
+as_fields e (v ∷ vs) =
+    let r = as_fields e vs in
     (suc r.0, (v, r.1), ap (λ (xs : List (Val e)). v ∷ xs) r.2)
 
-pub by-copies : (e : Ty) (P : List (Val e) → Type 0) → ((n : ℕ) (vs : Vals (copies e n)) → P (asList e n vs)) → (vs : List (Val e)) → P vs
-by-copies e P f vs = let r = asFields e vs in rw r.2 at (f r.0 r.1)
+pub by_copies : (e : Ty) (P : List (Val e) → Type 0) → ((n : ℕ) (vs : Vals (copies e n)) → P (as_list e n vs)) → (vs : List (Val e)) → P vs
+by_copies e P f vs = let r = as_fields e vs in rw r.2 at (f r.0 r.1)
 
 -- What is said of elements is said of those fields.
-pub alike-copies : (e : Ty) (n : ℕ) (vs : Vals (copies e n)) → alike (head e) (λ (v : Val e). serialize e v) (asList e n vs) ≡ parts (copies e n) vs
+pub alike-copies : (e : Ty) (n : ℕ) (vs : Vals (copies e n)) → alike (head e) (λ (v : Val e). serialize e v) (as_list e n vs) ≡ parts (copies e n) vs
 unfolding alike serialize
 alike-copies e zero vs = refl
 alike-copies e (suc n) vs = ap (λ (xs : List Part). piece (head e) (serialize e vs.0) ∷ xs) (alike-copies e n vs.1)
 
-pub ok-copies : (e : Ty) (n : ℕ) (vs : Vals (copies e n)) → Each (λ (v : Val e). Ok e v) (asList e n vs) → OkAll (copies e n) vs
+pub ok-copies : (e : Ty) (n : ℕ) (vs : Vals (copies e n)) → Each (λ (v : Val e). Ok e v) (as_list e n vs) → OkAll (copies e n) vs
 unfolding Each Ok
 ok-copies e zero vs h = tt
 ok-copies e (suc n) vs h = (h.0, ok-copies e n vs.1 h.1)
 
-pub copies-ok : (e : Ty) (n : ℕ) (vs : Vals (copies e n)) → OkAll (copies e n) vs → Each (λ (v : Val e). Ok e v) (asList e n vs)
+pub copies-ok : (e : Ty) (n : ℕ) (vs : Vals (copies e n)) → OkAll (copies e n) vs → Each (λ (v : Val e). Ok e v) (as_list e n vs)
 unfolding Each Ok
 copies-ok e zero vs h = tt
 copies-ok e (suc n) vs h = (h.0, copies-ok e n vs.1 h.1)
 
 pub pieces-copies :
     (e : Ty) (n : ℕ) (vs : Vals (copies e n)) (s p q : ℕ)
-    → alikePieces (head e) (λ (v : Val e). serialize e v) (λ (v : Val e) (u : ℕ). pieces e v u) (asList e n vs) s p q
-    ≡ fieldPieces (copies e n) vs s p q
-unfolding alikePieces pieces
+    → alike_pieces (head e) (λ (v : Val e). serialize e v) (λ (v : Val e) (u : ℕ). pieces e v u) (as_list e n vs) s p q
+    ≡ field_pieces (copies e n) vs s p q
+unfolding alike_pieces pieces
 pieces-copies e zero vs s p q = refl
 pieces-copies e (suc n) vs s p q =
     let b = serialize e vs.0 in
     ap (λ (ps : List Piece). field_at (head e) s p q (λ (u : ℕ). pieces e vs.0 u) ++ ps)
-    (pieces-copies e n vs.1 s (nextFixed (head e) b p) (nextVariable (head e) b q))
+    (pieces-copies e n vs.1 s (next_fixed (head e) b p) (next_variable (head e) b q))
 
 -- The fixed portion of n elements
 pub portion-copies : (n : ℕ) (h : Head) → portion (replicate n h) ≡ n * width h

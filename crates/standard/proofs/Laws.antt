@@ -14,19 +14,19 @@ use native.Mathlib.Omega.{arith}
 use lib.ListN.{length, length-append, replicate}
 use Rattle.standard.specs.Bytes.{Bytes, le, four, num}
 use Rattle.standard.specs.Bits.{bit, pack, marked}
-use Rattle.standard.specs.Types.{Ty, Tys, Opts, number, boolean, fixedBytes, freeBytes, bitVector, bitList, container, union, list, vector, end, field, over, bare, body, head, headAll, heads, joined, times, width, portion, isWidth, NoFields, Rising, LegalTy, LegalAll, LegalOptions}
-use Rattle.standard.specs.Parts.{Part, piece, alike, fixed_lengths, fronts, backs, join, partHeads, next}
+use Rattle.standard.specs.Types.{Ty, Tys, Opts, number, boolean, fixed_bytes, free_bytes, bit_vector, bit_list, container, union, list, vector, end, field, over, bare, body, head, head_all, heads, joined, times, width, portion, is_width, NoFields, Rising, LegalTy, LegalAll, LegalOptions}
+use Rattle.standard.specs.Parts.{Part, piece, alike, fixed_lengths, fronts, backs, join, part_heads, next}
 use Rattle.standard.specs.Serialize.{Val, Vals, Option, Each, Ok, OkAll, OkOption, serialize, parts, selected}
 use Rattle.standard.specs.declared.Head.{Head}
 use Rattle.standard.specs.declared.Head.TheVariants.{Fixed, Variable}
 use Rattle.standard.proofs.Bytes.{length-le, bytes_le, bytes-append, num-le}
 use Rattle.standard.proofs.Bits.{length-pack, bytes-pack, bytes-marked, pack-injective, marked-injective}
 use Rattle.standard.proofs.Join.{Size, Sized, Small, small-join, fixed-portion, length-fronts, length-join, join-next, join-injective}
-use Rattle.standard.proofs.Elements.{All, copies, all-copies, heads-copies, asList, length-asList, by-copies, alike-copies, ok-copies, portion-copies}
+use Rattle.standard.proofs.Elements.{All, copies, all-copies, heads-copies, as_list, length-as_list, by_copies, alike-copies, ok-copies, portion-copies}
 
 -- The parts of a container's value have the heads of its fields.
-pub heads-parts : (ts : Tys) (vs : Vals ts) → partHeads (parts ts vs) ≡ heads ts
-unfolding partHeads serialize heads
+pub heads-parts : (ts : Tys) (vs : Vals ts) → part_heads (parts ts vs) ≡ heads ts
+unfolding part_heads serialize heads
 heads-parts end vs = refl
 heads-parts (field t ts) vs = ap (λ (hs : List Head). head t ∷ hs) (heads-parts ts vs.1)
 
@@ -35,7 +35,7 @@ pub together : List Head → Head
 together [] = Fixed 0
 together (h ∷ hs) = joined h (together hs)
 
-pub together-all : (ts : Tys) → together (heads ts) ≡ headAll ts
+pub together-all : (ts : Tys) → together (heads ts) ≡ head_all ts
 unfolding together heads head
 together-all end = refl
 together-all (field t ts) = ap (joined (head t)) (together-all ts)
@@ -51,15 +51,15 @@ pub fixed-injective : (k m : ℕ) → Fixed k ≡ Fixed m → k ≡ m
 fixed-injective k m e = cc
 
 -- Fields of fixed size are their fixed portion.
-pub all-fixed : (ts : Tys) (m : ℕ) → headAll ts ≡ Fixed m → portion (heads ts) ≡ m
+pub all-fixed : (ts : Tys) (m : ℕ) → head_all ts ≡ Fixed m → portion (heads ts) ≡ m
 unfolding head heads portion width
 all-fixed end m e = fixed-injective 0 m e
 all-fixed (field t ts) m e =
-    let j = joined-fixed (head t) (headAll ts) m e in
+    let j = joined-fixed (head t) (head_all ts) m e in
     rw (j.2, all-fixed ts j.1 j.3) j.4
 
 -- A fixed type of the standard takes at least one byte.
-width_some : (w : ℕ) → isWidth w ≡ true → 1 ≤ w
+width_some : (w : ℕ) → is_width w ≡ true → 1 ≤ w
 width_some zero h = let w : ◌≡◌ {A = ℕ} 0 1 = cc in absurd (omega arith)
 width_some (suc n) h = omega arith
 
@@ -68,8 +68,8 @@ unfolding times
 times-fixed k (Fixed m) n e = (m, refl, fixed-injective (k * m) n e)
 times-fixed k Variable n e = let w : ◌≡◌ {A = ℕ} 0 1 = cc in absurd (omega arith)
 
-times-cancel : (n m k : ℕ) → 1 ≤ k → n * k ≡ m * k → n ≡ m
-times-cancel n m k h e = eq_of_mul-eq-mul_right k h n m e
+times_cancel : (n m k : ℕ) → 1 ≤ k → n * k ≡ m * k → n ≡ m
+times_cancel n m k h e = eq_of_mul-eq-mul_right k h n m e
 
 times-some : (k m : ℕ) → 1 ≤ k → 1 ≤ m → 1 ≤ k * m
 times-some k m h i = let q = mul-le-mul_right m h in omega arith
@@ -80,10 +80,10 @@ mutual
   pub fixed-some : (t : Ty) (n : ℕ) → LegalTy t → head t ≡ Fixed n → 1 ≤ n
   fixed-some (number t w) n l e = rw (← fixed-injective w n e) (width_some w l)
   fixed-some (boolean t) n l e = omega (arith, fixed-injective 1 n e)
-  fixed-some (fixedBytes t m) n l e = omega (arith, fixed-injective m n e)
-  fixed-some (freeBytes t limit) n l e = let w : ◌≡◌ {A = ℕ} 0 1 = cc in absurd (omega arith)
-  fixed-some (bitVector t m) n l e = omega (arith, fixed-injective ((m + 7) / 8) n e)
-  fixed-some (bitList t limit) n l e = let w : ◌≡◌ {A = ℕ} 0 1 = cc in absurd (omega arith)
+  fixed-some (fixed_bytes t m) n l e = omega (arith, fixed-injective m n e)
+  fixed-some (free_bytes t limit) n l e = let w : ◌≡◌ {A = ℕ} 0 1 = cc in absurd (omega arith)
+  fixed-some (bit_vector t m) n l e = omega (arith, fixed-injective ((m + 7) / 8) n e)
+  fixed-some (bit_list t limit) n l e = let w : ◌≡◌ {A = ℕ} 0 1 = cc in absurd (omega arith)
   fixed-some (container t ts) n l e = fields-some ts n l e
   fixed-some (union t os) n l e = let w : ◌≡◌ {A = ℕ} 0 1 = cc in absurd (omega arith)
   fixed-some (list t e limit) n l i = let w : ◌≡◌ {A = ℕ} 0 1 = cc in absurd (omega arith)
@@ -91,44 +91,44 @@ mutual
       let p = times-fixed k (head e) n i in
       rw (← p.2) (times-some k p.0 l.0 (fixed-some e p.0 l.1 p.1))
 
-  fields-some : (ts : Tys) (n : ℕ) → (NoFields ts → ⊥) × LegalAll ts → headAll ts ≡ Fixed n → 1 ≤ n
+  fields-some : (ts : Tys) (n : ℕ) → (NoFields ts → ⊥) × LegalAll ts → head_all ts ≡ Fixed n → 1 ≤ n
   fields-some end n l e = absurd (l.0 tt)
   fields-some (field t ts) n l e =
-      let p = joined-fixed (head t) (headAll ts) n e in
+      let p = joined-fixed (head t) (head_all ts) n e in
       omega (arith, fixed-some t p.0 l.1.0 p.2, p.4)
 
 -- Where all the parts are fixed, there are no backs, and the fronts are n bytes.
-flat : (xs : List Part) → Sized xs → (n : ℕ) → together (partHeads xs) ≡ Fixed n → (backs xs ≡ []) × (fixed_lengths xs ≡ n)
-unfolding together partHeads backs fixed_lengths Sized Size
+flat : (xs : List Part) → Sized xs → (n : ℕ) → together (part_heads xs) ≡ Fixed n → (backs xs ≡ []) × (fixed_lengths xs ≡ n)
+unfolding together part_heads backs fixed_lengths Sized Size
 flat [] z n q = (refl, cc)
 flat (piece Variable s ∷ xs) z n q =
-    let p = (joined-fixed Variable (together (partHeads xs)) n q).2 in
+    let p = (joined-fixed Variable (together (part_heads xs)) n q).2 in
     let w : ◌≡◌ {A = ℕ} 0 1 = cc in
     absurd (omega arith)
 flat (piece (Fixed k) s ∷ xs) z n q =
-    let p = joined-fixed (Fixed k) (together (partHeads xs)) n q in
+    let p = joined-fixed (Fixed k) (together (part_heads xs)) n q in
     let f = flat xs z.1 p.1 p.3 in
     let w : k ≡ p.0 = fixed-injective k p.0 p.2 in
     (f.0, omega (arith, f.1, p.4, z.0))
 
-pub size-join : (xs : List Part) (h : Head) → Sized xs → together (partHeads xs) ≡ h → Size h (join xs)
+pub size-join : (xs : List Part) (h : Head) → Sized xs → together (part_heads xs) ≡ h → Size h (join xs)
 unfolding Size join
 size-join xs (Fixed n) z e = let f = flat xs z n e in rw (f.0, append-nil, length-fronts) f.1
 size-join xs Variable z e = tt
 
 -- Parts that all have one head: n of them.
-same-fixed : (xs : List Part) (n k : ℕ) → Sized xs → partHeads xs ≡ replicate n (Fixed k) → (backs xs ≡ []) × (fixed_lengths xs ≡ n * k)
-unfolding partHeads backs fixed_lengths Sized Size width
+same-fixed : (xs : List Part) (n k : ℕ) → Sized xs → part_heads xs ≡ replicate n (Fixed k) → (backs xs ≡ []) × (fixed_lengths xs ≡ n * k)
+unfolding part_heads backs fixed_lengths Sized Size width
 same-fixed xs n k z e = (none xs n e, fixed-portion xs z ∙ ap portion e ∙ portion-copies n (Fixed k))
   where
-    none : (xs : List Part) (n : ℕ) → partHeads xs ≡ replicate n (Fixed k) → backs xs ≡ []
+    none : (xs : List Part) (n : ℕ) → part_heads xs ≡ replicate n (Fixed k) → backs xs ≡ []
     none [] n e = refl
     none (piece (Fixed m) s ∷ xs) zero e = let w : ◌≡◌ {A = ℕ} 0 1 = cc in absurd (omega arith)
     none (piece (Fixed m) s ∷ xs) (suc n) e = none xs n cc
     none (piece Variable s ∷ xs) zero e = let w : ◌≡◌ {A = ℕ} 0 1 = cc in absurd (omega arith)
     none (piece Variable s ∷ xs) (suc n) e = let q : Variable ≡ Fixed k = cc in let w : ◌≡◌ {A = ℕ} 0 1 = cc in absurd (omega arith)
 
-pub size-times : (xs : List Part) (n : ℕ) (h : Head) → Sized xs → partHeads xs ≡ replicate n h → Size (times n h) (join xs)
+pub size-times : (xs : List Part) (n : ℕ) (h : Head) → Sized xs → part_heads xs ≡ replicate n h → Size (times n h) (join xs)
 unfolding Size join times
 size-times xs n (Fixed k) z e = let f = same-fixed xs n k z e in rw (f.0, append-nil, length-fronts) f.1
 size-times xs n Variable z e = tt
@@ -148,16 +148,16 @@ unfolding Sizes Sized serialize Ok
 row_sized end f vs h = tt
 row_sized (field t ts) f vs h = (f.0 vs.0 h.0, row_sized ts f.1 vs.1 h.1)
 
-pub copies-heads : (e : Ty) (n : ℕ) (vs : Vals (copies e n)) → partHeads (parts (copies e n) vs) ≡ replicate n (head e)
+pub copies-heads : (e : Ty) (n : ℕ) (vs : Vals (copies e n)) → part_heads (parts (copies e n) vs) ≡ replicate n (head e)
 copies-heads e n vs = heads-parts (copies e n) vs ∙ heads-copies e n
 
 elements-size :
     (e : Ty) → Sizes e → (vs : List (Val e)) → Each (λ (v : Val e). Ok e v) vs
     → Size (times (length vs) (head e)) (join (alike (head e) (λ (v : Val e). serialize e v) vs))
 elements-size e f =
-    by-copies e _
+    by_copies e _
     (λ n vs h.
-    rw (length-asList e n vs, alike-copies e n vs)
+    rw (length-as_list e n vs, alike-copies e n vs)
     (size-times (parts (copies e n) vs) n (head e) (row_sized (copies e n) (all-copies Sizes e n f) vs (ok-copies e n vs h)) (copies-heads e n vs)))
 
 mutual
@@ -166,12 +166,12 @@ mutual
   pub value-size : (t : Ty) (v : Val t) → Ok t v → Size (head t) (serialize t v)
   value-size (number t w) n h = length-le w n
   value-size (boolean t) x h = refl
-  value-size (fixedBytes t n) bs h = h.1
-  value-size (freeBytes t limit) bs h = tt
-  value-size (bitVector t n) bs h = rw (length-pack bs, h)
-  value-size (bitList t limit) bs h = tt
+  value-size (fixed_bytes t n) bs h = h.1
+  value-size (free_bytes t limit) bs h = tt
+  value-size (bit_vector t n) bs h = rw (length-pack bs, h)
+  value-size (bit_list t limit) bs h = tt
   value-size (container t ts) vs h =
-      size-join (parts ts vs) (headAll ts) (row_sized ts (sizes ts) vs h) (ap together (heads-parts ts vs) ∙ together-all ts)
+      size-join (parts ts vs) (head_all ts) (row_sized ts (sizes ts) vs h) (ap together (heads-parts ts vs) ∙ together-all ts)
   value-size (union t os) v h = tt
   value-size (list t e limit) vs h = tt
   value-size (vector t e n) vs h = rw h.0 at (elements-size e (λ v i. value-size e v i) vs h.1)
@@ -180,8 +180,8 @@ mutual
   sizes end = tt
   sizes (field t ts) = ((λ v h. value-size t v h), sizes ts)
 
-pub values-sized : (ts : Tys) (vs : Vals ts) → OkAll ts vs → Sized (parts ts vs)
-values-sized ts vs h = row_sized ts (sizes ts) vs h
+pub values_sized : (ts : Tys) (vs : Vals ts) → OkAll ts vs → Sized (parts ts vs)
+values_sized ts vs h = row_sized ts (sizes ts) vs h
 
 -- An encoding is bytes.
 BytesAll : List Part → Type 0
@@ -221,7 +221,7 @@ elements-bytes :
     (e : Ty) → Encoded e → LegalTy e → (vs : List (Val e)) → Each (λ (v : Val e). Ok e v) vs
     → Bytes (join (alike (head e) (λ (v : Val e). serialize e v) vs))
 elements-bytes e f l =
-    by-copies e _
+    by_copies e _
     (λ n vs h.
     rw (alike-copies e n vs)
     (bytes-join (parts (copies e n) vs) (row-bytes (copies e n) (all-copies Encoded e n f) vs (legal-copies e n l) (ok-copies e n vs h))))
@@ -232,10 +232,10 @@ mutual
   pub value-bytes : (t : Ty) (v : Val t) → LegalTy t → Ok t v → Bytes (serialize t v)
   value-bytes (number t w) n l h = bytes_le w n
   value-bytes (boolean t) x l h = bytes-bit x
-  value-bytes (fixedBytes t n) bs l h = h.0
-  value-bytes (freeBytes t limit) bs l h = h.0
-  value-bytes (bitVector t n) bs l h = bytes-pack bs
-  value-bytes (bitList t limit) bs l h = bytes-marked bs
+  value-bytes (fixed_bytes t n) bs l h = h.0
+  value-bytes (free_bytes t limit) bs l h = h.0
+  value-bytes (bit_vector t n) bs l h = bytes-pack bs
+  value-bytes (bit_list t limit) bs l h = bytes-marked bs
   value-bytes (container t ts) vs l h = bytes-join (parts ts vs) (row-bytes ts (encoded ts) vs l.1 h)
   value-bytes (union t os) v l h = option-bytes os v 0 l.1 l.2 h
   value-bytes (list t e limit) vs l h = elements-bytes e (λ v i j. value-bytes e v i j) l vs h.1
@@ -280,13 +280,13 @@ payload (bare s os) (inr v) = payload os v
 payload (body s t os) (inl x) = serialize t x
 payload (body s t os) (inr v) = payload os v
 
-pub selected-is : (os : Opts) (v : Option os) → selected os v ≡ selector os v ∷ payload os v
+pub selected_is : (os : Opts) (v : Option os) → selected os v ≡ selector os v ∷ payload os v
 unfolding serialize selector payload
-selected-is over v = absurd v
-selected-is (bare s os) (inl x) = refl
-selected-is (bare s os) (inr v) = selected-is os v
-selected-is (body s t os) (inl x) = refl
-selected-is (body s t os) (inr v) = selected-is os v
+selected_is over v = absurd v
+selected_is (bare s os) (inl x) = refl
+selected_is (bare s os) (inr v) = selected_is os v
+selected_is (body s t os) (inl x) = refl
+selected_is (body s t os) (inr v) = selected_is os v
 
 pub selector-bounds : (os : Opts) (k : ℕ) (v : Option os) → Rising k os → (k ≤ selector os v) × (selector os v < 128)
 unfolding selector Rising
@@ -299,21 +299,21 @@ selector-bounds (body s t os) k (inr v) r = let q = selector-bounds os (s + 1) v
 -- A selector is none of the later ones.
 apart : {A : Type 0} (os : Opts) (s : ℕ) (r : List ℕ) (v : Option os) → Rising (s + 1) os → s ∷ r ≡ selected os v → A
 apart os s r v g e =
-    let f = e ∙ selected-is os v in
+    let f = e ∙ selected_is os v in
     let w : s ≡ selector os v = cc in
     absurd (omega (arith, selector-bounds os (s + 1) v g))
 
 -- Elements with one encoding are as many: of fixed size they have the length, of variable size the first offset behind their offsets.
 count-one :
     (h : Head) (xs ys : List Part) (n m : ℕ) → ((k : ℕ) → h ≡ Fixed k → 1 ≤ k) → Sized xs → Sized ys
-    → partHeads xs ≡ replicate n h → partHeads ys ≡ replicate m h → length (join xs) < 2 ^ 32 → join xs ≡ join ys → n ≡ m
+    → part_heads xs ≡ replicate n h → part_heads ys ≡ replicate m h → length (join xs) < 2 ^ 32 → join xs ≡ join ys → n ≡ m
 unfolding next portion width
 count-one (Fixed k) xs ys n m some z w d g small e =
     let f = same-fixed xs n k z d in
     let i = same-fixed ys m k w g in
     let p : length (join xs) ≡ n * k = length-join xs ∙ rw (f.0, f.1) (omega arith) in
     let q : length (join ys) ≡ m * k = length-join ys ∙ rw (i.0, i.1) (omega arith) in
-    times-cancel n m k (some k refl) (sym p ∙ ap length e ∙ q)
+    times_cancel n m k (some k refl) (sym p ∙ ap length e ∙ q)
 count-one Variable xs ys zero zero some z w d g small e = refl
 count-one Variable xs ys zero (suc m) some z w d g small e =
     let p = rw d at (join-next xs z small) in
@@ -346,8 +346,8 @@ rows-injective :
     (ts : Tys) → All Injective ts → (vs ws : Vals ts) → LegalAll ts → OkAll ts vs → OkAll ts ws → length (join (parts ts vs)) < 2 ^ 32
     → join (parts ts vs) ≡ join (parts ts ws) → vs ≡ ws
 rows-injective ts f vs ws l h g k e =
-    row-injective ts f vs ws l h g (small-join (parts ts vs) (values-sized ts vs h) k)
-    (join-injective (parts ts vs) (parts ts ws) (values-sized ts vs h) (values-sized ts ws g) k (heads-parts ts vs ∙ sym (heads-parts ts ws)) e)
+    row-injective ts f vs ws l h g (small-join (parts ts vs) (values_sized ts vs h) k)
+    (join-injective (parts ts vs) (parts ts ws) (values_sized ts vs h) (values_sized ts ws g) k (heads-parts ts vs ∙ sym (heads-parts ts ws)) e)
 
 -- Two lists of elements with one encoding: they are as many, so they are rows of fields of one type.
 module _ (e : Ty) (f : Injective e) (l : LegalTy e) where
@@ -356,24 +356,24 @@ module _ (e : Ty) (f : Injective e) (l : LegalTy e) where
 
   counted-injective :
       (n m : ℕ) → n ≡ m → (vs : Vals (copies e n)) (ws : Vals (copies e m)) → OkAll (copies e n) vs → OkAll (copies e m) ws
-      → length (join (parts (copies e n) vs)) < 2 ^ 32 → join (parts (copies e n) vs) ≡ join (parts (copies e m) ws) → asList e n vs ≡ asList e m ws
-  counted-injective n m q = rw q (λ vs ws h g k i. ap (asList e m) (rows-injective (copies e m) (all-copies Injective e m f) vs ws (legal-copies e m l) h g k i))
+      → length (join (parts (copies e n) vs)) < 2 ^ 32 → join (parts (copies e n) vs) ≡ join (parts (copies e m) ws) → as_list e n vs ≡ as_list e m ws
+  counted-injective n m q = rw q (λ vs ws h g k i. ap (as_list e m) (rows-injective (copies e m) (all-copies Injective e m f) vs ws (legal-copies e m l) h g k i))
 
   elements-injective :
       (vs ws : List (Val e)) → Each (λ (v : Val e). Ok e v) vs → Each (λ (v : Val e). Ok e v) ws → length (encoding vs) < 2 ^ 32
       → encoding vs ≡ encoding ws → vs ≡ ws
   unfolding encoding
   elements-injective vs ws =
-      by-copies e (λ vs. Each (λ (v : Val e). Ok e v) vs → Each (λ (v : Val e). Ok e v) ws → length (encoding vs) < 2 ^ 32 → encoding vs ≡ encoding ws → vs ≡ ws)
+      by_copies e (λ vs. Each (λ (v : Val e). Ok e v) vs → Each (λ (v : Val e). Ok e v) ws → length (encoding vs) < 2 ^ 32 → encoding vs ≡ encoding ws → vs ≡ ws)
       (λ n xs.
-      by-copies e (λ ws. Each (λ (v : Val e). Ok e v) (asList e n xs) → Each (λ (v : Val e). Ok e v) ws → length (encoding (asList e n xs)) < 2 ^ 32 → encoding (asList e n xs) ≡ encoding ws → asList e n xs ≡ ws)
+      by_copies e (λ ws. Each (λ (v : Val e). Ok e v) (as_list e n xs) → Each (λ (v : Val e). Ok e v) ws → length (encoding (as_list e n xs)) < 2 ^ 32 → encoding (as_list e n xs) ≡ encoding ws → as_list e n xs ≡ ws)
       (λ m ys h g k i.
       let o = ok-copies e n xs h in
       let p = ok-copies e m ys g in
       let small = rw (alike-copies e n xs) at k in
       let same = rw (alike-copies e n xs, alike-copies e m ys) at i in
       let q = count-one (head e) (parts (copies e n) xs) (parts (copies e m) ys) n m (λ k j. fixed-some e k l j)
-      (values-sized (copies e n) xs o) (values-sized (copies e m) ys p) (copies-heads e n xs) (copies-heads e m ys) small same in
+      (values_sized (copies e n) xs o) (values_sized (copies e m) ys p) (copies-heads e n xs) (copies-heads e m ys) small same in
       counted-injective n m q xs ys o p small same)
       ws) vs
 
@@ -383,10 +383,10 @@ mutual
   pub injective : (t : Ty) (v w : Val t) → LegalTy t → Ok t v → Ok t w → length (serialize t v) < 2 ^ 32 → serialize t v ≡ serialize t w → v ≡ w
   injective (number t w) n m l h g k e = sym (num-le w n h) ∙ ap num e ∙ num-le w m g
   injective (boolean t) x y l h g k e = bit-injective x y e
-  injective (fixedBytes t n) x y l h g k e = e
-  injective (freeBytes t limit) x y l h g k e = e
-  injective (bitVector t n) x y l h g k e = pack-injective x y (h ∙ sym g) e
-  injective (bitList t limit) x y l h g k e = marked-injective x y e
+  injective (fixed_bytes t n) x y l h g k e = e
+  injective (free_bytes t limit) x y l h g k e = e
+  injective (bit_vector t n) x y l h g k e = pack-injective x y (h ∙ sym g) e
+  injective (bit_list t limit) x y l h g k e = marked-injective x y e
   injective (container t ts) vs ws l h g k e = rows-injective ts (each-injective ts) vs ws l.1 h g k e
   injective (union t os) v w l h g k e = injective-option os v w 0 l.1 l.2 h g k e
   injective (list t a limit) vs ws l h g k e = elements-injective a (λ v w i j m n p. injective a v w i j m n p) l vs ws h.1 g.1 k e

@@ -6,15 +6,15 @@ use native.Mathlib.Omega.{arith}
 use borrow.Author.Tests.{ne_eqb}
 use lib.Dec.{eqb}
 use Rattle.standard.specs.Choice.{pick}
-use Rattle.standard.specs.Refusals.{numbersOf}
+use Rattle.standard.specs.Refusals.{numbers_of_lem}
 use Rattle.standard.specs.declared.Numbers.{Numbers}
 use Rattle.standard.specs.declared.Refusal.{Refusal}
 use Rattle.standard.specs.declared.Refusal.TheVariants.{InvalidByteLength, InvalidLengthPrefix, OutOfBoundsByte, OffsetIntoFixedPortion, OffsetSkipsVariableBytes, OffsetsAreDecreasing, OffsetOutOfBounds, UnionSelectorInvalid, OutOfBounds, MissingLengthInformation, ExcessBits, InvalidByteCount, BadBoolean, OverLimit, InvalidListFixedBytesLen, BadLayout, TooLarge, NoRoom, BadState, LimitsDiffer, BadValue, BuilderFull}
 use Rattle.standard.specs.declared.Told.{Told}
 
 -- The refusal of a number, a and b. Any other number is read as 26, which no statement below relies on.
-abbrev pub refusalOf : Numbers → Refusal
-refusalOf n =
+abbrev pub refusal_of : Numbers → Refusal
+refusal_of n =
     let a = n.a in
     let b = n.b in
     let is = eqb n.number in
@@ -40,40 +40,40 @@ refusalOf n =
     (pick (is 24) LimitsDiffer
     (pick (is 25) (BadValue a b) (BuilderFull a)))))))))))))))))))))
 
-pub refusal-back : (r : Refusal) → refusalOf (numbersOf r) ≡ r
-refusal-back (InvalidByteLength a b) = refl
-refusal-back (InvalidLengthPrefix a b) = refl
-refusal-back (OutOfBoundsByte a) = refl
-refusal-back (OffsetIntoFixedPortion a) = refl
-refusal-back (OffsetSkipsVariableBytes a) = refl
-refusal-back (OffsetsAreDecreasing a) = refl
-refusal-back (OffsetOutOfBounds a) = refl
-refusal-back (UnionSelectorInvalid a) = refl
-refusal-back (OutOfBounds a b) = refl
-refusal-back MissingLengthInformation = refl
-refusal-back ExcessBits = refl
-refusal-back (InvalidByteCount a b) = refl
-refusal-back (BadBoolean a) = refl
-refusal-back (OverLimit a b) = refl
-refusal-back (InvalidListFixedBytesLen a) = refl
-refusal-back (BadLayout a) = refl
-refusal-back TooLarge = refl
-refusal-back (NoRoom a b) = refl
-refusal-back BadState = refl
-refusal-back LimitsDiffer = refl
-refusal-back (BadValue a b) = refl
-refusal-back (BuilderFull a) = refl
+pub refusal_back : (r : Refusal) → refusal_of (numbers_of_lem r) ≡ r
+refusal_back (InvalidByteLength a b) = refl
+refusal_back (InvalidLengthPrefix a b) = refl
+refusal_back (OutOfBoundsByte a) = refl
+refusal_back (OffsetIntoFixedPortion a) = refl
+refusal_back (OffsetSkipsVariableBytes a) = refl
+refusal_back (OffsetsAreDecreasing a) = refl
+refusal_back (OffsetOutOfBounds a) = refl
+refusal_back (UnionSelectorInvalid a) = refl
+refusal_back (OutOfBounds a b) = refl
+refusal_back MissingLengthInformation = refl
+refusal_back ExcessBits = refl
+refusal_back (InvalidByteCount a b) = refl
+refusal_back (BadBoolean a) = refl
+refusal_back (OverLimit a b) = refl
+refusal_back (InvalidListFixedBytesLen a) = refl
+refusal_back (BadLayout a) = refl
+refusal_back TooLarge = refl
+refusal_back (NoRoom a b) = refl
+refusal_back BadState = refl
+refusal_back LimitsDiffer = refl
+refusal_back (BadValue a b) = refl
+refusal_back (BuilderFull a) = refl
 
 -- Two refusals with the same number, a and b are one.
-pub numbers-only : (r s : Refusal) → numbersOf r ≡ numbersOf s → r ≡ s
-numbers-only r s e = sym (refusal-back r) ∙ (ap refusalOf e ∙ refusal-back s)
+pub numbers_only : (r s : Refusal) → numbers_of_lem r ≡ numbers_of_lem s → r ≡ s
+numbers_only r s e = sym (refusal_back r) ∙ (ap refusal_of e ∙ refusal_back s)
 
 -- To name the case is to name the numbers, and the other way round.
-pub case-iff : (r s : Refusal) → (r ≡ s → numbersOf r ≡ numbersOf s) × (numbersOf r ≡ numbersOf s → r ≡ s)
-case-iff r s = (ap numbersOf, numbers-only r s)
+pub case_iff : (r s : Refusal) → (r ≡ s → numbers_of_lem r ≡ numbers_of_lem s) × (numbers_of_lem r ≡ numbers_of_lem s → r ≡ s)
+case_iff r s = (ap numbers_of_lem, numbers_only r s)
 
 -- No refusal has the number 0.
-pub number-some : (r : Refusal) → 1 ≤ (numbersOf r).number
+pub number-some : (r : Refusal) → 1 ≤ (numbers_of_lem r).number
 number-some (InvalidByteLength a b) = omega arith
 number-some (InvalidLengthPrefix a b) = omega arith
 number-some (OutOfBoundsByte a) = omega arith
@@ -98,24 +98,24 @@ number-some (BadValue a b) = omega arith
 number-some (BuilderFull a) = omega arith
 
 -- What a call tells, as numbers: "on success all 0"
-abbrev pub toldNumbers : Told → Numbers
-toldNumbers Told.Fine = record { number = 0; a = 0; b = 0 }
-toldNumbers (Told.Refused r) = numbersOf r
+abbrev pub told_numbers : Told → Numbers
+told_numbers Told.Fine = record { number = 0; a = 0; b = 0 }
+told_numbers (Told.Refused r) = numbers_of_lem r
 
 -- The other way: 0 tells that all is fine
-abbrev pub toldFrom : Numbers → Told
-toldFrom n = pick (eqb n.number 0) Told.Fine (Told.Refused (refusalOf n))
+abbrev pub told_from : Numbers → Told
+told_from n = pick (eqb n.number 0) Told.Fine (Told.Refused (refusal_of n))
 
-pub told_back : (t : Told) → toldFrom (toldNumbers t) ≡ t
+pub told_back : (t : Told) → told_from (told_numbers t) ≡ t
 told_back Told.Fine = refl
 told_back (Told.Refused r) =
-    ap (λ c. pick c Told.Fine (Told.Refused (refusalOf (numbersOf r))))
-    (ne_eqb (numbersOf r).number 0 (λ (e : (numbersOf r).number ≡ 0). omega (arith, number-some r)))
-    ∙ ap Told.Refused (refusal-back r)
+    ap (λ c. pick c Told.Fine (Told.Refused (refusal_of (numbers_of_lem r))))
+    (ne_eqb (numbers_of_lem r).number 0 (λ (e : (numbers_of_lem r).number ≡ 0). omega (arith, number-some r)))
+    ∙ ap Told.Refused (refusal_back r)
 
 -- Two calls that tell the same numbers tell the same.
-pub told-only : (t u : Told) → toldNumbers t ≡ toldNumbers u → t ≡ u
-told-only t u e = sym (told_back t) ∙ (ap toldFrom e ∙ told_back u)
+pub told_only : (t u : Told) → told_numbers t ≡ told_numbers u → t ≡ u
+told_only t u e = sym (told_back t) ∙ (ap told_from e ∙ told_back u)
 
 -- Equal number, a and b are equal numbers.
 pub numbers-same : (m n : Numbers) → m.number ≡ n.number → m.a ≡ n.a → m.b ≡ n.b → m ≡ n

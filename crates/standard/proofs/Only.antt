@@ -8,8 +8,8 @@ use borrow.Fn.Kind.{ParamKind, ResultKind}
 use borrow.Fn.Kinds.{Dens, Out, res_t, ended_of}
 
 -- d is the definition applied to the arguments at entry; x and y are two answers, or two buffers at exit, that meet the contract.
-pub only-answer : {A : Type 0} (d x y : A) → x ≡ d → y ≡ d → x ≡ y
-only-answer d x y p q = p ∙ sym q
+pub only_answer : {A : Type 0} (d x y : A) → x ≡ d → y ≡ d → x ≡ y
+only_answer d x y p q = p ∙ sym q
 
 -- Of a function's own postcondition: two answers that meet it for the same arguments are equal, whatever there is at exit.
 abbrev pub Only : {n : ℕ} (ps : List (ParamKind n)) (r : ResultKind n) → Out n ps r → Type 0

@@ -8,8 +8,8 @@ use Prim.Native.Nat.{ℕ}
 use native.Mathlib.Omega.{arith}
 use lib.ListN.{length, take, drop}
 use Rattle.standard.specs.Bytes.{le}
-use Rattle.standard.specs.Bits.{bitNum, bits_of, packs, pack, marked}
-use Rattle.standard.specs.Types.{Ty, number, boolean, bitVector, bitList, container, union, end, field, over, bare, body, head, joined}
+use Rattle.standard.specs.Bits.{bit_num, bits_of, packs, pack, marked}
+use Rattle.standard.specs.Types.{Ty, number, boolean, bit_vector, bit_list, container, union, end, field, over, bare, body, head, joined}
 use Rattle.standard.specs.Parts.{fixed_lengths, fronts, backs, join}
 use Rattle.standard.specs.Serialize.{Val, Ok, serialize}
 
@@ -52,7 +52,7 @@ fixed = container 3 (field (number 0 1) (field (number 1 8) (field (number 2 4) 
 abbrev bits : Ty
 bits =
     container 5
-    (field (bitList 0 5) (field (bitVector 1 2) (field (bitVector 2 1) (field (bitList 3 6) (field (bitVector 4 8) end)))))
+    (field (bit_list 0 5) (field (bit_vector 1 2) (field (bit_vector 2 1) (field (bit_list 3 6) (field (bit_vector 4 8) end)))))
 
 -- Union[uint16], Union[None, uint16] and Union[uint16, uint32]
 abbrev union16 : Ty
@@ -65,8 +65,8 @@ abbrev either : Ty
 either = union 2 (body 0 (number 0 2) (body 1 (number 1 4) over))
 
 -- FixedTestStruct's bytes, and BitsStruct's zero value
-abbrev fixedBytes : List ℕ
-fixedBytes = 0xab ∷ 0x33 ∷ 0x22 ∷ 0x11 ∷ 0x00 ∷ 0xdd ∷ 0xcc ∷ 0xbb ∷ 0xaa ∷ 0x78 ∷ 0x56 ∷ 0x34 ∷ 0x12 ∷ []
+abbrev fixed_bytes : List ℕ
+fixed_bytes = 0xab ∷ 0x33 ∷ 0x22 ∷ 0x11 ∷ 0x00 ∷ 0xdd ∷ 0xcc ∷ 0xbb ∷ 0xaa ∷ 0x78 ∷ 0x56 ∷ 0x34 ∷ 0x12 ∷ []
 
 abbrev zeros : Val bits
 zeros = ([], (none 2, (none 1, ([], (none 8, tt)))))
@@ -76,19 +76,19 @@ examples =
     record { type = number 0 2; value = 0x4567; bytes = 0x67 ∷ 0x45 ∷ [] }
     ∷ record { type = boolean 0; value = true; bytes = 0x01 ∷ [] }
     ∷ record { type = boolean 0; value = false; bytes = 0x00 ∷ [] }
-    ∷ record { type = bitVector 0 8; value = bits8; bytes = 0x2b ∷ [] }
-    ∷ record { type = bitList 0 8; value = bits8; bytes = 0x2b ∷ 0x01 ∷ [] }
-    ∷ record { type = bitVector 0 4; value = bits4; bytes = 0x0a ∷ [] }
-    ∷ record { type = bitList 0 4; value = bits4; bytes = 0x1a ∷ [] }
-    ∷ record { type = bitVector 0 3; value = bits3; bytes = 0x02 ∷ [] }
-    ∷ record { type = bitList 0 3; value = bits3; bytes = 0x0a ∷ [] }
-    ∷ record { type = bitVector 0 10; value = bits10; bytes = 0xc5 ∷ 0x02 ∷ [] }
-    ∷ record { type = bitList 0 16; value = bits10; bytes = 0xc5 ∷ 0x06 ∷ [] }
-    ∷ record { type = bitVector 0 16; value = bits16; bytes = 0xc5 ∷ 0xc2 ∷ [] }
-    ∷ record { type = bitList 0 16; value = bits16; bytes = 0xc5 ∷ 0xc2 ∷ 0x01 ∷ [] }
+    ∷ record { type = bit_vector 0 8; value = bits8; bytes = 0x2b ∷ [] }
+    ∷ record { type = bit_list 0 8; value = bits8; bytes = 0x2b ∷ 0x01 ∷ [] }
+    ∷ record { type = bit_vector 0 4; value = bits4; bytes = 0x0a ∷ [] }
+    ∷ record { type = bit_list 0 4; value = bits4; bytes = 0x1a ∷ [] }
+    ∷ record { type = bit_vector 0 3; value = bits3; bytes = 0x02 ∷ [] }
+    ∷ record { type = bit_list 0 3; value = bits3; bytes = 0x0a ∷ [] }
+    ∷ record { type = bit_vector 0 10; value = bits10; bytes = 0xc5 ∷ 0x02 ∷ [] }
+    ∷ record { type = bit_list 0 16; value = bits10; bytes = 0xc5 ∷ 0x06 ∷ [] }
+    ∷ record { type = bit_vector 0 16; value = bits16; bytes = 0xc5 ∷ 0xc2 ∷ [] }
+    ∷ record { type = bit_list 0 16; value = bits16; bytes = 0xc5 ∷ 0xc2 ∷ 0x01 ∷ [] }
     ∷ record { type = single; value = (0xab, tt); bytes = 0xab ∷ [] }
     ∷ record { type = small; value = (0x4567, (0x0123, tt)); bytes = 0x67 ∷ 0x45 ∷ 0x23 ∷ 0x01 ∷ [] }
-    ∷ record { type = fixed; value = (0xab, (0xaabbccdd00112233, (0x12345678, tt))); bytes = fixedBytes }
+    ∷ record { type = fixed; value = (0xab, (0xaabbccdd00112233, (0x12345678, tt))); bytes = fixed_bytes }
     ∷ record { type = union16; value = inl 0xaabb; bytes = 0x00 ∷ 0xbb ∷ 0xaa ∷ [] }
     ∷ record { type = maybe16; value = inl tt; bytes = 0x00 ∷ [] }
     ∷ record { type = maybe16; value = inr (inl 0xaabb); bytes = 0x01 ∷ 0xbb ∷ 0xaa ∷ [] }
@@ -111,9 +111,9 @@ infixr 4 ◌&◌
 ◌&◌ : {A B : Type 0} → A → B → A × B
 a & b = (a, b)
 
-published-hold : Within examples × Written examples
-unfolding Within Written examples le bitNum bits_of packs pack marked head joined fixed_lengths fronts backs join Ok serialize
-published-hold = (bounds, bytes)
+published_hold : Within examples × Written examples
+unfolding Within Written examples le bit_num bits_of packs pack marked head joined fixed_lengths fronts backs join Ok serialize
+published_hold = (bounds, bytes)
   where
     bounds : Within examples
     bounds =

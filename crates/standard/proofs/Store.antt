@@ -16,14 +16,14 @@ sets-append (x ∷ xs) ys l i =
     rw e (sets-append xs ys _ (suc i))
 
 -- Past the end nothing is stored.
-pub sets-out : (xs l : List ℕ) (i : ℕ) → length l ≤ i → sets l i xs ≡ l
-sets-out [] l i h = refl
-sets-out (x ∷ xs) l i h = rw (set_out l i x h) (sets-out xs l (suc i) (omega arith))
+pub sets_out : (xs l : List ℕ) (i : ℕ) → length l ≤ i → sets l i xs ≡ l
+sets_out [] l i h = refl
+sets_out (x ∷ xs) l i h = rw (set_out l i x h) (sets_out xs l (suc i) (omega arith))
 
 -- First xs, then ys: together x.
-pub stored-then : (o : List ℕ) (at : ℕ) (xs : List ℕ) (n : ℕ) (o₁ ys : List ℕ) (r : ℕ) (o₂ x : List ℕ) → Stored o at xs n o₁ → Stored o₁ n ys r o₂ →
+pub stored_then : (o : List ℕ) (at : ℕ) (xs : List ℕ) (n : ℕ) (o₁ ys : List ℕ) (r : ℕ) (o₂ x : List ℕ) → Stored o at xs n o₁ → Stored o₁ n ys r o₂ →
     x ≡ xs ++ ys → Stored o at x r o₂
-stored-then o at xs n o₁ ys r o₂ x g h q =
+stored_then o at xs n o₁ ys r o₂ x g h q =
     record {
       list = h.list ∙ rw (g.list, g.ends, q) (sets-append xs ys o at);
       ends = rw q (simp length-append (omega (arith, g.ends, h.ends)));
@@ -35,8 +35,8 @@ stored-none o at x q = rw q (record { list = refl; ends = omega arith })
 pub room-first : (o : List ℕ) (at : ℕ) (x xs ys : List ℕ) → Room o at x → x ≡ xs ++ ys → Room o at xs
 room-first o at x xs ys g q = record { room = omega (arith, g.room, simp length-append at (ap length q)) }
 
-pub room-then : (o : List ℕ) (at : ℕ) (x xs ys : List ℕ) (n : ℕ) (o₁ : List ℕ) → Room o at x → x ≡ xs ++ ys → Stored o at xs n o₁ → Room o₁ n ys
-room-then o at x xs ys n o₁ g q h =
+pub room_then : (o : List ℕ) (at : ℕ) (x xs ys : List ℕ) (n : ℕ) (o₁ : List ℕ) → Room o at x → x ≡ xs ++ ys → Stored o at xs n o₁ → Room o₁ n ys
+room_then o at x xs ys n o₁ g q h =
     let k = ap length h.list ∙ length-sets o at xs in
     record { room = omega (arith, g.room, h.ends, simp length-append at (ap length q)) }
 
@@ -47,11 +47,11 @@ pub record Copying (o : List ℕ) (at : ℕ) (s o' : List ℕ) (i : ℕ) : Type 
   pub rest : sets o' (at + i) (drop i s) ≡ sets o at s
 
 module _ (o : List ℕ) (at : ℕ) (s : List ℕ) where
-  pub copying-none : Copying o at s o 0
-  copying-none = record { within = omega arith; long = refl; rest = ap (λ (k : ℕ). sets o k s) (add-zero at) }
+  pub copying_none : Copying o at s o 0
+  copying_none = record { within = omega arith; long = refl; rest = ap (λ (k : ℕ). sets o k s) (add-zero at) }
 
-  pub copying-more : (o' : List ℕ) (i : ℕ) → Copying o at s o' i → i < length s → Copying o at s (set o' (at + i) (get_or s i 0)) (i + 1)
-  copying-more o' i g h =
+  pub copying_more : (o' : List ℕ) (i : ℕ) → Copying o at s o' i → i < length s → Copying o at s (set o' (at + i) (get_or s i 0)) (i + 1)
+  copying_more o' i g h =
       let e : at + (i + 1) ≡ suc (at + i) = omega arith in
       record {
         within = omega arith;
@@ -59,8 +59,8 @@ module _ (o : List ℕ) (at : ℕ) (s : List ℕ) where
         rest = rw (e, add-one) (sym (ap (sets o' (at + i)) (drop-cons s i 0 h)) ∙ g.rest);
       }
 
-  pub copying-all : (o' : List ℕ) (i : ℕ) → Copying o at s o' i → length s ≤ i → o' ≡ sets o at s
-  copying-all o' i g h = sym (ap (sets o' (at + i)) (drop_of_length-le s h)) ∙ g.rest
+  pub copying_all : (o' : List ℕ) (i : ℕ) → Copying o at s o' i → length s ≤ i → o' ≡ sets o at s
+  copying_all o' i g h = sym (ap (sets o' (at + i)) (drop_of_length-le s h)) ∙ g.rest
 
-  pub copying-stored : (o' : List ℕ) (i : ℕ) → Copying o at s o' i → length s ≤ i → Stored o at s (at + i) o'
-  copying-stored o' i g h = record { list = copying-all o' i g h; ends = omega (arith, g.within) }
+  pub copying_stored : (o' : List ℕ) (i : ℕ) → Copying o at s o' i → length s ≤ i → Stored o at s (at + i) o'
+  copying_stored o' i g h = record { list = copying_all o' i g h; ends = omega (arith, g.within) }

@@ -6,9 +6,9 @@ abbrev pub pick {ℓ} : {A : Type ℓ} → Bool → A → A → A
 pick true a b = a
 pick false a b = b
 
-abbrev pub andAlso : Bool → Bool → Bool
-andAlso true b = b
-andAlso false b = false
+abbrev pub and_also : Bool → Bool → Bool
+and_also true b = b
+and_also false b = false
 
 abbrev pub or_else : Bool → Bool → Bool
 or_else true b = true

@@ -36,9 +36,9 @@ backs (piece Variable s ∷ xs) = s ++ backs xs
 unfoldable pub join : List Part → List ℕ
 join xs = fronts xs (fixed_lengths xs) ++ backs xs
 
-unfoldable pub partHeads : List Part → List Head
-partHeads [] = []
-partHeads (piece h s ∷ xs) = h ∷ partHeads xs
+unfoldable pub part_heads : List Part → List Head
+part_heads [] = []
+part_heads (piece h s ∷ xs) = h ∷ part_heads xs
 
 -- Where the next variable item starts, from the position p on: at the next offset, or at the end
 unfoldable pub next : List Head → List ℕ → ℕ → ℕ

@@ -3,7 +3,7 @@ use Rattle.std.specs.Prelude.{◌≡◌, ◌⊎◌, List, [], ◌∷◌, Bool, �
 use Rattle.std.proofs.Common.{inl, inr}
 use Rattle.standard.specs.Bytes.{Bytes, le}
 use Rattle.standard.specs.Bits.{bit, pack, marked}
-use Rattle.standard.specs.Types.{Ty, Tys, Opts, number, boolean, fixedBytes, freeBytes, bitVector, bitList, container, union, list, vector, end, field, over, bare, body, head}
+use Rattle.standard.specs.Types.{Ty, Tys, Opts, number, boolean, fixed_bytes, free_bytes, bit_vector, bit_list, container, union, list, vector, end, field, over, bare, body, head}
 use Rattle.standard.specs.Parts.{Part, piece, alike, join}
 
 abbrev mutual
@@ -11,10 +11,10 @@ abbrev mutual
   pub Val : Ty → Type 0
   Val (number t w) = ℕ
   Val (boolean t) = Bool
-  Val (fixedBytes t n) = List ℕ
-  Val (freeBytes t limit) = List ℕ
-  Val (bitVector t n) = List Bool
-  Val (bitList t limit) = List Bool
+  Val (fixed_bytes t n) = List ℕ
+  Val (free_bytes t limit) = List ℕ
+  Val (bit_vector t n) = List Bool
+  Val (bit_list t limit) = List Bool
   Val (container t ts) = Vals ts
   Val (union t os) = Option os
   Val (list t e limit) = List (Val e)
@@ -40,10 +40,10 @@ unfoldable mutual
   pub Ok : (t : Ty) → Val t → Type 0
   Ok (number t w) n = n < 256 ^ w
   Ok (boolean t) x = Unit {0}
-  Ok (fixedBytes t n) bs = Bytes bs × (length bs ≡ n)
-  Ok (freeBytes t limit) bs = Bytes bs × (length bs ≤ limit)
-  Ok (bitVector t n) bs = length bs ≡ n
-  Ok (bitList t limit) bs = length bs ≤ limit
+  Ok (fixed_bytes t n) bs = Bytes bs × (length bs ≡ n)
+  Ok (free_bytes t limit) bs = Bytes bs × (length bs ≤ limit)
+  Ok (bit_vector t n) bs = length bs ≡ n
+  Ok (bit_list t limit) bs = length bs ≤ limit
   Ok (container t ts) vs = OkAll ts vs
   Ok (union t os) v = OkOption os v
   Ok (list t e limit) vs = (length vs ≤ limit) × Each (λ (v : Val e). Ok e v) vs
@@ -65,10 +65,10 @@ unfoldable mutual
   pub serialize : (t : Ty) → Val t → List ℕ
   serialize (number t w) n = le w n
   serialize (boolean t) x = bit x ∷ []
-  serialize (fixedBytes t n) bs = bs
-  serialize (freeBytes t limit) bs = bs
-  serialize (bitVector t n) bs = pack bs
-  serialize (bitList t limit) bs = marked bs
+  serialize (fixed_bytes t n) bs = bs
+  serialize (free_bytes t limit) bs = bs
+  serialize (bit_vector t n) bs = pack bs
+  serialize (bit_list t limit) bs = marked bs
   serialize (container t ts) vs = join (parts ts vs)
   serialize (union t os) v = selected os v
   serialize (list t e limit) vs = join (alike (head e) (λ (v : Val e). serialize e v) vs)

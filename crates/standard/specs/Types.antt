@@ -11,13 +11,13 @@ mutual
     number : ℕ → ℕ → Ty
     boolean : ℕ → Ty
     -- Vector[byte, n]
-    fixedBytes : ℕ → ℕ → Ty
+    fixed_bytes : ℕ → ℕ → Ty
     -- List[byte, limit]
-    freeBytes : ℕ → ℕ → Ty
+    free_bytes : ℕ → ℕ → Ty
     -- Bitvector[n]
-    bitVector : ℕ → ℕ → Ty
+    bit_vector : ℕ → ℕ → Ty
     -- Bitlist[limit]
-    bitList : ℕ → ℕ → Ty
+    bit_list : ℕ → ℕ → Ty
     container : ℕ → Tys → Ty
     union : ℕ → Opts → Ty
     -- List[element, limit]
@@ -52,18 +52,18 @@ unfoldable mutual
   pub head : Ty → Head
   head (number t w) = Fixed w
   head (boolean t) = Fixed 1
-  head (fixedBytes t n) = Fixed n
-  head (freeBytes t limit) = Variable
-  head (bitVector t n) = Fixed ((n + 7) / 8)
-  head (bitList t limit) = Variable
-  head (container t ts) = headAll ts
+  head (fixed_bytes t n) = Fixed n
+  head (free_bytes t limit) = Variable
+  head (bit_vector t n) = Fixed ((n + 7) / 8)
+  head (bit_list t limit) = Variable
+  head (container t ts) = head_all ts
   head (union t os) = Variable
   head (list t e limit) = Variable
   head (vector t e n) = times n (head e)
 
-  pub headAll : Tys → Head
-  headAll end = Fixed 0
-  headAll (field t ts) = joined (head t) (headAll ts)
+  pub head_all : Tys → Head
+  head_all end = Fixed 0
+  head_all (field t ts) = joined (head t) (head_all ts)
 
 -- The fields' heads, in order
 unfoldable pub heads : Tys → List Head
@@ -81,8 +81,8 @@ portion [] = 0
 portion (h ∷ hs) = width h + portion hs
 
 -- uintN has 8, 16, 32, 64, 128 or 256 bits.
-abbrev pub isWidth : ℕ → Bool
-isWidth w = or_else (eqb w 1) (or_else (eqb w 2) (or_else (eqb w 4) (or_else (eqb w 8) (or_else (eqb w 16) (eqb w 32)))))
+abbrev pub is_width : ℕ → Bool
+is_width w = or_else (eqb w 1) (or_else (eqb w 2) (or_else (eqb w 4) (or_else (eqb w 8) (or_else (eqb w 16) (eqb w 32)))))
 
 -- The selectors of some options rise from k on, and are at most 127.
 unfoldable pub Rising : ℕ → Opts → Type 0
@@ -102,12 +102,12 @@ NoOptions (body s t os) = ⊥
 -- "Illegal types": empty vectors, containers without fields, unions without options or with selectors that do not fit
 unfoldable mutual
   pub LegalTy : Ty → Type 0
-  LegalTy (number t w) = isWidth w ≡ true
+  LegalTy (number t w) = is_width w ≡ true
   LegalTy (boolean t) = Unit {0}
-  LegalTy (fixedBytes t n) = 1 ≤ n
-  LegalTy (freeBytes t limit) = Unit {0}
-  LegalTy (bitVector t n) = 1 ≤ n
-  LegalTy (bitList t limit) = Unit {0}
+  LegalTy (fixed_bytes t n) = 1 ≤ n
+  LegalTy (free_bytes t limit) = Unit {0}
+  LegalTy (bit_vector t n) = 1 ≤ n
+  LegalTy (bit_list t limit) = Unit {0}
   LegalTy (container t ts) = (NoFields ts → ⊥) × LegalAll ts
   LegalTy (union t os) = (NoOptions os → ⊥) × Rising 0 os × LegalOptions os
   LegalTy (list t e limit) = LegalTy e

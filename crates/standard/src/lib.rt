@@ -2,7 +2,7 @@
 pub mod words;
 
 ghost use Rattle.std.specs.Prelude.{◌≡◌};
-ghost use Rattle.standard.specs.Refusals.{numbersOf};
+ghost use Rattle.standard.specs.Refusals.{numbers_of_lem};
 
 // What is wrong, by document 01's names. The comment before a case is the refusal's number, and its a and b.
 #[derive(Drop)]
@@ -70,7 +70,7 @@ fn numbers_of(number: usize, a: usize, b: usize) -> Numbers
 impl Refusal {
     // The refusal's number, a and b, as document 01's table has them.
     pub fn numbers(self) -> Numbers
-        ensures { result ≡ numbersOf self }
+        ensures { result ≡ numbers_of_lem self }
     {
         match self {
             Refusal::InvalidByteLength(a, b) => numbers_of(1, a, b),

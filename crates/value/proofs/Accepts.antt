@@ -1,8 +1,8 @@
 -- The writer accepts the form of a value of the type and no other form, and the value is the only one that has it. Assumes nothing.
 --     form-one        two values with one form are equal
---     form-iff        25 is not the answer exactly if the form is some value's
---     fault-iff       25 is the answer exactly if it is no value's
---     written-iff     a length is the answer exactly if the form is that of a value with an encoding of this length, and there is room for it
+--     form_iff        25 is not the answer exactly if the form is some value's
+--     fault_iff       25 is the answer exactly if it is no value's
+--     written_iff     a length is the answer exactly if the form is that of a value with an encoding of this length, and there is room for it
 use mathlib.Core.Path.{◌≡◌, refl, sym, ap, ap₂, ◌∙◌}
 use mathlib.Core.Logic.{◌⊎◌, inl, inr, ⊎_elim, ◌↔◌}
 use mathlib.Core.List.{List, [], ◌∷◌, ◌++◌, append-nil}
@@ -15,22 +15,22 @@ use lib.ListN.{length, take, drop, drop_of_length-le}
 use lib.Seq.{sets, take_at, drop_at}
 use Rattle.standard.specs.Choice.{pick}
 use Rattle.standard.specs.Bytes.{Bytes, num}
-use Rattle.standard.specs.Types.{Ty, Tys, Opts, number, boolean, fixedBytes, freeBytes, bitVector, bitList, container, union, list, vector, end, field, over, bare, body}
+use Rattle.standard.specs.Types.{Ty, Tys, Opts, number, boolean, fixed_bytes, free_bytes, bit_vector, bit_list, container, union, list, vector, end, field, over, bare, body}
 use Rattle.standard.specs.Types.{Rising, LegalTy, LegalAll, LegalOptions}
 use Rattle.standard.specs.Serialize.{Val, Vals, Option, Each, Ok, OkAll, OkOption, serialize}
 use Rattle.standard.specs.declared.Refusal.TheVariants.{BadValue, TooLarge, NoRoom}
 use Rattle.standard.proofs.Bytes.{num-le}
-use Rattle.standard.proofs.Bits.{bitNum-injective}
-use Rattle.standard.proofs.Elements.{All, copies, all-copies, asList, length-asList, by-copies, ok-copies}
+use Rattle.standard.proofs.Bits.{bit_num-injective}
+use Rattle.standard.proofs.Elements.{All, copies, all-copies, as_list, length-as_list, by_copies, ok-copies}
 use Rattle.standard.proofs.Laws.{injective, legal-copies}
 use Rattle.layout.specs.Table.{table_of}
 use Rattle.layout.specs.declared.Checked.TheVariants.{Upto}
-use Rattle.message.specs.Check.{messageType}
+use Rattle.message.specs.Check.{message_type}
 use Rattle.message.proofs.Theorem.{message-legal}
 use Rattle.message.proofs.Copies.{contents-copies, bodies-copies}
-use Rattle.message.specs.Form.{inOrder, contents, contentsAll, contentsOption, bodies, bodiesAll, bodiesOption}
-use Rattle.value.specs.Walk.{Walked, upto, wrong, walkItem}
-use Rattle.value.specs.Write.{whole, walkAll, writeItem, written_of, writeMessage, writtenBytes}
+use Rattle.message.specs.Form.{in_order, contents, contents_all, contents_option, bodies, bodies_all, bodies_option}
+use Rattle.value.specs.Walk.{Walked, upto, wrong, walk_item}
+use Rattle.value.specs.Write.{whole, walk_all, write_item_lem, written_of, write_message, written_bytes}
 use Rattle.value.specs.Steps.{IsUpto}
 use Rattle.value.specs.declared.Written.{Written}
 use Rattle.value.specs.declared.Written.TheVariants.{Length, Refused}
@@ -54,10 +54,10 @@ upto-bytes {a} {b} {m} {n} e = let q : 0 + b ≡ 0 + n = cc in omega arith
 -- A selector is the first word of no later option.
 apart :
     {A : Type 0} (os : Opts) (s : ℕ) (r : List ℕ) (v : Option os) → Rising (s + 1) os → LegalOptions os → OkOption os v
-    → s ∷ r ≡ contentsOption os v → A
+    → s ∷ r ≡ contents_option os v → A
 apart os s r v g l o e =
-    let y = bodiesOption os v in
-    let f = formed-option os v (s + 1) g l o (s ∷ r) y 0 0 [] [] (e ∙ sym (append-nil (contentsOption os v))) (sym (append-nil y)) (omega arith) in
+    let y = bodies_option os v in
+    let f = formed-option os v (s + 1) g l o (s ∷ r) y 0 0 [] [] (e ∙ sym (append-nil (contents_option os v))) (sym (append-nil y)) (omega arith) in
     absurd (omega (arith, f.from))
 
 -- Two values with one form are equal: a field's form ends where the walk ends, so it has the same length in both.
@@ -65,18 +65,18 @@ FormOne : Ty → Type 0
 FormOne t = (v w : Val t) → LegalTy t → Ok t v → Ok t w → contents t v ≡ contents t w → bodies t v ≡ bodies t w → v ≡ w
 
 row_one :
-    (ts : Tys) → All FormOne ts → (vs ws : Vals ts) → LegalAll ts → OkAll ts vs → OkAll ts ws → contentsAll ts vs ≡ contentsAll ts ws
-    → bodiesAll ts vs ≡ bodiesAll ts ws → vs ≡ ws
+    (ts : Tys) → All FormOne ts → (vs ws : Vals ts) → LegalAll ts → OkAll ts vs → OkAll ts ws → contents_all ts vs ≡ contents_all ts ws
+    → bodies_all ts vs ≡ bodies_all ts ws → vs ≡ ws
 unfolding FormOne contents bodies serialize Ok LegalTy
 row_one end k vs ws l o p e f = refl
 row_one (field t ts) k vs ws l o p e f =
-    let c = contentsAll (field t ts) vs in
-    let b = bodiesAll (field t ts) vs in
-    let x = formed t vs.0 l.0 o.0 c b 0 0 (contentsAll ts vs.1) (bodiesAll ts vs.1) refl refl (omega arith) in
-    let y = formed t ws.0 l.0 p.0 c b 0 0 (contentsAll ts ws.1) (bodiesAll ts ws.1) e f (omega arith) in
+    let c = contents_all (field t ts) vs in
+    let b = bodies_all (field t ts) vs in
+    let x = formed t vs.0 l.0 o.0 c b 0 0 (contents_all ts vs.1) (bodies_all ts vs.1) refl refl (omega arith) in
+    let y = formed t ws.0 l.0 p.0 c b 0 0 (contents_all ts ws.1) (bodies_all ts ws.1) e f (omega arith) in
     let q = sym x.walk ∙ y.walk in
-    let i = same_start _ _ (contentsAll ts vs.1) (contentsAll ts ws.1) (upto-words q) e in
-    let j = same_start _ _ (bodiesAll ts vs.1) (bodiesAll ts ws.1) (upto-bytes q) f in
+    let i = same_start _ _ (contents_all ts vs.1) (contents_all ts ws.1) (upto-words q) e in
+    let j = same_start _ _ (bodies_all ts vs.1) (bodies_all ts ws.1) (upto-bytes q) f in
     ap₂ (λ (u : Val t) (us : Vals ts). (u, us))
     (k.0 vs.0 ws.0 l.0 o.0 p.0 i.0 j.0)
     (row_one ts k.1 vs.1 ws.1 l.1 o.1 p.1 i.1 j.1)
@@ -85,29 +85,29 @@ row_one (field t ts) k vs ws l o p e f =
 module _ (e : Ty) (k : FormOne e) (l : LegalTy e) where
   counted-one :
       (n m : ℕ) → n ≡ m → (vs : Vals (copies e n)) (ws : Vals (copies e m)) → OkAll (copies e n) vs → OkAll (copies e m) ws
-      → contentsAll (copies e n) vs ≡ contentsAll (copies e m) ws → bodiesAll (copies e n) vs ≡ bodiesAll (copies e m) ws
-      → asList e n vs ≡ asList e m ws
+      → contents_all (copies e n) vs ≡ contents_all (copies e m) ws → bodies_all (copies e n) vs ≡ bodies_all (copies e m) ws
+      → as_list e n vs ≡ as_list e m ws
   counted-one n m q =
-      rw q (λ vs ws o p d f. ap (asList e m) (row_one (copies e m) (all-copies FormOne e m k) vs ws (legal-copies e m l) o p d f))
+      rw q (λ vs ws o p d f. ap (as_list e m) (row_one (copies e m) (all-copies FormOne e m k) vs ws (legal-copies e m l) o p d f))
 
   abbrev Oks : List (Val e) → Type 0
   Oks vs = Each (λ (v : Val e). Ok e v) vs
 
   abbrev words : List (Val e) → List ℕ
-  words vs = inOrder (λ (v : Val e). contents e v) vs
+  words vs = in_order (λ (v : Val e). contents e v) vs
 
   abbrev bytes : List (Val e) → List ℕ
-  bytes vs = inOrder (λ (v : Val e). bodies e v) vs
+  bytes vs = in_order (λ (v : Val e). bodies e v) vs
 
   elements-one : (vs ws : List (Val e)) → length vs ≡ length ws → Oks vs → Oks ws → words vs ≡ words ws → bytes vs ≡ bytes ws → vs ≡ ws
   elements-one vs ws =
-      by-copies e (λ vs. length vs ≡ length ws → Oks vs → Oks ws → words vs ≡ words ws → bytes vs ≡ bytes ws → vs ≡ ws)
+      by_copies e (λ vs. length vs ≡ length ws → Oks vs → Oks ws → words vs ≡ words ws → bytes vs ≡ bytes ws → vs ≡ ws)
       (λ n xs.
-      by-copies e
-      (λ ws. length (asList e n xs) ≡ length ws → Oks (asList e n xs) → Oks ws → words (asList e n xs) ≡ words ws → bytes (asList e n xs) ≡ bytes ws
-      → asList e n xs ≡ ws)
+      by_copies e
+      (λ ws. length (as_list e n xs) ≡ length ws → Oks (as_list e n xs) → Oks ws → words (as_list e n xs) ≡ words ws → bytes (as_list e n xs) ≡ bytes ws
+      → as_list e n xs ≡ ws)
       (λ m ys q o p d f.
-      counted-one n m (sym (length-asList e n xs) ∙ q ∙ length-asList e m ys) xs ys (ok-copies e n xs o) (ok-copies e m ys p)
+      counted-one n m (sym (length-as_list e n xs) ∙ q ∙ length-as_list e m ys) xs ys (ok-copies e n xs o) (ok-copies e m ys p)
       (sym (contents-copies e n xs) ∙ d ∙ contents-copies e m ys) (sym (bodies-copies e n xs) ∙ f ∙ bodies-copies e m ys))
       ws)
       vs
@@ -122,10 +122,10 @@ mutual
       (t : Ty) (v w : Val t) → LegalTy t → Ok t v → Ok t w → contents t v ≡ contents t w → bodies t v ≡ bodies t w → v ≡ w
   form-one (number t w) n m l o p e f = sym (num-le w n o) ∙ ap num f ∙ num-le w m p
   form-one (boolean t) x y l o p e f = injective (boolean t) x y l o p (omega arith) f
-  form-one (fixedBytes t n) x y l o p e f = f
-  form-one (freeBytes t limit) x y l o p e f = f
-  form-one (bitVector t n) x y l o p e f = bitNum-injective x y (o ∙ sym p) (sym (raw-num x) ∙ ap num f ∙ raw-num y)
-  form-one (bitList t limit) x y l o p e f = bitNum-injective x y (cc) (sym (raw-num x) ∙ ap num f ∙ raw-num y)
+  form-one (fixed_bytes t n) x y l o p e f = f
+  form-one (free_bytes t limit) x y l o p e f = f
+  form-one (bit_vector t n) x y l o p e f = bit_num-injective x y (o ∙ sym p) (sym (raw-num x) ∙ ap num f ∙ raw-num y)
+  form-one (bit_list t limit) x y l o p e f = bit_num-injective x y (cc) (sym (raw-num x) ∙ ap num f ∙ raw-num y)
   form-one (container t ts) vs ws l o p e f = row_one ts (all_one ts) vs ws l.1 o p e f
   form-one (union t os) v w l o p e f = option-one os v w 0 l.1 l.2 o p e f
   form-one (list t a limit) vs ws l o p e f =
@@ -140,7 +140,7 @@ mutual
 
   option-one :
       (os : Opts) (v w : Option os) (n : ℕ) → Rising n os → LegalOptions os → OkOption os v → OkOption os w
-      → contentsOption os v ≡ contentsOption os w → bodiesOption os v ≡ bodiesOption os w → v ≡ w
+      → contents_option os v ≡ contents_option os w → bodies_option os v ≡ bodies_option os w → v ≡ w
   option-one over v w n r l o p e f = absurd v
   option-one (bare s os) (inl x) (inl y) n r l o p e f = refl
   option-one (bare s os) (inl x) (inr w) n r l o p e f = apart os s [] w r.2 l p e
@@ -171,8 +171,8 @@ module _ (t : Ty) (c b : List ℕ) where
   Ends (upto m n) = SomeForm t c b
   Ends (wrong r) = Fault r
 
-  used-up : (l x : List ℕ) (m : ℕ) → l ≡ x ++ drop m l → length l ≤ m → x ≡ l
-  used-up l x m e h = sym (append-nil x) ∙ ap (λ (r : List ℕ). x ++ r) (sym (drop_of_length-le l h)) ∙ sym e
+  used_up : (l x : List ℕ) (m : ℕ) → l ≡ x ++ drop m l → length l ≤ m → x ≡ l
+  used_up l x m e h = sym (append-nil x) ∙ ap (λ (r : List ℕ). x ++ r) (sym (drop_of_length-le l h)) ∙ sym e
 
   whole-said : (h : Bytes b) (w : Walked) → Says c b h (item t) 0 0 w → Ends (whole c b w)
   whole-said h (wrong r) p = p
@@ -182,21 +182,21 @@ module _ (t : Ty) (c b : List ℕ) where
       go true r d e = (0, m, refl)
       go false true d e = (1, n, refl)
       go false false d e =
-          (p.0, record { ok = p.1; words = used-up c _ m p.2 (ltb-false _ _ d); bytes = used-up b _ n p.3 (ltb-false _ _ e) })
+          (p.0, record { ok = p.1; words = used_up c _ m p.2 (ltb-false _ _ d); bytes = used_up b _ n p.3 (ltb-false _ _ e) })
 
-  all_said : Bytes b → Ends (walkAll t c b)
-  all_said h = whole-said h (walkItem t c b 0 0) (item-said c b h t 0 0)
+  all_said : Bytes b → Ends (walk_all t c b)
+  all_said h = whole-said h (walk_item t c b 0 0) (item-said c b h t 0 0)
 
   -- The form of a value is walked to its end, and says the value's encoding.
   module _ (l : LegalTy t) (v : Val t) (f : IsForm t c b v) where
     here : Formed t v c b 0 0
     here = rw (f.words, f.bytes) at (formed-alone t v l f.ok)
 
-    walked : walkAll t c b ≡ upto (length c) (length b)
+    walked : walk_all t c b ≡ upto (length c) (length b)
     walked = rw (f.words, f.bytes) at (walked-alone t v l f.ok)
 
-  pub walk-iff : LegalTy t → Bytes b → IsUpto (walkAll t c b) ↔ SomeForm t c b
-  walk-iff l h = (go (walkAll t c b) (all_said h), (λ (x : SomeForm t c b). rw (walked l x.0 x.1) tt))
+  pub walk_iff : LegalTy t → Bytes b → IsUpto (walk_all t c b) ↔ SomeForm t c b
+  walk_iff l h = (go (walk_all t c b) (all_said h), (λ (x : SomeForm t c b). rw (walked l x.0 x.1) tt))
     where
       go : (w : Walked) → Ends w → IsUpto w → SomeForm t c b
       go (upto m n) p u = p
@@ -204,8 +204,8 @@ module _ (t : Ty) (c b : List ℕ) where
 
 -- What is answered of bytes x behind a walk without fault
 module _ (i j : ℕ) (x o : List ℕ) where
-  never-25 : Is25 (written_of (upto i j) x o) → ⊥
-  never-25 = go (ltb 4294967295 (length x)) (ltb (length o) (length x))
+  never_25 : Is25 (written_of (upto i j) x o) → ⊥
+  never_25 = go (ltb 4294967295 (length x)) (ltb (length o) (length x))
     where
       go : (p q : Bool) → Is25 (pick p (Refused TooLarge) (pick q (Refused (NoRoom (length x) (length o))) (Length (length x)))) → ⊥
       go true q k = let e = k.2 in let z : ◌≡◌ {A = ℕ} 0 1 = cc in omega arith
@@ -232,70 +232,70 @@ pub record Writes (t : Ty) (c b o : List ℕ) (k : ℕ) (v : Val t) : Type 0 whe
 
 -- The call, under a legal table.
 module _ (l : List ℕ) (n : ℕ) (g : Bytes l) (e : table_of l ≡ Upto n) (c b : List ℕ) (h : Bytes b) (o : List ℕ) where
-  legal : LegalTy (messageType l n)
+  legal : LegalTy (message_type l n)
   legal = message-legal l n g e [] (omega arith)
 
-  answered : (w : Walked) → walkAll (messageType l n) c b ≡ w → writeMessage l c b o ≡ written_of w (writeItem (messageType l n) c b 0 0) o
-  unfolding writeMessage
+  answered : (w : Walked) → walk_all (message_type l n) c b ≡ w → write_message l c b o ≡ written_of w (write_item_lem (message_type l n) c b 0 0) o
+  unfolding write_message
   answered w d = rw (e, d)
 
   -- Either the form is some value's, or the answer is 25; and not both.
-  form-or-25 : SomeForm (messageType l n) c b ⊎ Is25 (writeMessage l c b o)
-  form-or-25 = go (walkAll (messageType l n) c b) refl (all_said (messageType l n) c b h)
+  form_or_25 : SomeForm (message_type l n) c b ⊎ Is25 (write_message l c b o)
+  form_or_25 = go (walk_all (message_type l n) c b) refl (all_said (message_type l n) c b h)
     where
       go :
-          (w : Walked) → walkAll (messageType l n) c b ≡ w → Ends (messageType l n) c b w
-          → SomeForm (messageType l n) c b ⊎ Is25 (writeMessage l c b o)
+          (w : Walked) → walk_all (message_type l n) c b ≡ w → Ends (message_type l n) c b w
+          → SomeForm (message_type l n) c b ⊎ Is25 (write_message l c b o)
       go (upto i j) d p = inl p
       go (wrong r) d p = inr (p.0, p.1, answered (wrong r) d ∙ ap Refused p.2)
 
   form-answered :
-      (v : Val (messageType l n)) → IsForm (messageType l n) c b v
-      → writeMessage l c b o ≡ written_of (upto (length c) (length b)) (serialize (messageType l n) v) o
+      (v : Val (message_type l n)) → IsForm (message_type l n) c b v
+      → write_message l c b o ≡ written_of (upto (length c) (length b)) (serialize (message_type l n) v) o
   form-answered v f =
-      let t = messageType l n in
+      let t = message_type l n in
       let w = upto (length c) (length b) in
       answered w (walked t c b legal v f) ∙ ap (λ (x : List ℕ). written_of w x o) (here t c b legal v f).write
 
-  not-both : SomeForm (messageType l n) c b → Is25 (writeMessage l c b o) → ⊥
-  not-both x y =
-      never-25 (length c) (length b) (serialize (messageType l n) x.0) o (y.0, y.1, sym (form-answered x.0 x.1) ∙ y.2)
+  not_both : SomeForm (message_type l n) c b → Is25 (write_message l c b o) → ⊥
+  not_both x y =
+      never_25 (length c) (length b) (serialize (message_type l n) x.0) o (y.0, y.1, sym (form-answered x.0 x.1) ∙ y.2)
 
   -- The writer accepts a form, that is, does not answer 25, exactly if it is the form of a value of the type;
   -- so it answers 25 exactly if no value of the type has this form. And no two values have it.
-  pub form-iff : (Is25 (writeMessage l c b o) → ⊥) ↔ SomeForm (messageType l n) c b
-  form-iff = (
-    (λ (x : Is25 (writeMessage l c b o) → ⊥). ⊎_elim (λ p. p) (λ (p : Is25 (writeMessage l c b o)). absurd (x p)) form-or-25),
-    not-both,
+  pub form_iff : (Is25 (write_message l c b o) → ⊥) ↔ SomeForm (message_type l n) c b
+  form_iff = (
+    (λ (x : Is25 (write_message l c b o) → ⊥). ⊎_elim (λ p. p) (λ (p : Is25 (write_message l c b o)). absurd (x p)) form_or_25),
+    not_both,
   )
 
-  pub fault-iff : Is25 (writeMessage l c b o) ↔ (SomeForm (messageType l n) c b → ⊥)
-  fault-iff = (
-    (λ (x : Is25 (writeMessage l c b o)) (p : SomeForm (messageType l n) c b). not-both p x),
-    (λ (x : SomeForm (messageType l n) c b → ⊥). ⊎_elim (λ (p : SomeForm (messageType l n) c b). absurd (x p)) (λ p. p) form-or-25),
+  pub fault_iff : Is25 (write_message l c b o) ↔ (SomeForm (message_type l n) c b → ⊥)
+  fault_iff = (
+    (λ (x : Is25 (write_message l c b o)) (p : SomeForm (message_type l n) c b). not_both p x),
+    (λ (x : SomeForm (message_type l n) c b → ⊥). ⊎_elim (λ (p : SomeForm (message_type l n) c b). absurd (x p)) (λ p. p) form_or_25),
   )
 
-  pub form-only : (v w : Val (messageType l n)) → IsForm (messageType l n) c b v → IsForm (messageType l n) c b w → v ≡ w
-  form-only v w x y = form-one (messageType l n) v w legal x.ok y.ok (x.words ∙ sym y.words) (x.bytes ∙ sym y.bytes)
+  pub form_only : (v w : Val (message_type l n)) → IsForm (message_type l n) c b v → IsForm (message_type l n) c b w → v ≡ w
+  form_only v w x y = form-one (message_type l n) v w legal x.ok y.ok (x.words ∙ sym y.words) (x.bytes ∙ sym y.bytes)
 
   -- What is written then: the value's encoding
   pub written :
-      (k : ℕ) (v : Val (messageType l n)) → Writes (messageType l n) c b o k v
-      → (writeMessage l c b o ≡ Length k) × (writtenBytes l c b o ≡ sets o 0 (serialize (messageType l n) v))
+      (k : ℕ) (v : Val (message_type l n)) → Writes (message_type l n) c b o k v
+      → (write_message l c b o ≡ Length k) × (written_bytes l c b o ≡ sets o 0 (serialize (message_type l n) v))
   written k v w =
       let f = w.form in
       let p = form-written l n g e v f.ok o (rw w.long w.small) (rw w.long w.room) in
       rw (f.words, f.bytes, w.long) at p
 
   -- A length is answered exactly if the form is that of a value whose encoding has it, and there is room.
-  no_length : (k : ℕ) → writeMessage l c b o ≡ Length k → Is25 (writeMessage l c b o) → ⊥
+  no_length : (k : ℕ) → write_message l c b o ≡ Length k → Is25 (write_message l c b o) → ⊥
   no_length k d p = let e : Length k ≡ Refused (BadValue p.0 p.1) = sym d ∙ p.2 in let z : ◌≡◌ {A = ℕ} 0 1 = cc in omega arith
 
-  pub written-iff : (k : ℕ) → (writeMessage l c b o ≡ Length k) ↔ ((v : Val (messageType l n)) × Writes (messageType l n) c b o k v)
-  written-iff k = (
-    (λ (d : writeMessage l c b o ≡ Length k).
-        let p = form-iff.0 (no_length k d) in
-        let s = length-says (length c) (length b) (serialize (messageType l n) p.0) o k (sym (form-answered p.0 p.1) ∙ d) in
+  pub written_iff : (k : ℕ) → (write_message l c b o ≡ Length k) ↔ ((v : Val (message_type l n)) × Writes (message_type l n) c b o k v)
+  written_iff k = (
+    (λ (d : write_message l c b o ≡ Length k).
+        let p = form_iff.0 (no_length k d) in
+        let s = length-says (length c) (length b) (serialize (message_type l n) p.0) o k (sym (form-answered p.0 p.1) ∙ d) in
         (p.0, record { form = p.1; long = s.0; small = rw s.0 at s.1; room = rw s.0 at s.2 })),
-    (λ (x : (v : Val (messageType l n)) × Writes (messageType l n) c b o k v). (written k x.0 x.1).0),
+    (λ (x : (v : Val (message_type l n)) × Writes (message_type l n) c b o k v). (written k x.0 x.1).0),
   )

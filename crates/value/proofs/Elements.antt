@@ -13,13 +13,13 @@ use Rattle.standard.specs.Parts.{join}
 use Rattle.layout.specs.Tree.{node_of, tree_of}
 use Rattle.layout.specs.declared.Node.{Node}
 use Rattle.message.specs.Steps.{Row, row_of, is_plain}
-use Rattle.value.specs.Walk.{upto, withBody, walkFields}
-use Rattle.value.specs.Write.{partsFrom}
+use Rattle.value.specs.Walk.{upto, with_body, walk_fields}
+use Rattle.value.specs.Write.{parts_from}
 use Rattle.value.specs.Steps.{cap, measured, AllPlain}
 use Rattle.value.specs.declared.measure.Measured.{Measured}
 use Rattle.value.proofs.Walks.{measured-cap}
-use Rattle.value.proofs.Rows.{Measuring, measuring-none, measuring-end}
-use Rattle.value.proofs.Plain.{Plain, plain-field, measuring-plain, measuring-short}
+use Rattle.value.proofs.Rows.{Measuring, measuring_none, measuring_end}
+use Rattle.value.proofs.Plain.{Plain, plain-field, measuring_plain, measuring_short}
 
 -- Fewer than 2^32 elements, each of fewer bytes
 pub product_small : (m k : ℕ) → m < 2 ^ 32 → k < 2 ^ 32 → m * k < 2 ^ 64
@@ -31,7 +31,7 @@ product_small m k h q =
 module _ (lens l : List ℕ) (t a m : ℕ) (c b : List ℕ) (i j f : ℕ) (e : f ≡ word_at l a) (k : ℕ) (q : k ≡ get_or lens f 0) (p : Plain (tree_of l f) k) where
   -- what is measured of all of them
   abbrev whole : Measured
-  whole = measured (walkFields (row_of l t a 0 m) c b i j) (length (join (partsFrom (row_of l t a 0 m) c b i j)))
+  whole = measured (walk_fields (row_of l t a 0 m) c b i j) (length (join (parts_from (row_of l t a 0 m) c b i j)))
 
   -- some of them are left, from the byte at on; sum bytes are measured
   abbrev Left : ℕ → ℕ → ℕ → Type 0
@@ -39,13 +39,13 @@ module _ (lens l : List ℕ) (t a m : ℕ) (c b : List ℕ) (i j f : ℕ) (e : f
 
   -- what is measured of those by their length
   abbrev at_once : ℕ → ℕ → ℕ → Measured
-  at_once left sum at = measured (withBody b at (left * k) (upto i (at + left * k))) (sum + left * k)
+  at_once left sum at = measured (with_body b at (left * k) (upto i (at + left * k))) (sum + left * k)
 
   plain-none : (sum at : ℕ) → Left 0 sum at → at ≤ length b → at_once 0 sum at ≡ whole
   plain-none sum at g h =
       let z : 0 * k ≡ 0 = omega arith in
       let s : cap sum ≡ sum = omega (arith, g.small) in
-      rw (z, add-zero at, add-zero sum, le-leb at (length b) h, s) (measuring-end lens l t a 0 m c b i j sum a 0 i at g (omega arith))
+      rw (z, add-zero at, add-zero sum, le-leb at (length b) h, s) (measuring_end lens l t a 0 m c b i j sum a 0 i at g (omega arith))
 
   plain-one : (left sum at : ℕ) → Left (suc left) sum at → ((sum at : ℕ) → Left left sum at → at ≤ length b → at_once left sum at ≡ whole) →
       at_once (suc left) sum at ≡ whole
@@ -57,22 +57,22 @@ module _ (lens l : List ℕ) (t a m : ℕ) (c b : List ℕ) (i j f : ℕ) (e : f
       go : (d : Bool) → leb (at + k) (length b) ≡ d → at_once (suc left) sum at ≡ whole
       go false d =
           rw (lt-leb (at + suc left * k) (length b) (omega (arith, leb-false (at + k) (length b) d)))
-          (measuring-short lens l t a 0 m c b i j sum a (suc left) i at f g (omega arith) e k q p d)
+          (measuring_short lens l t a 0 m c b i j sum a (suc left) i at f g (omega arith) e k q p d)
       go true d =
-          let x = measuring-plain lens l t a 0 m c b i j sum a (suc left) i at f g (omega arith) e k q p d in
+          let x = measuring_plain lens l t a 0 m c b i j sum a (suc left) i at f g (omega arith) e k q p d in
           let v : suc left - 1 ≡ left = omega arith in
           let s : cap (sum + suc left * k) ≡ cap (cap (sum + k) + left * k) = omega arith in
           let y = more (cap (sum + k)) (at + k) (rw (add-zero a, v) at x) (leb-true (at + k) (length b) d) in
-          rw u (measured-cap (withBody b (at + k) (left * k) (upto i (at + k + left * k))) _ _ s ∙ y)
+          rw u (measured-cap (with_body b (at + k) (left * k) (upto i (at + k + left * k))) _ _ s ∙ y)
 
   plain-left : (left sum at : ℕ) → Left left sum at → at ≤ length b → at_once left sum at ≡ whole
   plain-left zero sum at g h = plain-none sum at g h
   plain-left (suc left) sum at g h = plain-one left sum at g (λ x y. plain-left left x y)
 
-  plain-measured : Row lens l t a 0 m → 0 < m → measured (withBody b j (m * k) (upto i (j + m * k))) (m * k) ≡ whole
+  plain-measured : Row lens l t a 0 m → 0 < m → measured (with_body b j (m * k) (upto i (j + m * k))) (m * k) ≡ whole
   plain-measured g z =
       let v : suc (m - 1) ≡ m = omega arith in
-      let x = plain-one (m - 1) 0 j (rw v (measuring-none lens l t a 0 m c b i j g)) (λ x y. plain-left (m - 1) x y) in
+      let x = plain-one (m - 1) 0 j (rw v (measuring_none lens l t a 0 m c b i j g)) (λ x y. plain-left (m - 1) x y) in
       rw (v, zero-add (m * k)) at x
 
 pub elements-plain : (lens l : List ℕ) (t a m f : ℕ) → Row lens l t a 0 m → 0 < m → f ≡ word_at l a → (n : Node) → n ≡ node_of l f →

@@ -17,20 +17,20 @@ use Rattle.standard.proofs.Bytes.{length-le}
 use Rattle.standard.proofs.Store.{sets-append}
 use Rattle.standard.proofs.Join.{length-fronts, length-join}
 use Rattle.bitfield.proofs.Places.{bit-on, one_shifted}
-use Rattle.layout.specs.Tree.{node_of, leafOf, tree_of, head_of}
+use Rattle.layout.specs.Tree.{node_of, leaf_of, tree_of, head_of}
 use Rattle.layout.specs.declared.Node.{Node}
-use Rattle.layout.proofs.Facts.{as-leaf}
-use Rattle.layout.proofs.Trees.{legal-tree}
-use Rattle.message.specs.Read.{rawBytes}
-use Rattle.message.specs.Steps.{Under, Row, row_of, headsOf}
-use Rattle.message.proofs.Rows.{len-head, row_under, row_next, row-head, row-heads, row-fixed, row-variable, heads-none}
-use Rattle.value.specs.Walk.{Walked, upto, lastBits, walkItem, walkFields}
-use Rattle.value.specs.Write.{wordAfter, byteAfter, bytes_at, withMark, writeItem, partsFrom}
+use Rattle.layout.proofs.Facts.{as_leaf}
+use Rattle.layout.proofs.Trees.{legal_tree}
+use Rattle.message.specs.Read.{raw_bytes_lem}
+use Rattle.message.specs.Steps.{Under, Row, row_of, heads_of}
+use Rattle.message.proofs.Rows.{len_head, row_under, row_next, row-head, row-heads, row-fixed, row_variable, heads-none}
+use Rattle.value.specs.Walk.{Walked, upto, last_bits, walk_item, walk_fields}
+use Rattle.value.specs.Write.{word_after, byte_after, bytes_at, with_mark, write_item_lem, parts_from}
 use Rattle.value.specs.Steps.{IsUpto}
 use Rattle.value.specs.Stores.{Put, Fields}
 use Rattle.value.specs.declared.store.Stop.{Stop}
-use Rattle.value.proofs.Walks.{length-bytesAt}
-use Rattle.value.proofs.Leaves.{PartForm, part-need, part-done}
+use Rattle.value.proofs.Walks.{length-bytes_at}
+use Rattle.value.proofs.Leaves.{PartForm, part_need, part-done}
 use Rattle.value.proofs.Unions.{leaf-walk, leaf-write}
 use Rattle.value.proofs.Rows.{fields-walk, fields-parts, none_walk, none-parts}
 use Rattle.value.proofs.Fixed.{onward-first, item-part, row-portion}
@@ -41,19 +41,19 @@ pub part-stored : (o : List ℕ) (at : ℕ) (b : List ℕ) (i j n : ℕ) (o' : L
 part-stored o at b i j n o' h e =
     let q : j + n - j ≡ n = omega arith in
     record {
-      stored = record { list = rw q at e; ends = ap (λ (k : ℕ). at + k) (sym (length-bytesAt b j n h)) };
+      stored = record { list = rw q at e; ends = ap (λ (k : ℕ). at + k) (sym (length-bytes_at b j n h)) };
       word = refl;
       byte = refl;
     }
 
 -- A bit list: its full bytes, then the byte with the mark.
-pub list-stored : (o : List ℕ) (at : ℕ) (b : List ℕ) (i j k x : ℕ) (o₁ : List ℕ) (raw : ℕ) → j + rawBytes k ≤ length b →
-    o₁ ≡ sets o at (take (j + k / 8 - j) (drop j b)) → x ≡ pick (eqb (k % 8) 0) 1 (get_or b (j + k / 8) 0 + 2 ^ (k % 8)) → raw ≡ rawBytes k →
-    Put o at (withMark b j k) (upto i (j + rawBytes k)) (record { word = i; byte = j + raw; to = at + k / 8 + 1 }) (set o₁ (at + k / 8) x)
+pub list-stored : (o : List ℕ) (at : ℕ) (b : List ℕ) (i j k x : ℕ) (o₁ : List ℕ) (raw : ℕ) → j + raw_bytes_lem k ≤ length b →
+    o₁ ≡ sets o at (take (j + k / 8 - j) (drop j b)) → x ≡ pick (eqb (k % 8) 0) 1 (get_or b (j + k / 8) 0 + 2 ^ (k % 8)) → raw ≡ raw_bytes_lem k →
+    Put o at (with_mark b j k) (upto i (j + raw_bytes_lem k)) (record { word = i; byte = j + raw; to = at + k / 8 + 1 }) (set o₁ (at + k / 8) x)
 list-stored o at b i j k x o₁ raw h e y f =
-    let m : bytes_at b j (k / 8) ++ (x ∷ []) ≡ withMark b j k = ap (λ (v : ℕ). bytes_at b j (k / 8) ++ (v ∷ [])) y in
+    let m : bytes_at b j (k / 8) ++ (x ∷ []) ≡ with_mark b j k = ap (λ (v : ℕ). bytes_at b j (k / 8) ++ (v ∷ [])) y in
     let q : j + k / 8 - j ≡ k / 8 = omega arith in
-    let n : length (bytes_at b j (k / 8)) ≡ k / 8 = length-bytesAt b j (k / 8) (omega arith) in
+    let n : length (bytes_at b j (k / 8)) ≡ k / 8 = length-bytes_at b j (k / 8) (omega arith) in
     let s : set o₁ (at + k / 8) x ≡ sets o at (bytes_at b j (k / 8) ++ (x ∷ [])) =
     rw (e, q) (rw n at (sets-append (bytes_at b j (k / 8)) (x ∷ []) o at)) in
     record {
@@ -62,13 +62,13 @@ list-stored o at b i j k x o₁ raw h e y f =
       byte = ap (λ (v : ℕ). j + v) f;
     }
 
-pub mark-need : (b : List ℕ) (j k : ℕ) → j + rawBytes k ≤ length b → get_or b (j + rawBytes k - 1) 0 < 2 ^ lastBits k →
+pub mark_need : (b : List ℕ) (j k : ℕ) → j + raw_bytes_lem k ≤ length b → get_or b (j + raw_bytes_lem k - 1) 0 < 2 ^ last_bits k →
     (k % 8 < 8) × ((k % 8 ≡ 0 → ⊥) → (j + k / 8 < length b) × (get_or b (j + k / 8) 0 < 2 ^ (k % 8)))
-mark-need b j k h l = (
+mark_need b j k h l = (
   omega arith,
   λ z.
-      let e : j + rawBytes k - 1 ≡ j + k / 8 = omega arith in
-      let f : lastBits k ≡ k % 8 = omega arith in
+      let e : j + raw_bytes_lem k - 1 ≡ j + k / 8 = omega arith in
+      let f : last_bits k ≡ k % 8 = omega arith in
       (omega arith, rw (e, f) at l),
 )
 
@@ -120,10 +120,10 @@ module _ (x : List ℕ) (ys : List Part) (o : List ℕ) (p q start own e : ℕ) 
         rest = rw (s.list, s.ends, sets-append x (fronts ys (q - start)) o p) g.rest;
       }
 
-  two-variable : Two (piece Variable x ∷ ys) o p q start own e z → (o₂ : List ℕ) (to : ℕ) → Stored (sets o p (le 4 (q - start))) q x to o₂ →
+  two_variable : Two (piece Variable x ∷ ys) o p q start own e z → (o₂ : List ℕ) (to : ℕ) → Stored (sets o p (le 4 (q - start))) q x to o₂ →
       Two ys o₂ (p + 4) to start own e z
   unfolding fronts backs fixed_lengths
-  two-variable g o₂ to s =
+  two_variable g o₂ to s =
       let d : q + length x - start ≡ q - start + length x = omega (arith, g.apart) in
       let fr = fronts ys (q - start + length x) in
       let k : length fr ≡ fixed_lengths ys = length-fronts ys (q - start + length x) in
@@ -143,13 +143,13 @@ module _ (x : List ℕ) (ys : List Part) (o : List ℕ) (p q start own e : ℕ) 
   unfolding fixed_lengths backs
   room-fixed m g l = record { room = omega (arith, g.heads, g.tails, g.apart) }
 
-  pub room-offset : Two (piece Variable x ∷ ys) o p q start own e z → e ≤ length o → p + 4 ≤ length o
+  pub room_offset : Two (piece Variable x ∷ ys) o p q start own e z → e ≤ length o → p + 4 ≤ length o
   unfolding fixed_lengths
-  room-offset g l = omega (arith, g.heads, g.tails, g.apart)
+  room_offset g l = omega (arith, g.heads, g.tails, g.apart)
 
-  pub room-variable : Two (piece Variable x ∷ ys) o p q start own e z → e ≤ length o → (o₁ : List ℕ) → length o₁ ≡ length o → Room o₁ q x
+  pub room_variable : Two (piece Variable x ∷ ys) o p q start own e z → e ≤ length o → (o₁ : List ℕ) → length o₁ ≡ length o → Room o₁ q x
   unfolding backs
-  room-variable g l o₁ d = record { room = rw d (omega (arith, simp length-append at g.tails)) }
+  room_variable g l o₁ d = record { room = rw d (omega (arith, simp length-append at g.tails)) }
 
 pub two-end : (o : List ℕ) (p q start own e : ℕ) (z : List ℕ) → Two [] o p q start own e z → (o ≡ z) × (q ≡ e)
 unfolding fronts backs
@@ -159,41 +159,41 @@ pub put-length : (o : List ℕ) (at : ℕ) (x : List ℕ) (w : Walked) (r : Stop
 put-length o at x w r o' p = ap length p.stored.list ∙ length-sets o at x
 
 -- An item of fixed size, by the length that the table's check found.
-pub item-own : (lens l : List ℕ) (t : ℕ) (c b : List ℕ) (i j : ℕ) → Under lens l (t + 1) → IsUpto (walkItem (tree_of l t) c b i j) →
-    0 < get_or lens t 0 → PartForm (walkItem (tree_of l t) c b i j) (writeItem (tree_of l t) c b i j) b i j (get_or lens t 0)
+pub item-own : (lens l : List ℕ) (t : ℕ) (c b : List ℕ) (i j : ℕ) → Under lens l (t + 1) → IsUpto (walk_item (tree_of l t) c b i j) →
+    0 < get_or lens t 0 → PartForm (walk_item (tree_of l t) c b i j) (write_item_lem (tree_of l t) c b i j) b i j (get_or lens t 0)
 item-own lens l t c b i j g u z =
-    let h = len-head (head (tree_of l t)) (get_or lens t 0) (g.found t (omega arith)) (λ (d : get_or lens t 0 ≡ 0). omega arith) in
-    item-part (tree_of l t) c b i j (get_or lens t 0) (legal-tree l (t + 1) t g.legal (omega arith)) h z u
+    let h = len_head (head (tree_of l t)) (get_or lens t 0) (g.found t (omega arith)) (λ (d : get_or lens t 0 ≡ 0). omega arith) in
+    item-part (tree_of l t) c b i j (get_or lens t 0) (legal_tree l (t + 1) t g.legal (omega arith)) h z u
 
 -- The loop of `write_fields`: what is left to store gives the whole.
 pub record Writing (lens l : List ℕ) (t step : ℕ) (c b : List ℕ) (start own e : ℕ) (w : Walked) (z o₀ o : List ℕ) (p q a left i j : ℕ) : Type 0 where
   pub well : IsUpto w
   pub long : length o ≡ length o₀
   pub row : Row lens l t a step left
-  pub walk : walkFields (row_of l t a step left) c b i j ≡ w
+  pub walk : walk_fields (row_of l t a step left) c b i j ≡ w
   pub room : e ≤ length o
-  pub two : Two (partsFrom (row_of l t a step left) c b i j) o p q start own e z
+  pub two : Two (parts_from (row_of l t a step left) c b i j) o p q start own e z
 
 module _ {lens l : List ℕ} {t step : ℕ} {c b : List ℕ} {start own e : ℕ} {w : Walked} {z o₀ o : List ℕ} {p q a left i j f : ℕ}
     (g : Writing lens l t step c b start own e w z o₀ o p q a left i j) (y : 0 < left) (v : f ≡ word_at l a) where
-  writing-parts : Two (piece (head (tree_of l f)) (writeItem (tree_of l f) c b i j) ∷ partsFrom (row_of l t (a + step) step (left - 1)) c b
-      (wordAfter (walkItem (tree_of l f) c b i j)) (byteAfter (walkItem (tree_of l f) c b i j))) o p q start own e z
+  writing-parts : Two (piece (head (tree_of l f)) (write_item_lem (tree_of l f) c b i j) ∷ parts_from (row_of l t (a + step) step (left - 1)) c b
+      (word_after (walk_item (tree_of l f) c b i j)) (byte_after (walk_item (tree_of l f) c b i j))) o p q start own e z
   writing-parts = rw (fields-parts lens l t a step left f g.row y v c b i j) at g.two
 
-  writing-onward : (IsUpto (walkItem (tree_of l f) c b i j)) ×
-      (walkFields (row_of l t (a + step) step (left - 1)) c b (wordAfter (walkItem (tree_of l f) c b i j)) (byteAfter (walkItem (tree_of l f) c b i j)) ≡ w)
+  writing-onward : (IsUpto (walk_item (tree_of l f) c b i j)) ×
+      (walk_fields (row_of l t (a + step) step (left - 1)) c b (word_after (walk_item (tree_of l f) c b i j)) (byte_after (walk_item (tree_of l f) c b i j)) ≡ w)
   writing-onward =
       let d = sym (fields-walk lens l t a step left f g.row y v c b i j) ∙ g.walk in
-      let r = onward-first (walkItem (tree_of l f) c b i j) (λ m k. walkFields (row_of l t (a + step) step (left - 1)) c b m k) (rw (← d) at g.well) in
+      let r = onward-first (walk_item (tree_of l f) c b i j) (λ m k. walk_fields (row_of l t (a + step) step (left - 1)) c b m k) (rw (← d) at g.well) in
       (r.0, sym r.1 ∙ d)
 
-  pub writing-upto : IsUpto (walkItem (tree_of l f) c b i j)
+  pub writing-upto : IsUpto (walk_item (tree_of l f) c b i j)
   writing-upto = writing-onward.0
 
   -- Behind the field
   writing-behind : (r : Stop) (o₁ : List ℕ) (at : ℕ) (o₂ : List ℕ) → length o₁ ≡ length o →
-      Put o₁ at (writeItem (tree_of l f) c b i j) (walkItem (tree_of l f) c b i j) r o₂ → (p₂ q₂ : ℕ) →
-      Two (partsFrom (row_of l t (a + step) step (left - 1)) c b (wordAfter (walkItem (tree_of l f) c b i j)) (byteAfter (walkItem (tree_of l f) c b i j)))
+      Put o₁ at (write_item_lem (tree_of l f) c b i j) (walk_item (tree_of l f) c b i j) r o₂ → (p₂ q₂ : ℕ) →
+      Two (parts_from (row_of l t (a + step) step (left - 1)) c b (word_after (walk_item (tree_of l f) c b i j)) (byte_after (walk_item (tree_of l f) c b i j)))
       o₂ p₂ q₂ start own e z → Writing lens l t step c b start own e w z o₀ o₂ p₂ q₂ (a + step) (left - 1) r.word r.byte
   writing-behind r o₁ at o₂ d x p₂ q₂ two =
       let s : length o₂ ≡ length o = put-length o₁ at _ _ r o₂ x ∙ d in
@@ -208,15 +208,15 @@ module _ {lens l : List ℕ} {t step : ℕ} {c b : List ℕ} {start own e : ℕ}
 
   -- A field of fixed size is body bytes, stored where its head is.
   module _ {k : ℕ} (n : k ≡ get_or lens f 0) (s : 0 < k) where
-    fixed-part : PartForm (walkItem (tree_of l f) c b i j) (writeItem (tree_of l f) c b i j) b i j k
+    fixed-part : PartForm (walk_item (tree_of l f) c b i j) (write_item_lem (tree_of l f) c b i j) b i j k
     fixed-part = rw n (item-own lens l f c b i j (row_under lens l t a step left f g.row y v) writing-upto (rw n at s))
 
-    fixed-parts : Two (piece (Fixed k) (writeItem (tree_of l f) c b i j) ∷ partsFrom (row_of l t (a + step) step (left - 1)) c b
-        (wordAfter (walkItem (tree_of l f) c b i j)) (byteAfter (walkItem (tree_of l f) c b i j))) o p q start own e z
+    fixed-parts : Two (piece (Fixed k) (write_item_lem (tree_of l f) c b i j) ∷ parts_from (row_of l t (a + step) step (left - 1)) c b
+        (word_after (walk_item (tree_of l f) c b i j)) (byte_after (walk_item (tree_of l f) c b i j))) o p q start own e z
     fixed-parts = rw (← row-fixed lens l t a step left f g.row y v k n (λ (h : k ≡ 0). omega arith)) at writing-parts
 
     pub writing-there : (j + k ≤ length b) × (p + k ≤ length o)
-    writing-there = part-need fixed-part (room-fixed _ _ o p q start own e z k fixed-parts g.room)
+    writing-there = part_need fixed-part (room-fixed _ _ o p q start own e z k fixed-parts g.room)
 
     pub writing-fixed : {r : Stop} {o₂ : List ℕ} → Put o p (bytes_at b j k) (upto i (j + k)) r o₂ →
         Writing lens l t step c b start own e w z o₀ o₂ r.to q (a + step) (left - 1) i r.byte
@@ -226,29 +226,29 @@ module _ {lens l : List ℕ} {t step : ℕ} {c b : List ℕ} {start own e : ℕ}
 
   -- A field of variable size: its offset where its head is, then the item at q.
   module _ {k : ℕ} (n : k ≡ get_or lens f 0) (s : k ≤ 0) where
-    variable-parts : Two (piece Variable (writeItem (tree_of l f) c b i j) ∷ partsFrom (row_of l t (a + step) step (left - 1)) c b
-        (wordAfter (walkItem (tree_of l f) c b i j)) (byteAfter (walkItem (tree_of l f) c b i j))) o p q start own e z
-    variable-parts = rw (← row-variable lens l t a step left f g.row y v k n (omega arith)) at writing-parts
+    variable_parts_lem : Two (piece Variable (write_item_lem (tree_of l f) c b i j) ∷ parts_from (row_of l t (a + step) step (left - 1)) c b
+        (word_after (walk_item (tree_of l f) c b i j)) (byte_after (walk_item (tree_of l f) c b i j))) o p q start own e z
+    variable_parts_lem = rw (← row_variable lens l t a step left f g.row y v k n (omega arith)) at writing-parts
 
-    pub writing-offset : (start ≤ q) × (p + 4 ≤ length o)
-    writing-offset = (omega (arith, g.two.apart), room-offset _ _ o p q start own e z variable-parts g.room)
+    pub writing_offset : (start ≤ q) × (p + 4 ≤ length o)
+    writing_offset = (omega (arith, g.two.apart), room_offset _ _ o p q start own e z variable_parts_lem g.room)
 
     module _ {o₁ : List ℕ} (d : o₁ ≡ sets o p (le 4 (q - start))) where
-      offset-long : length o₁ ≡ length o
-      offset-long = ap length d ∙ length-sets o p (le 4 (q - start))
+      offset_long : length o₁ ≡ length o
+      offset_long = ap length d ∙ length-sets o p (le 4 (q - start))
 
-      pub writing-room : Room o₁ q (writeItem (tree_of l f) c b i j)
-      writing-room = room-variable _ _ o p q start own e z variable-parts g.room o₁ offset-long
+      pub writing-room : Room o₁ q (write_item_lem (tree_of l f) c b i j)
+      writing-room = room_variable _ _ o p q start own e z variable_parts_lem g.room o₁ offset_long
 
-      pub writing-next : {r : Stop} {o₂ : List ℕ} → Put o₁ q (writeItem (tree_of l f) c b i j) (walkItem (tree_of l f) c b i j) r o₂ →
+      pub writing-next : {r : Stop} {o₂ : List ℕ} → Put o₁ q (write_item_lem (tree_of l f) c b i j) (walk_item (tree_of l f) c b i j) r o₂ →
           Writing lens l t step c b start own e w z o₀ o₂ (p + 4) r.to (a + step) (left - 1) r.word r.byte
       writing-next {r} {o₂} x =
-          writing-behind r o₁ q o₂ offset-long x (p + 4) r.to
-          (two-variable _ _ o p q start own e z variable-parts o₂ r.to (rw d at x.stored))
+          writing-behind r o₁ q o₂ offset_long x (p + 4) r.to
+          (two_variable _ _ o p q start own e z variable_parts_lem o₂ r.to (rw d at x.stored))
 
 pub writing-none : {lens l : List ℕ} {t a step n : ℕ} {c b : List ℕ} {i j : ℕ} {o : List ℕ} {start own : ℕ} → Fields lens l t a step n c b i j o start →
-    own ≡ portion (headsOf l t a step n) → Writing lens l t step c b start own (start + length (join (partsFrom (row_of l t a step n) c b i j)))
-    (walkFields (row_of l t a step n) c b i j) (sets o start (join (partsFrom (row_of l t a step n) c b i j))) o o start (start + own) a n i j
+    own ≡ portion (heads_of l t a step n) → Writing lens l t step c b start own (start + length (join (parts_from (row_of l t a step n) c b i j)))
+    (walk_fields (row_of l t a step n) c b i j) (sets o start (join (parts_from (row_of l t a step n) c b i j))) o o start (start + own) a n i j
 writing-none {lens} {l} {t} {a} {step} {n} {c} {b} {i} {j} {o} {start} {own} g e =
     record {
       well = g.walk;
@@ -257,15 +257,15 @@ writing-none {lens} {l} {t} {a} {step} {n} {c} {b} {i} {j} {o} {start} {own} g e
       walk = refl;
       room = g.room.room;
       two =
-          two-start (partsFrom (row_of l t a step n) c b i j) o start own
+          two-start (parts_from (row_of l t a step n) c b i j) o start own
           (e ∙ sym (row-portion lens l t a step n c b i j g.row g.walk));
     }
 
 pub fields_fit : {lens l : List ℕ} {t a step n : ℕ} {c b : List ℕ} {i j : ℕ} {o : List ℕ} {start own : ℕ} → Fields lens l t a step n c b i j o start →
-    own ≡ portion (headsOf l t a step n) → start + own ≤ length o
+    own ≡ portion (heads_of l t a step n) → start + own ≤ length o
 fields_fit {lens} {l} {t} {a} {step} {n} {c} {b} {i} {j} {o} {start} {own} g e =
     let p = row-portion lens l t a step n c b i j g.row g.walk in
-    omega (arith, g.room.room, p, length-join (partsFrom (row_of l t a step n) c b i j))
+    omega (arith, g.room.room, p, length-join (parts_from (row_of l t a step n) c b i j))
 
 pub writing-end : {lens l : List ℕ} {t step : ℕ} {c b : List ℕ} {start own e : ℕ} {w : Walked} {x o₀ o : List ℕ} {p q a left i j : ℕ} →
     Writing lens l t step c b start own e w (sets o₀ start x) o₀ o p q a left i j → e ≡ start + length x → left ≤ 0 →
@@ -273,19 +273,19 @@ pub writing-end : {lens l : List ℕ} {t step : ℕ} {c b : List ℕ} {start own
 writing-end {lens} {l} {t} {step} {c} {b} {start} {own} {e} {w} {x} {o₀} {o} {p} {q} {a} {left} {i} {j} g n h =
     let d = sym (none_walk l t a step left c b i j h) ∙ g.walk in
     let y = two-end o p q start own e (sets o₀ start x) (rw (none-parts l t a step left c b i j h) at g.two) in
-    record { stored = record { list = y.0; ends = y.1 ∙ n }; word = ap wordAfter d; byte = ap byteAfter d }
+    record { stored = record { list = y.0; ends = y.1 ∙ n }; word = ap word_after d; byte = ap byte_after d }
 
 -- The loop of `portion_of`.
 pub record Adding (lens l : List ℕ) (t a₀ step n a left sum : ℕ) : Type 0 where
   pub row : Row lens l t a step left
-  pub same : sum + portion (headsOf l t a step left) ≡ portion (headsOf l t a₀ step n)
+  pub same : sum + portion (heads_of l t a step left) ≡ portion (heads_of l t a₀ step n)
 
 pub adding-none : (lens l : List ℕ) (t a step n : ℕ) → Row lens l t a step n → Adding lens l t a step n a n 0
 adding-none lens l t a step n g = record { row = g; same = zero-add _ }
 
 module _ (lens l : List ℕ) (t a₀ step n a left sum f k : ℕ) (g : Adding lens l t a₀ step n a left sum) (z : 0 < left) (e : f ≡ word_at l a)
     (q : k ≡ width (head_of (get_or lens f 0))) where
-  pub adding-same : sum + (k + portion (headsOf l t (a + step) step (left - 1))) ≡ portion (headsOf l t a₀ step n)
+  pub adding-same : sum + (k + portion (heads_of l t (a + step) step (left - 1))) ≡ portion (heads_of l t a₀ step n)
   unfolding portion
   adding-same =
       rw q (rw (row-heads lens l t a step left f g.row z e (head_of (get_or lens f 0)) (row-head lens l t a step left f g.row z e)) at g.same)
@@ -293,14 +293,14 @@ module _ (lens l : List ℕ) (t a₀ step n a left sum f k : ℕ) (g : Adding le
   pub adding-next : Adding lens l t a₀ step n (a + step) (left - 1) (sum + k)
   adding-next = record { row = row_next lens l t a step left f g.row z e; same = omega (arith, adding-same) }
 
-pub adding-end : (lens l : List ℕ) (t a₀ step n a left sum : ℕ) → Adding lens l t a₀ step n a left sum → left ≤ 0 → sum ≡ portion (headsOf l t a₀ step n)
+pub adding-end : (lens l : List ℕ) (t a₀ step n a left sum : ℕ) → Adding lens l t a₀ step n a left sum → left ≤ 0 → sum ≡ portion (heads_of l t a₀ step n)
 unfolding portion
 adding-end lens l t a₀ step n a left sum g h = omega (arith, rw (heads-none l t a step left h) at g.same)
 
 -- A leaf.
 module _ (l : List ℕ) (t : ℕ) (n : Node) (e : n ≡ node_of l t) (h : n.kind < 6) (c b : List ℕ) (i j : ℕ) where
-  pub tree-walk : walkItem (tree_of l t) c b i j ≡ walkItem (leafOf 0 n) c b i j
-  tree-walk = ap (λ (x : Ty). walkItem x c b i j) (as-leaf l t n e h) ∙ leaf-walk t n c b i j
+  pub tree_walk : walk_item (tree_of l t) c b i j ≡ walk_item (leaf_of 0 n) c b i j
+  tree_walk = ap (λ (x : Ty). walk_item x c b i j) (as_leaf l t n e h) ∙ leaf-walk t n c b i j
 
-  pub tree-write : writeItem (tree_of l t) c b i j ≡ writeItem (leafOf 0 n) c b i j
-  tree-write = ap (λ (x : Ty). writeItem x c b i j) (as-leaf l t n e h) ∙ leaf-write t n c b i j
+  pub tree_write : write_item_lem (tree_of l t) c b i j ≡ write_item_lem (leaf_of 0 n) c b i j
+  tree_write = ap (λ (x : Ty). write_item_lem x c b i j) (as_leaf l t n e h) ∙ leaf-write t n c b i j

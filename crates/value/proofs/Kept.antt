@@ -14,27 +14,27 @@ use Rattle.standard.proofs.Kept.{pick-kept}
 use Rattle.layout.specs.Table.{table_of}
 use Rattle.layout.specs.declared.Checked.{Checked}
 use Rattle.layout.specs.declared.Checked.TheVariants.{Bad, Upto}
-use Rattle.message.specs.Check.{messageType}
+use Rattle.message.specs.Check.{message_type}
 use Rattle.value.specs.Walk.{Walked, upto, wrong}
-use Rattle.value.specs.Write.{writeItem, walkAll, written_of, storedOf, writtenUnder, storedUnder, writeMessage, writtenBytes}
+use Rattle.value.specs.Write.{write_item_lem, walk_all, written_of, stored_of, written_under, stored_under, write_message, written_bytes}
 use Rattle.value.specs.declared.Written.TheVariants.{Length, Refused}
 
-length-refused : {A : Type 0} (n : ℕ) (r : Refusal) → Length n ≡ Refused r → A
-length-refused n r e = let z : ◌≡◌ {A = ℕ} 0 1 = cc in absurd (omega arith)
+length_refused : {A : Type 0} (n : ℕ) (r : Refusal) → Length n ≡ Refused r → A
+length_refused n r e = let z : ◌≡◌ {A = ℕ} 0 1 = cc in absurd (omega arith)
 
-kept : (w : Walked) (x o : List ℕ) (r : Refusal) → written_of w x o ≡ Refused r → storedOf w x o ≡ o
+kept : (w : Walked) (x o : List ℕ) (r : Refusal) → written_of w x o ≡ Refused r → stored_of w x o ≡ o
 kept (wrong r') x o r e = refl
 kept (upto i j) x o r e =
     let n = length x in
     let short = Refused (NoRoom n (length o)) in
-    let room = pick-kept (ltb (length o) n) short (Length n) (Refused r) o (sets o 0 x) (length-refused n r) in
+    let room = pick-kept (ltb (length o) n) short (Length n) (Refused r) o (sets o 0 x) (length_refused n r) in
     pick-kept (ltb 4294967295 n) (Refused TooLarge) (pick (ltb (length o) n) short (Length n)) (Refused r)
     o (pick (ltb (length o) n) o (sets o 0 x)) room e
 
-under-kept : (t : Checked) (l c b o : List ℕ) (r : Refusal) → writtenUnder t l c b o ≡ Refused r → storedUnder t l c b o ≡ o
+under-kept : (t : Checked) (l c b o : List ℕ) (r : Refusal) → written_under t l c b o ≡ Refused r → stored_under t l c b o ≡ o
 under-kept (Bad w) l c b o r e = refl
-under-kept (Upto n) l c b o r e = kept (walkAll (messageType l n) c b) (writeItem (messageType l n) c b 0 0) o r e
+under-kept (Upto n) l c b o r e = kept (walk_all (message_type l n) c b) (write_item_lem (message_type l n) c b 0 0) o r e
 
-pub write-refused : (l c b o : List ℕ) (r : Refusal) → writeMessage l c b o ≡ Refused r → writtenBytes l c b o ≡ o
-unfolding writeMessage writtenBytes
-write-refused l c b o r e = under-kept (table_of l) l c b o r e
+pub write_refused : (l c b o : List ℕ) (r : Refusal) → write_message l c b o ≡ Refused r → written_bytes l c b o ≡ o
+unfolding write_message written_bytes
+write_refused l c b o r e = under-kept (table_of l) l c b o r e

@@ -8,7 +8,7 @@ use borrow.Author.Tests.{lt-ltb, le-ltb, le-leb, lt-leb}
 use lib.ListN.{length, get_or}
 use lib.Dec.{leb}
 use Rattle.standard.specs.Bytes.{word_at}
-use Rattle.standard.specs.Types.{list, vector, head, headAll, width, portion}
+use Rattle.standard.specs.Types.{list, vector, head, head_all, width, portion}
 use Rattle.standard.specs.Parts.{join}
 use Rattle.standard.specs.declared.Head.{Head}
 use Rattle.standard.specs.declared.Refusal.TheVariants.{BadValue}
@@ -16,13 +16,13 @@ use Rattle.standard.proofs.Elements.{portion-copies}
 use Rattle.layout.specs.Tree.{node_of, tree_of, filled}
 use Rattle.layout.specs.Legal.{Legal}
 use Rattle.layout.specs.declared.Node.{Node}
-use Rattle.layout.proofs.Facts.{as-list, as-vector, legal-node, filled-get, length-filled}
+use Rattle.layout.proofs.Facts.{as_list_lem, as_vector, legal_node, filled-get, length-filled}
 use Rattle.message.specs.Steps.{Under, Row, row_of}
-use Rattle.message.proofs.Rows.{row_below, row-fixed, row-variable, heads-none}
+use Rattle.message.proofs.Rows.{row_below, row-fixed, row_variable, heads-none}
 use Rattle.message.proofs.Bodies.{container-row}
-use Rattle.message.proofs.Repeats.{else-list, element-below, element-copies, element-row, shared-copies, shared-heads}
-use Rattle.value.specs.Walk.{withWord, walkItem, walkFields}
-use Rattle.value.specs.Write.{writeItem, partsFrom}
+use Rattle.message.proofs.Repeats.{else_list, element-below, element-copies, element-row, shared-copies, shared-heads}
+use Rattle.value.specs.Walk.{with_word, walk_item, walk_fields}
+use Rattle.value.specs.Write.{write_item_lem, parts_from}
 use Rattle.value.specs.Steps.{LaidAs}
 use Rattle.value.specs.Stores.{Together}
 use Rattle.value.specs.declared.laid.Laid.{Laid}
@@ -33,34 +33,34 @@ use Rattle.value.proofs.Rows.{container-walk, container-write}
 module _ (lens l : List ℕ) (t : ℕ) (n : Node) (e : n ≡ node_of l t) (g : Under lens l (t + 1)) (k : 8 ≤ n.kind) (c b : List ℕ) (i j : ℕ) where
   -- A list: its count, and its elements behind it
   module _ (q : n.kind ≡ 8) where
-    list-tree : tree_of l t ≡ list t (tree_of l n.second) (word_at l (n.at + 2))
-    list-tree = as-list l t n e q (element-below lens l t n e g k)
+    list_tree : tree_of l t ≡ list t (tree_of l n.second) (word_at l (n.at + 2))
+    list_tree = as_list_lem l t n e q (element-below lens l t n e g k)
 
-    pub list-walk : walkItem (tree_of l t) c b i j ≡
-        withWord c i (leb (get_or c i 0) (word_at l (n.at + 2))) (walkFields (row_of l t (n.at + 1) 0 (get_or c i 0)) c b (i + 1) j)
-    unfolding walkItem
+    pub list-walk : walk_item (tree_of l t) c b i j ≡
+        with_word c i (leb (get_or c i 0) (word_at l (n.at + 2))) (walk_fields (row_of l t (n.at + 1) 0 (get_or c i 0)) c b (i + 1) j)
+    unfolding walk_item
     list-walk =
-        rw (list-tree, element-copies lens l t n e g k (get_or c i 0))
-        (ap (withWord c i (leb (get_or c i 0) (word_at l (n.at + 2)))) (walk-copies (tree_of l n.second) c b (get_or c i 0) (i + 1) j))
+        rw (list_tree, element-copies lens l t n e g k (get_or c i 0))
+        (ap (with_word c i (leb (get_or c i 0) (word_at l (n.at + 2)))) (walk-copies (tree_of l n.second) c b (get_or c i 0) (i + 1) j))
 
-    pub list-write : writeItem (tree_of l t) c b i j ≡ join (partsFrom (row_of l t (n.at + 1) 0 (get_or c i 0)) c b (i + 1) j)
-    unfolding writeItem
+    pub list-write : write_item_lem (tree_of l t) c b i j ≡ join (parts_from (row_of l t (n.at + 1) 0 (get_or c i 0)) c b (i + 1) j)
+    unfolding write_item_lem
     list-write =
-        rw (list-tree, element-copies lens l t n e g k (get_or c i 0)) (ap join (parts-copies (tree_of l n.second) c b (get_or c i 0) (i + 1) j))
+        rw (list_tree, element-copies lens l t n e g k (get_or c i 0)) (ap join (parts-copies (tree_of l n.second) c b (get_or c i 0) (i + 1) j))
 
   -- A vector: its elements alone
   module _ (q : n.kind ≡ 9) where
-    vector-tree : tree_of l t ≡ vector t (tree_of l n.second) (word_at l (n.at + 2))
-    vector-tree = as-vector l t n e q (element-below lens l t n e g k)
+    vector_tree : tree_of l t ≡ vector t (tree_of l n.second) (word_at l (n.at + 2))
+    vector_tree = as_vector l t n e q (element-below lens l t n e g k)
 
-    pub vector-walk : walkItem (tree_of l t) c b i j ≡ walkFields (row_of l t (n.at + 1) 0 (word_at l (n.at + 2))) c b i j
-    unfolding walkItem
-    vector-walk = rw (vector-tree, element-copies lens l t n e g k (word_at l (n.at + 2))) (walk-copies (tree_of l n.second) c b (word_at l (n.at + 2)) i j)
+    pub vector-walk : walk_item (tree_of l t) c b i j ≡ walk_fields (row_of l t (n.at + 1) 0 (word_at l (n.at + 2))) c b i j
+    unfolding walk_item
+    vector-walk = rw (vector_tree, element-copies lens l t n e g k (word_at l (n.at + 2))) (walk-copies (tree_of l n.second) c b (word_at l (n.at + 2)) i j)
 
-    pub vector-write : writeItem (tree_of l t) c b i j ≡ join (partsFrom (row_of l t (n.at + 1) 0 (word_at l (n.at + 2))) c b i j)
-    unfolding writeItem
+    pub vector-write : write_item_lem (tree_of l t) c b i j ≡ join (parts_from (row_of l t (n.at + 1) 0 (word_at l (n.at + 2))) c b i j)
+    unfolding write_item_lem
     vector-write =
-        rw (vector-tree, element-copies lens l t n e g k (word_at l (n.at + 2))) (ap join (parts-copies (tree_of l n.second) c b (word_at l (n.at + 2)) i j))
+        rw (vector_tree, element-copies lens l t n e g k (word_at l (n.at + 2))) (ap join (parts-copies (tree_of l n.second) c b (word_at l (n.at + 2)) i j))
 
 -- What `lay` answers of the type t, whose words are n.
 module _ (l : List ℕ) (t : ℕ) (g : Legal l (t + 1)) (f : t < 64) (n : Node) (e : n ≡ node_of l t) (c : List ℕ) (i : ℕ) where
@@ -71,7 +71,7 @@ module _ (l : List ℕ) (t : ℕ) (g : Legal l (t + 1)) (f : t < 64) (n : Node) 
   laid-container q =
       record {
         row = λ lens u. container-row lens l t n e u q;
-        small = (legal-node l t n e g).small;
+        small = (legal_node l t n e g).small;
         walk = λ b j. container-walk l t n e q c b i j;
         write = λ b j. container-write l t n e q c b i j;
       }
@@ -89,10 +89,10 @@ module _ (l : List ℕ) (t : ℕ) (g : Legal l (t + 1)) (f : t < 64) (n : Node) 
 
       module _ (z : n.kind ≡ 9 → ⊥) where
         kind-list : n.kind ≡ 8
-        kind-list = else-list (filled l (t + 1)) l t n e under k z
+        kind-list = else_list (filled l (t + 1)) l t n e under k z
 
-        pub laid-missing : length c ≤ i → LaidAs l t c i (Laid.Wrong (BadValue 0 (length c)))
-        laid-missing h b j = rw (list-walk (filled l (t + 1)) l t n e under k c b i j kind-list, le-ltb i (length c) h)
+        pub laid_missing : length c ≤ i → LaidAs l t c i (Laid.Wrong (BadValue 0 (length c)))
+        laid_missing h b j = rw (list-walk (filled l (t + 1)) l t n e under k c b i j kind-list, le-ltb i (length c) h)
 
         module _ (h : i < length c) where
           pub laid-over : m < get_or c i 0 → LaidAs l t c i (Laid.Wrong (BadValue 0 i))
@@ -110,13 +110,13 @@ module _ (l : List ℕ) (t : ℕ) (g : Legal l (t + 1)) (f : t < 64) (n : Node) 
               }
 
 -- Elements of fixed size are of their length together, others have an offset each.
-some-factor : (n k : ℕ) → 0 < n * k → 0 < k
-some-factor n zero h = absurd (omega arith)
-some-factor n (suc k) h = omega arith
+some_factor : (n k : ℕ) → 0 < n * k → 0 < k
+some_factor n zero h = absurd (omega arith)
+some_factor n (suc k) h = omega arith
 
-none-factor : (n k : ℕ) → 0 < n → n * k ≤ 0 → k ≡ 0
-none-factor n zero z h = refl
-none-factor n (suc k) z h = absurd (omega arith)
+none_factor : (n k : ℕ) → 0 < n → n * k ≤ 0 → k ≡ 0
+none_factor n zero z h = refl
+none_factor n (suc k) z h = absurd (omega arith)
 
 pub elements-together : (lens l : List ℕ) (t a n f k : ℕ) → Row lens l t a 0 n → 0 < n → f ≡ word_at l a → k ≡ get_or lens f 0 →
     Together (row_of l t a 0 n) 0 n (n * k)
@@ -125,10 +125,10 @@ elements-together lens l t a n f k g z e q =
     let below = row_below lens l t a 0 n f g z e in
     record {
       fixed = λ s.
-          let x = row-fixed lens l t a 0 n f g z e k q (λ (h : k ≡ 0). omega (arith, some-factor n k s)) in
-          ap headAll (shared-copies l t a f e below n) ∙ copies-fixed (tree_of l f) k n (sym x);
+          let x = row-fixed lens l t a 0 n f g z e k q (λ (h : k ≡ 0). omega (arith, some_factor n k s)) in
+          ap head_all (shared-copies l t a f e below n) ∙ copies-fixed (tree_of l f) k n (sym x);
       offsets = λ s h.
-          let x = row-variable lens l t a 0 n f g z e k q (none-factor n k z s) in
+          let x = row_variable lens l t a 0 n f g z e k q (none_factor n k z s) in
           ap portion (shared-heads l t a f e below n) ∙ portion-copies n (head (tree_of l f)) ∙ ap (λ (v : Head). n * width v) (sym x) ∙ omega arith;
     }
 

@@ -9,12 +9,12 @@ use Rattle.standard.specs.Bytes.{Bytes}
 use Rattle.standard.specs.Serialize.{Val, Ok, serialize}
 use Rattle.layout.specs.Table.{table_of}
 use Rattle.layout.specs.declared.Checked.TheVariants.{Upto}
-use Rattle.message.specs.Check.{messageType}
+use Rattle.message.specs.Check.{message_type}
 use Rattle.message.specs.Form.{contents, bodies}
-use Rattle.message.specs.Unfold.{unfoldMessage, unfoldedWords, unfoldedBytes}
+use Rattle.message.specs.Unfold.{unfold_message, unfolded_words, unfolded_bytes}
 use Rattle.message.specs.declared.Unfolded.{Unfolded}
-use Rattle.message.proofs.UnfoldTheorem.{unfold-value}
-use Rattle.value.specs.Write.{writeMessage, writtenBytes}
+use Rattle.message.proofs.UnfoldTheorem.{unfold_value}
+use Rattle.value.specs.Write.{write_message, written_bytes}
 use Rattle.value.specs.declared.Written.TheVariants.{Length}
 use Rattle.value.proofs.Forms.{form-written}
 
@@ -25,14 +25,14 @@ stored-first o x h = ap (take (length x)) (sets-eq x o 0 (omega arith)) ∙ take
 -- o and p are the buffers that unfolding fills, q the one that writing fills.
 pub written_back :
     (l : List ℕ) (n : ℕ) → Bytes l → table_of l ≡ Upto n → (m : List ℕ) → length m < 2 ^ 32
-    → (v : Val (messageType l n)) → Ok (messageType l n) v → serialize (messageType l n) v ≡ m → (o p q : List ℕ)
-    → length (contents (messageType l n) v) ≤ length o → length (bodies (messageType l n) v) ≤ length p → length m ≤ length q
-    → (c b : List ℕ) → c ≡ take (length (contents (messageType l n) v)) (unfoldedWords l m o p)
-    → b ≡ take (length (bodies (messageType l n) v)) (unfoldedBytes l m o p)
-    → (writeMessage l c b q ≡ Length (length m)) × (writtenBytes l c b q ≡ sets q 0 m)
+    → (v : Val (message_type l n)) → Ok (message_type l n) v → serialize (message_type l n) v ≡ m → (o p q : List ℕ)
+    → length (contents (message_type l n) v) ≤ length o → length (bodies (message_type l n) v) ≤ length p → length m ≤ length q
+    → (c b : List ℕ) → c ≡ take (length (contents (message_type l n) v)) (unfolded_words l m o p)
+    → b ≡ take (length (bodies (message_type l n) v)) (unfolded_bytes l m o p)
+    → (write_message l c b q ≡ Length (length m)) × (written_bytes l c b q ≡ sets q 0 m)
 written_back l n h e m k v g s o p q i j r c b x y =
-    let t = messageType l n in
-    let u = unfold-value l n h e m k o p v g s i j in
+    let t = message_type l n in
+    let u = unfold_value l n h e m k o p v g s i j in
     let c-is : c ≡ contents t v = x ∙ ap (take (length (contents t v))) u.1 ∙ stored-first o (contents t v) i in
     let b-is : b ≡ bodies t v = y ∙ ap (take (length (bodies t v))) u.2 ∙ stored-first p (bodies t v) j in
     let w = form-written l n h e v g q (rw s k) (rw s r) in
@@ -40,15 +40,15 @@ written_back l n h e m k v g s o p q i j r c b x y =
 
 -- And the other way: the form of a value, written and unfolded again, is the form.
 pub unfolded-back :
-    (l : List ℕ) (n : ℕ) → Bytes l → table_of l ≡ Upto n → (v : Val (messageType l n)) → Ok (messageType l n) v → (o p q : List ℕ)
-    → length (serialize (messageType l n) v) < 2 ^ 32 → length (serialize (messageType l n) v) ≤ length q
-    → length (contents (messageType l n) v) ≤ length o → length (bodies (messageType l n) v) ≤ length p
+    (l : List ℕ) (n : ℕ) → Bytes l → table_of l ≡ Upto n → (v : Val (message_type l n)) → Ok (message_type l n) v → (o p q : List ℕ)
+    → length (serialize (message_type l n) v) < 2 ^ 32 → length (serialize (message_type l n) v) ≤ length q
+    → length (contents (message_type l n) v) ≤ length o → length (bodies (message_type l n) v) ≤ length p
     → (m : List ℕ)
-    → m ≡ take (length (serialize (messageType l n) v)) (writtenBytes l (contents (messageType l n) v) (bodies (messageType l n) v) q)
-    → (unfoldMessage l m o p ≡ Unfolded.Sizes (length (contents (messageType l n) v)) (length (bodies (messageType l n) v)))
-    × (unfoldedWords l m o p ≡ sets o 0 (contents (messageType l n) v)) × (unfoldedBytes l m o p ≡ sets p 0 (bodies (messageType l n) v))
+    → m ≡ take (length (serialize (message_type l n) v)) (written_bytes l (contents (message_type l n) v) (bodies (message_type l n) v) q)
+    → (unfold_message l m o p ≡ Unfolded.Sizes (length (contents (message_type l n) v)) (length (bodies (message_type l n) v)))
+    × (unfolded_words l m o p ≡ sets o 0 (contents (message_type l n) v)) × (unfolded_bytes l m o p ≡ sets p 0 (bodies (message_type l n) v))
 unfolded-back l n h e v g o p q small room i j m x =
-    let s = serialize (messageType l n) v in
+    let s = serialize (message_type l n) v in
     let w = form-written l n h e v g q small room in
     let m-is : m ≡ s = x ∙ ap (take (length s)) w.1 ∙ stored-first q s room in
-    unfold-value l n h e m (rw m-is small) o p v g (sym m-is) i j
+    unfold_value l n h e m (rw m-is small) o p v g (sym m-is) i j

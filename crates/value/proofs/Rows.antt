@@ -15,9 +15,9 @@ use Rattle.standard.proofs.Join.{length-join}
 use Rattle.layout.specs.Tree.{node_of, tree_of, head_of}
 use Rattle.layout.specs.declared.Node.{Node}
 use Rattle.message.specs.Steps.{Row, row_of}
-use Rattle.message.proofs.Rows.{row-none, row_first, row_next, row-head, container-tree}
-use Rattle.value.specs.Walk.{upto, onward, walkItem, walkFields}
-use Rattle.value.specs.Write.{wordAfter, byteAfter, writeItem, partsFrom}
+use Rattle.message.proofs.Rows.{row-none, row_first, row_next, row-head, container_tree}
+use Rattle.value.specs.Walk.{upto, onward, walk_item, walk_fields}
+use Rattle.value.specs.Write.{word_after, byte_after, write_item_lem, parts_from}
 use Rattle.value.specs.Steps.{cap, measured, extra}
 use Rattle.value.specs.declared.measure.Mark.{Mark}
 use Rattle.value.specs.declared.measure.Measured.{Measured}
@@ -31,22 +31,22 @@ join_more Variable s xs = length-join (piece Variable s ∷ xs) ∙ simp length-
 
 -- The first field and the rest.
 module _ (lens l : List ℕ) (t a step left f : ℕ) (g : Row lens l t a step left) (z : 0 < left) (e : f ≡ word_at l a) (c b : List ℕ) (i j : ℕ) where
-  pub fields-walk : walkFields (row_of l t a step left) c b i j ≡
-      onward (walkItem (tree_of l f) c b i j) (λ m n. walkFields (row_of l t (a + step) step (left - 1)) c b m n)
-  unfolding walkItem
+  pub fields-walk : walk_fields (row_of l t a step left) c b i j ≡
+      onward (walk_item (tree_of l f) c b i j) (λ m n. walk_fields (row_of l t (a + step) step (left - 1)) c b m n)
+  unfolding walk_item
   fields-walk = rw (row_first l t a step left g.named z, e)
 
-  pub fields-parts : partsFrom (row_of l t a step left) c b i j ≡ piece (head (tree_of l f)) (writeItem (tree_of l f) c b i j) ∷ partsFrom
-      (row_of l t (a + step) step (left - 1)) c b (wordAfter (walkItem (tree_of l f) c b i j)) (byteAfter (walkItem (tree_of l f) c b i j))
-  unfolding writeItem
+  pub fields-parts : parts_from (row_of l t a step left) c b i j ≡ piece (head (tree_of l f)) (write_item_lem (tree_of l f) c b i j) ∷ parts_from
+      (row_of l t (a + step) step (left - 1)) c b (word_after (walk_item (tree_of l f) c b i j)) (byte_after (walk_item (tree_of l f) c b i j))
+  unfolding write_item_lem
   fields-parts = rw (row_first l t a step left g.named z, e)
 
-pub none_walk : (l : List ℕ) (t a step left : ℕ) (c b : List ℕ) (i j : ℕ) → left ≤ 0 → walkFields (row_of l t a step left) c b i j ≡ upto i j
-unfolding walkItem
+pub none_walk : (l : List ℕ) (t a step left : ℕ) (c b : List ℕ) (i j : ℕ) → left ≤ 0 → walk_fields (row_of l t a step left) c b i j ≡ upto i j
+unfolding walk_item
 none_walk l t a step left c b i j h = rw (row-none l t a step left h)
 
-pub none-parts : (l : List ℕ) (t a step left : ℕ) (c b : List ℕ) (i j : ℕ) → left ≤ 0 → partsFrom (row_of l t a step left) c b i j ≡ []
-unfolding writeItem
+pub none-parts : (l : List ℕ) (t a step left : ℕ) (c b : List ℕ) (i j : ℕ) → left ≤ 0 → parts_from (row_of l t a step left) c b i j ≡ []
+unfolding write_item_lem
 none-parts l t a step left c b i j h = rw (row-none l t a step left h)
 
 -- The loop of `measure_fields`: what is measured, and what is left to measure, give the whole.
@@ -54,61 +54,61 @@ pub record Measuring (lens l : List ℕ) (t a₀ step n : ℕ) (c b : List ℕ) 
   pub row : Row lens l t a step left
   pub some : left ≤ n
   pub small : sum ≤ 4294967296
-  pub same : measured (walkFields (row_of l t a step left) c b i j) (sum + length (join (partsFrom (row_of l t a step left) c b i j))) ≡
-      measured (walkFields (row_of l t a₀ step n) c b i₀ j₀) (length (join (partsFrom (row_of l t a₀ step n) c b i₀ j₀)))
+  pub same : measured (walk_fields (row_of l t a step left) c b i j) (sum + length (join (parts_from (row_of l t a step left) c b i j))) ≡
+      measured (walk_fields (row_of l t a₀ step n) c b i₀ j₀) (length (join (parts_from (row_of l t a₀ step n) c b i₀ j₀)))
 
-pub measuring-none : (lens l : List ℕ) (t a step n : ℕ) (c b : List ℕ) (i j : ℕ) → Row lens l t a step n → Measuring lens l t a step n c b i j 0 a n i j
-measuring-none lens l t a step n c b i j g =
+pub measuring_none : (lens l : List ℕ) (t a step n : ℕ) (c b : List ℕ) (i j : ℕ) → Row lens l t a step n → Measuring lens l t a step n c b i j 0 a n i j
+measuring_none lens l t a step n c b i j g =
     record {
       row = g;
       some = omega arith;
       small = omega arith;
-      same = ap (measured (walkFields (row_of l t a step n) c b i j)) (zero-add (length (join (partsFrom (row_of l t a step n) c b i j))));
+      same = ap (measured (walk_fields (row_of l t a step n) c b i j)) (zero-add (length (join (parts_from (row_of l t a step n) c b i j))));
     }
 
 module _ (lens l : List ℕ) (t a₀ step n : ℕ) (c b : List ℕ) (i₀ j₀ : ℕ) (sum a left i j f : ℕ) (g : Measuring lens l t a₀ step n c b i₀ j₀ sum a left i j)
     (z : 0 < left) (e : f ≡ word_at l a) where
-  pub measuring-next : (m : Mark) → Measured.Upto m ≡ measured (walkItem (tree_of l f) c b i j) (length (writeItem (tree_of l f) c b i j)) → (k : ℕ) →
+  pub measuring_next : (m : Mark) → Measured.Upto m ≡ measured (walk_item (tree_of l f) c b i j) (length (write_item_lem (tree_of l f) c b i j)) → (k : ℕ) →
       k ≡ get_or lens f 0 → (own : ℕ) → own ≡ cap (extra (head_of k) + m.len) →
       Measuring lens l t a₀ step n c b i₀ j₀ (cap (sum + own)) (a + step) (left - 1) m.word m.byte
-  measuring-next m h k o own p =
-      let q = measured-says (walkItem (tree_of l f) c b i j) (length (writeItem (tree_of l f) c b i j)) m h in
-      let x = partsFrom (row_of l t (a + step) step (left - 1)) c b m.word m.byte in
+  measuring_next m h k o own p =
+      let q = measured-says (walk_item (tree_of l f) c b i j) (length (write_item_lem (tree_of l f) c b i j)) m h in
+      let x = parts_from (row_of l t (a + step) step (left - 1)) c b m.word m.byte in
       let d : head_of k ≡ head (tree_of l f) = ap head_of o ∙ row-head lens l t a step left f g.row z e in
-      let y = join_more (head (tree_of l f)) (writeItem (tree_of l f) c b i j) x in
-      let v : cap (cap (sum + own) + length (join x)) ≡ cap (sum + length (join (piece (head (tree_of l f)) (writeItem (tree_of l f) c b i j) ∷ x))) =
+      let y = join_more (head (tree_of l f)) (write_item_lem (tree_of l f) c b i j) x in
+      let v : cap (cap (sum + own) + length (join x)) ≡ cap (sum + length (join (piece (head (tree_of l f)) (write_item_lem (tree_of l f) c b i j) ∷ x))) =
       rw (y, p, d, q.1) (omega (arith, g.small)) in
       record {
         row = row_next lens l t a step left f g.row z e;
         some = omega (arith, g.some);
         small = omega arith;
         same =
-            measured-cap (walkFields (row_of l t (a + step) step (left - 1)) c b m.word m.byte) _ _ v
+            measured-cap (walk_fields (row_of l t (a + step) step (left - 1)) c b m.word m.byte) _ _ v
             ∙ rw (fields-walk lens l t a step left f g.row z e c b i j, fields-parts lens l t a step left f g.row z e c b i j, q.0) at g.same;
       }
 
-  pub measuring-stop : (x : Refusal) → Measured.Wrong x ≡ measured (walkItem (tree_of l f) c b i j) (length (writeItem (tree_of l f) c b i j)) →
-      Measured.Wrong x ≡ measured (walkFields (row_of l t a₀ step n) c b i₀ j₀) (length (join (partsFrom (row_of l t a₀ step n) c b i₀ j₀)))
-  measuring-stop x h =
-      let q = measured-wrong (walkItem (tree_of l f) c b i j) (length (writeItem (tree_of l f) c b i j)) x h in
+  pub measuring_stop : (x : Refusal) → Measured.Wrong x ≡ measured (walk_item (tree_of l f) c b i j) (length (write_item_lem (tree_of l f) c b i j)) →
+      Measured.Wrong x ≡ measured (walk_fields (row_of l t a₀ step n) c b i₀ j₀) (length (join (parts_from (row_of l t a₀ step n) c b i₀ j₀)))
+  measuring_stop x h =
+      let q = measured-wrong (walk_item (tree_of l f) c b i j) (length (write_item_lem (tree_of l f) c b i j)) x h in
       rw (fields-walk lens l t a step left f g.row z e c b i j, q) at g.same
 
-pub measuring-end : (lens l : List ℕ) (t a₀ step n : ℕ) (c b : List ℕ) (i₀ j₀ : ℕ) (sum a left i j : ℕ) →
+pub measuring_end : (lens l : List ℕ) (t a₀ step n : ℕ) (c b : List ℕ) (i₀ j₀ : ℕ) (sum a left i j : ℕ) →
     Measuring lens l t a₀ step n c b i₀ j₀ sum a left i j → left ≤ 0 →
     Measured.Upto (record { word = i; byte = j; len = sum }) ≡
-    measured (walkFields (row_of l t a₀ step n) c b i₀ j₀) (length (join (partsFrom (row_of l t a₀ step n) c b i₀ j₀)))
+    measured (walk_fields (row_of l t a₀ step n) c b i₀ j₀) (length (join (parts_from (row_of l t a₀ step n) c b i₀ j₀)))
 unfolding join fronts backs fixed_lengths
-measuring-end lens l t a₀ step n c b i₀ j₀ sum a left i j g h =
+measuring_end lens l t a₀ step n c b i₀ j₀ sum a left i j g h =
     let v : sum ≡ cap (sum + length (join [])) = omega (arith, g.small) in
     ap (λ (k : ℕ). Measured.Upto (record { word = i; byte = j; len = k })) v
     ∙ rw (none_walk l t a step left c b i j h, none-parts l t a step left c b i j h) at g.same
 
 -- A container.
 module _ (l : List ℕ) (t : ℕ) (r : Node) (e : r ≡ node_of l t) (k : r.kind ≡ 6) (c b : List ℕ) (i j : ℕ) where
-  pub container-walk : walkItem (tree_of l t) c b i j ≡ walkFields (row_of l t (r.at + 2) 1 r.second) c b i j
-  unfolding walkItem
-  container-walk = rw (container-tree l t r e k)
+  pub container-walk : walk_item (tree_of l t) c b i j ≡ walk_fields (row_of l t (r.at + 2) 1 r.second) c b i j
+  unfolding walk_item
+  container-walk = rw (container_tree l t r e k)
 
-  pub container-write : writeItem (tree_of l t) c b i j ≡ join (partsFrom (row_of l t (r.at + 2) 1 r.second) c b i j)
-  unfolding writeItem
-  container-write = rw (container-tree l t r e k)
+  pub container-write : write_item_lem (tree_of l t) c b i j ≡ join (parts_from (row_of l t (r.at + 2) 1 r.second) c b i j)
+  unfolding write_item_lem
+  container-write = rw (container_tree l t r e k)

@@ -9,14 +9,14 @@ use lib.ListN.{length, get_or}
 use lib.Dec.{eqb, ltb}
 use Rattle.standard.specs.Choice.{pick}
 use Rattle.standard.specs.Bytes.{word_at}
-use Rattle.standard.specs.Types.{Ty, Opts, number, boolean, fixedBytes, freeBytes, bitVector, bitList, over, bare, body, head}
+use Rattle.standard.specs.Types.{Ty, Opts, number, boolean, fixed_bytes, free_bytes, bit_vector, bit_list, over, bare, body, head}
 use Rattle.standard.specs.declared.Refusal.TheVariants.{BadValue}
-use Rattle.layout.specs.Tree.{node_of, leafOf, options, trees, tree_of}
+use Rattle.layout.specs.Tree.{node_of, leaf_of, options, trees, tree_of}
 use Rattle.layout.specs.Legal.{LowerOrBare, LegalNode, Legal}
 use Rattle.layout.specs.declared.Node.{Node}
-use Rattle.layout.proofs.Facts.{trees-get, as-union, legal-node}
-use Rattle.value.specs.Walk.{Walked, upto, wrong, walkItem, walkOption}
-use Rattle.value.specs.Write.{writeItem, writeOption}
+use Rattle.layout.proofs.Facts.{trees-get, as_union, legal_node}
+use Rattle.value.specs.Walk.{Walked, upto, wrong, walk_item, walk_option}
+use Rattle.value.specs.Write.{write_item_lem, write_option}
 use Rattle.value.specs.Steps.{choose, LaidAs}
 use Rattle.value.specs.declared.laid.Laid.{Laid}
 
@@ -36,27 +36,27 @@ find (bare s os) k = pick (eqb k s) alone (find os k)
 find (body s t os) k = pick (eqb k s) (holds t) (find os k)
 
 module _ (c b : List ℕ) (i j : ℕ) where
-  abbrev walkFound : Found → Walked
-  walkFound nothing = wrong (BadValue 0 i)
-  walkFound alone = upto (i + 1) j
-  walkFound (holds t) = walkItem t c b (i + 1) j
+  abbrev walk_found : Found → Walked
+  walk_found nothing = wrong (BadValue 0 i)
+  walk_found alone = upto (i + 1) j
+  walk_found (holds t) = walk_item t c b (i + 1) j
 
-  abbrev writeFound : Found → List ℕ
-  writeFound nothing = []
-  writeFound alone = []
-  writeFound (holds t) = writeItem t c b (i + 1) j
+  abbrev write_found : Found → List ℕ
+  write_found nothing = []
+  write_found alone = []
+  write_found (holds t) = write_item_lem t c b (i + 1) j
 
-  walk-found : (os : Opts) (k : ℕ) → walkOption os k c b i j ≡ walkFound (find os k)
-  unfolding walkItem find
+  walk-found : (os : Opts) (k : ℕ) → walk_option os k c b i j ≡ walk_found (find os k)
+  unfolding walk_item find
   walk-found over k = refl
-  walk-found (bare s os) k = rw (walk-found os k) (pick-ap walkFound (eqb k s) alone (find os k))
-  walk-found (body s t os) k = rw (walk-found os k) (pick-ap walkFound (eqb k s) (holds t) (find os k))
+  walk-found (bare s os) k = rw (walk-found os k) (pick-ap walk_found (eqb k s) alone (find os k))
+  walk-found (body s t os) k = rw (walk-found os k) (pick-ap walk_found (eqb k s) (holds t) (find os k))
 
-  write-found : (os : Opts) (k : ℕ) → writeOption os k c b i j ≡ writeFound (find os k)
-  unfolding writeItem find
+  write-found : (os : Opts) (k : ℕ) → write_option os k c b i j ≡ write_found (find os k)
+  unfolding write_item_lem find
   write-found over k = refl
-  write-found (bare s os) k = rw (write-found os k) (pick-ap writeFound (eqb k s) alone (find os k))
-  write-found (body s t os) k = rw (write-found os k) (pick-ap writeFound (eqb k s) (holds t) (find os k))
+  write-found (bare s os) k = rw (write-found os k) (pick-ap write_found (eqb k s) alone (find os k))
+  write-found (body s t os) k = rw (write-found os k) (pick-ap write_found (eqb k s) (holds t) (find os k))
 
 -- The word that a selector points to, and what is found there
 abbrev found_at : List Ty → ℕ → Found
@@ -71,10 +71,10 @@ find-here w lower os k = go (eqb w 4294967295)
     go true = rw (eq-eqb k k refl)
     go false = rw (eq-eqb k k refl)
 
-find-skip : (q : Bool) (x : Ty) (os : Opts) (s k : ℕ) → (k ≡ s → ⊥) → find (pick q (bare s os) (body s x os)) k ≡ find os k
+find_skip : (q : Bool) (x : Ty) (os : Opts) (s k : ℕ) → (k ≡ s → ⊥) → find (pick q (bare s os) (body s x os)) k ≡ find os k
 unfolding find
-find-skip true x os s k h = rw (ne_eqb k s h)
-find-skip false x os s k h = rw (ne_eqb k s h)
+find_skip true x os s k h = rw (ne_eqb k s h)
+find_skip false x os s k h = rw (ne_eqb k s h)
 
 options-find : (l : List ℕ) (lower : List Ty) (n a s k : ℕ) → s ≤ k →
     find (options l lower a s n) k ≡ pick (ltb k (s + n)) (found_at lower (word_at l (a + (k - s)))) nothing
@@ -99,7 +99,7 @@ options-find l lower (suc n) a s k h = go (eqb k s) refl (options-find l lower n
         let q : k ≡ s → ⊥ = eqb-false _ _ p in
         let e : a + 1 + (k - (s + 1)) ≡ a + (k - s) = omega arith in
         let m : s + 1 + n ≡ s + suc n = omega arith in
-        find-skip (eqb (word_at l a) 4294967295) (get_or lower (word_at l a) (boolean 0)) rest s k q ∙ rw (e, m) at (f (omega arith))
+        find_skip (eqb (word_at l a) 4294967295) (get_or lower (word_at l a) (boolean 0)) rest s k q ∙ rw (e, m) at (f (omega arith))
 
 whole-find : (l : List ℕ) (lower : List Ty) (a n k : ℕ) → find (options l lower a 0 n) k ≡ pick (ltb k n) (found_at lower (word_at l (a + k))) nothing
 whole-find l lower a n k =
@@ -137,19 +137,19 @@ module _ (l : List ℕ) (a n : ℕ) (c : List ℕ) (i : ℕ) where
       go true false r f g h e = let z : ◌≡◌ {A = ℕ} 0 1 = cc in absurd (omega arith)
       go false q r f g h e = let z : ◌≡◌ {A = ℕ} 0 1 = cc in absurd (omega arith)
 
-  abbrev wrongOf : Laid → Walked → Type 0
-  wrongOf (Laid.Wrong x) y = y ≡ wrong x
-  wrongOf Laid.Bare y = Unit {0}
-  wrongOf (Laid.Body o) y = Unit {0}
-  wrongOf (Laid.Fields a b c d) y = ⊥
+  abbrev wrong_of : Laid → Walked → Type 0
+  wrong_of (Laid.Wrong x) y = y ≡ wrong x
+  wrong_of Laid.Bare y = Unit {0}
+  wrong_of (Laid.Body o) y = Unit {0}
+  wrong_of (Laid.Fields a b c d) y = ⊥
 
-  chosen-wrong : (lower : List Ty) (b : List ℕ) (j : ℕ) → wrongOf (choose l a n c i)
-      (pick (ltb i (length c)) (walkFound c b i j (pick (ltb (get_or c i 0) n) (found_at lower w) nothing)) (wrong (BadValue 0 (length c))))
+  chosen-wrong : (lower : List Ty) (b : List ℕ) (j : ℕ) → wrong_of (choose l a n c i)
+      (pick (ltb i (length c)) (walk_found c b i j (pick (ltb (get_or c i 0) n) (found_at lower w) nothing)) (wrong (BadValue 0 (length c))))
   unfolding choose w
   chosen-wrong lower b j = go (ltb i (length c)) (ltb (get_or c i 0) n) (eqb w 4294967295)
     where
-      go : (p q r : Bool) → wrongOf (pick p (pick q (pick r Laid.Bare (Laid.Body w)) (Laid.Wrong (BadValue 0 i)))
-          (Laid.Wrong (BadValue 0 (length c)))) (pick p (walkFound c b i j (pick q (found_at lower w) nothing)) (wrong (BadValue 0 (length c))))
+      go : (p q r : Bool) → wrong_of (pick p (pick q (pick r Laid.Bare (Laid.Body w)) (Laid.Wrong (BadValue 0 i)))
+          (Laid.Wrong (BadValue 0 (length c)))) (pick p (walk_found c b i j (pick q (found_at lower w) nothing)) (wrong (BadValue 0 (length c))))
       go true true true = tt
       go true true false = tt
       go true false r = refl
@@ -157,29 +157,29 @@ module _ (l : List ℕ) (a n : ℕ) (c : List ℕ) (i : ℕ) where
 
 -- A union of the table: what `select` answers is what its item is made of.
 module _ (l : List ℕ) (t : ℕ) (r : Node) (e : r ≡ node_of l t) (k : r.kind ≡ 7) (g : Legal l (t + 1)) (c : List ℕ) (i : ℕ) where
-  union-walk : (b : List ℕ) (j : ℕ) → walkItem (tree_of l t) c b i j ≡ pick (ltb i (length c))
-      (walkFound c b i j (pick (ltb (get_or c i 0) r.second) (found_at (trees l t) (word_at l (r.at + 2 + get_or c i 0))) nothing))
+  union-walk : (b : List ℕ) (j : ℕ) → walk_item (tree_of l t) c b i j ≡ pick (ltb i (length c))
+      (walk_found c b i j (pick (ltb (get_or c i 0) r.second) (found_at (trees l t) (word_at l (r.at + 2 + get_or c i 0))) nothing))
       (wrong (BadValue 0 (length c)))
-  unfolding walkItem
+  unfolding walk_item
   union-walk b j =
       rw (
-        as-union l t r e k,
+        as_union l t r e k,
         walk-found c b i j (options l (trees l t) (r.at + 2) 0 r.second) (get_or c i 0),
         whole-find l (trees l t) (r.at + 2) r.second (get_or c i 0),
       )
 
-  union-write : (b : List ℕ) (j : ℕ) → writeItem (tree_of l t) c b i j ≡ get_or c i 0 ∷ writeFound c b i j
+  union-write : (b : List ℕ) (j : ℕ) → write_item_lem (tree_of l t) c b i j ≡ get_or c i 0 ∷ write_found c b i j
       (pick (ltb (get_or c i 0) r.second) (found_at (trees l t) (word_at l (r.at + 2 + get_or c i 0))) nothing)
-  unfolding writeItem
+  unfolding write_item_lem
   union-write b j =
       rw (
-        as-union l t r e k,
+        as_union l t r e k,
         write-found c b i j (options l (trees l t) (r.at + 2) 0 r.second) (get_or c i 0),
         whole-find l (trees l t) (r.at + 2) r.second (get_or c i 0),
       )
 
   few : LegalNode l t r
-  few = legal-node l t r e g
+  few = legal_node l t r e g
 
   pub laid-union : (x : Laid) → x ≡ choose l (r.at + 2) r.second c i → LaidAs l t c i x
   unfolding w LowerOrBare
@@ -208,18 +208,18 @@ module _ (l : List ℕ) (t : ℕ) (r : Node) (e : r ≡ node_of l t) (k : r.kind
 
 -- A leaf's number is no matter.
 module _ (t : ℕ) (n : Node) where
-  leaf-any : {A : Type 0} (f : Ty → A) → ((w : ℕ) → f (number t w) ≡ f (number 0 w)) → f (boolean t) ≡ f (boolean 0) →
-      ((w : ℕ) → f (fixedBytes t w) ≡ f (fixedBytes 0 w)) → ((w : ℕ) → f (freeBytes t w) ≡ f (freeBytes 0 w)) →
-      ((w : ℕ) → f (bitVector t w) ≡ f (bitVector 0 w)) → ((w : ℕ) → f (bitList t w) ≡ f (bitList 0 w)) → f (leafOf t n) ≡ f (leafOf 0 n)
-  unfolding leafOf
-  leaf-any f x0 x1 x2 x3 x4 x5 = go (eqb n.kind 0) (eqb n.kind 1) (eqb n.kind 2) (eqb n.kind 3) (eqb n.kind 4)
+  leaf_any : {A : Type 0} (f : Ty → A) → ((w : ℕ) → f (number t w) ≡ f (number 0 w)) → f (boolean t) ≡ f (boolean 0) →
+      ((w : ℕ) → f (fixed_bytes t w) ≡ f (fixed_bytes 0 w)) → ((w : ℕ) → f (free_bytes t w) ≡ f (free_bytes 0 w)) →
+      ((w : ℕ) → f (bit_vector t w) ≡ f (bit_vector 0 w)) → ((w : ℕ) → f (bit_list t w) ≡ f (bit_list 0 w)) → f (leaf_of t n) ≡ f (leaf_of 0 n)
+  unfolding leaf_of
+  leaf_any f x0 x1 x2 x3 x4 x5 = go (eqb n.kind 0) (eqb n.kind 1) (eqb n.kind 2) (eqb n.kind 3) (eqb n.kind 4)
     where
       s : ℕ
       s = n.second
 
       go : (p q r u v : Bool) → f (pick p (number t s) (pick q (boolean t)
-          (pick r (fixedBytes t s) (pick u (freeBytes t s) (pick v (bitVector t s) (bitList t s)))))) ≡
-          f (pick p (number 0 s) (pick q (boolean 0) (pick r (fixedBytes 0 s) (pick u (freeBytes 0 s) (pick v (bitVector 0 s) (bitList 0 s))))))
+          (pick r (fixed_bytes t s) (pick u (free_bytes t s) (pick v (bit_vector t s) (bit_list t s)))))) ≡
+          f (pick p (number 0 s) (pick q (boolean 0) (pick r (fixed_bytes 0 s) (pick u (free_bytes 0 s) (pick v (bit_vector 0 s) (bit_list 0 s))))))
       go true q r u v = x0 s
       go false true r u v = x1
       go false false true u v = x2 s
@@ -227,14 +227,14 @@ module _ (t : ℕ) (n : Node) where
       go false false false false true = x4 s
       go false false false false false = x5 s
 
-  pub leaf-walk : (c b : List ℕ) (i j : ℕ) → walkItem (leafOf t n) c b i j ≡ walkItem (leafOf 0 n) c b i j
-  unfolding walkItem
-  leaf-walk c b i j = leaf-any (λ (x : Ty). walkItem x c b i j) (λ w. refl) refl (λ w. refl) (λ w. refl) (λ w. refl) (λ w. refl)
+  pub leaf-walk : (c b : List ℕ) (i j : ℕ) → walk_item (leaf_of t n) c b i j ≡ walk_item (leaf_of 0 n) c b i j
+  unfolding walk_item
+  leaf-walk c b i j = leaf_any (λ (x : Ty). walk_item x c b i j) (λ w. refl) refl (λ w. refl) (λ w. refl) (λ w. refl) (λ w. refl)
 
-  pub leaf-head : head (leafOf t n) ≡ head (leafOf 0 n)
+  pub leaf-head : head (leaf_of t n) ≡ head (leaf_of 0 n)
   unfolding head
-  leaf-head = leaf-any head (λ w. refl) refl (λ w. refl) (λ w. refl) (λ w. refl) (λ w. refl)
+  leaf-head = leaf_any head (λ w. refl) refl (λ w. refl) (λ w. refl) (λ w. refl) (λ w. refl)
 
-  pub leaf-write : (c b : List ℕ) (i j : ℕ) → writeItem (leafOf t n) c b i j ≡ writeItem (leafOf 0 n) c b i j
-  unfolding writeItem
-  leaf-write c b i j = leaf-any (λ (x : Ty). writeItem x c b i j) (λ w. refl) refl (λ w. refl) (λ w. refl) (λ w. refl) (λ w. refl)
+  pub leaf-write : (c b : List ℕ) (i j : ℕ) → write_item_lem (leaf_of t n) c b i j ≡ write_item_lem (leaf_of 0 n) c b i j
+  unfolding write_item_lem
+  leaf-write c b i j = leaf_any (λ (x : Ty). write_item_lem x c b i j) (λ w. refl) refl (λ w. refl) (λ w. refl) (λ w. refl) (λ w. refl)

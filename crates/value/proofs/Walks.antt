@@ -8,12 +8,12 @@ use borrow.Author.Tests.{leb-true, le-leb, lt-leb}
 use lib.ListN.{length, get_or, length-take, length-drop, length-append}
 use lib.Dec.{ltb, leb}
 use Rattle.standard.specs.Choice.{pick}
-use Rattle.standard.specs.Types.{number, boolean, fixedBytes, freeBytes, bitVector, bitList}
+use Rattle.standard.specs.Types.{number, boolean, fixed_bytes, free_bytes, bit_vector, bit_list}
 use Rattle.standard.specs.declared.Refusal.{Refusal}
 use Rattle.standard.specs.declared.Refusal.TheVariants.{BadValue}
-use Rattle.message.specs.Read.{rawBytes}
-use Rattle.value.specs.Walk.{Walked, upto, wrong, withWord, withBody, walkBits, walkItem}
-use Rattle.value.specs.Write.{bytes_at, withMark, writeItem}
+use Rattle.message.specs.Read.{raw_bytes_lem}
+use Rattle.value.specs.Walk.{Walked, upto, wrong, with_word, with_body, walk_bits, walk_item}
+use Rattle.value.specs.Write.{bytes_at, with_mark, write_item_lem}
 use Rattle.value.specs.Steps.{cap, measured, selected}
 use Rattle.value.specs.declared.measure.Mark.{Mark}
 use Rattle.value.specs.declared.measure.Measured.{Measured}
@@ -45,14 +45,14 @@ pub selected-item : (w v : Walked) (x s : List ℕ) (k : ℕ) → w ≡ v → x 
     r ≡ measured w (length x)
 selected-item w v x s k e f r q g h = rw (e, f) (g ∙ ap selected h ∙ selected-measured v k s)
 
-pub length-bytesAt : (b : List ℕ) (j n : ℕ) → j + n ≤ length b → length (bytes_at b j n) ≡ n
-length-bytesAt b j n h = simp (length-take, length-drop) (omega arith)
+pub length-bytes_at : (b : List ℕ) (j n : ℕ) → j + n ≤ length b → length (bytes_at b j n) ≡ n
+length-bytes_at b j n h = simp (length-take, length-drop) (omega arith)
 
-pub length-withMark : (b : List ℕ) (j k : ℕ) → j + rawBytes k ≤ length b → length (withMark b j k) ≡ k / 8 + 1
-length-withMark b j k h = simp (length-append, length-take, length-drop) (omega arith)
+pub length-with_mark : (b : List ℕ) (j k : ℕ) → j + raw_bytes_lem k ≤ length b → length (with_mark b j k) ≡ k / 8 + 1
+length-with_mark b j k h = simp (length-append, length-take, length-drop) (omega arith)
 
 -- The length matters only where the walk is well.
-body-measured : (b : List ℕ) (j n : ℕ) (x : Walked) (m k : ℕ) → (j + n ≤ length b → m ≡ k) → measured (withBody b j n x) m ≡ measured (withBody b j n x) k
+body-measured : (b : List ℕ) (j n : ℕ) (x : Walked) (m k : ℕ) → (j + n ≤ length b → m ≡ k) → measured (with_body b j n x) m ≡ measured (with_body b j n x) k
 body-measured b j n x m k f = go (leb (j + n) (length b)) refl
   where
     go : (q : Bool) → leb (j + n) (length b) ≡ q → measured (pick q x (wrong (BadValue 1 (length b)))) m ≡ measured (pick q x (wrong (BadValue 1 (length b)))) k
@@ -60,7 +60,7 @@ body-measured b j n x m k f = go (leb (j + n) (length b)) refl
     go false e = refl
 
 word-measured : (c : List ℕ) (i : ℕ) (ok : Bool) (x : Walked) (m k : ℕ) → measured x m ≡ measured x k →
-    measured (withWord c i ok x) m ≡ measured (withWord c i ok x) k
+    measured (with_word c i ok x) m ≡ measured (with_word c i ok x) k
 word-measured c i ok x m k e = go (ltb i (length c)) ok
   where
     go : (p q : Bool) → measured (pick p (pick q x (wrong (BadValue 0 i))) (wrong (BadValue 0 (length c)))) m ≡
@@ -70,38 +70,38 @@ word-measured c i ok x m k e = go (ltb i (length c)) ok
     go false q = refl
 
 module _ (c b : List ℕ) (i j : ℕ) where
-  pub leaf-number : (w : ℕ) → measured (withBody b j w (upto i (j + w))) w ≡ measured (walkItem (number 0 w) c b i j) (length (writeItem (number 0 w) c b i j))
-  unfolding walkItem writeItem
-  leaf-number w = body-measured b j w (upto i (j + w)) w _ (λ h. sym (length-bytesAt b j w h))
+  pub leaf-number : (w : ℕ) → measured (with_body b j w (upto i (j + w))) w ≡ measured (walk_item (number 0 w) c b i j) (length (write_item_lem (number 0 w) c b i j))
+  unfolding walk_item write_item_lem
+  leaf-number w = body-measured b j w (upto i (j + w)) w _ (λ h. sym (length-bytes_at b j w h))
 
-  pub leaf-fixed : (n : ℕ) → measured (withBody b j n (upto i (j + n))) n ≡
-      measured (walkItem (fixedBytes 0 n) c b i j) (length (writeItem (fixedBytes 0 n) c b i j))
-  unfolding walkItem writeItem
-  leaf-fixed n = body-measured b j n (upto i (j + n)) n _ (λ h. sym (length-bytesAt b j n h))
+  pub leaf-fixed : (n : ℕ) → measured (with_body b j n (upto i (j + n))) n ≡
+      measured (walk_item (fixed_bytes 0 n) c b i j) (length (write_item_lem (fixed_bytes 0 n) c b i j))
+  unfolding walk_item write_item_lem
+  leaf-fixed n = body-measured b j n (upto i (j + n)) n _ (λ h. sym (length-bytes_at b j n h))
 
-  pub leaf-boolean : measured (withBody b j 1 (pick (ltb (get_or b j 0) 2) (upto i (j + 1)) (wrong (BadValue 1 j)))) 1 ≡
-      measured (walkItem (boolean 0) c b i j) (length (writeItem (boolean 0) c b i j))
-  unfolding walkItem writeItem
-  leaf-boolean = body-measured b j 1 (pick (ltb (get_or b j 0) 2) (upto i (j + 1)) (wrong (BadValue 1 j))) 1 _ (λ h. sym (length-bytesAt b j 1 h))
+  pub leaf-boolean : measured (with_body b j 1 (pick (ltb (get_or b j 0) 2) (upto i (j + 1)) (wrong (BadValue 1 j)))) 1 ≡
+      measured (walk_item (boolean 0) c b i j) (length (write_item_lem (boolean 0) c b i j))
+  unfolding walk_item write_item_lem
+  leaf-boolean = body-measured b j 1 (pick (ltb (get_or b j 0) 2) (upto i (j + 1)) (wrong (BadValue 1 j))) 1 _ (λ h. sym (length-bytes_at b j 1 h))
 
-  pub leaf-free : (limit : ℕ) → measured (walkItem (freeBytes 0 limit) c b i j) (get_or c i 0) ≡
-      measured (walkItem (freeBytes 0 limit) c b i j) (length (writeItem (freeBytes 0 limit) c b i j))
-  unfolding walkItem writeItem
-  leaf-free limit =
-      word-measured c i (leb (get_or c i 0) limit) (withBody b j (get_or c i 0) (upto (i + 1) (j + get_or c i 0))) (get_or c i 0) _
-      (body-measured b j (get_or c i 0) (upto (i + 1) (j + get_or c i 0)) (get_or c i 0) _ (λ h. sym (length-bytesAt b j (get_or c i 0) h)))
+  pub leaf_free : (limit : ℕ) → measured (walk_item (free_bytes 0 limit) c b i j) (get_or c i 0) ≡
+      measured (walk_item (free_bytes 0 limit) c b i j) (length (write_item_lem (free_bytes 0 limit) c b i j))
+  unfolding walk_item write_item_lem
+  leaf_free limit =
+      word-measured c i (leb (get_or c i 0) limit) (with_body b j (get_or c i 0) (upto (i + 1) (j + get_or c i 0))) (get_or c i 0) _
+      (body-measured b j (get_or c i 0) (upto (i + 1) (j + get_or c i 0)) (get_or c i 0) _ (λ h. sym (length-bytes_at b j (get_or c i 0) h)))
 
-  pub leaf-vector : (n : ℕ) → measured (walkBits b n i j) (rawBytes n) ≡
-      measured (walkItem (bitVector 0 n) c b i j) (length (writeItem (bitVector 0 n) c b i j))
-  unfolding walkItem writeItem
-  leaf-vector n = body-measured b j (rawBytes n) _ (rawBytes n) _ (λ h. sym (length-bytesAt b j (rawBytes n) h))
+  pub leaf-vector : (n : ℕ) → measured (walk_bits b n i j) (raw_bytes_lem n) ≡
+      measured (walk_item (bit_vector 0 n) c b i j) (length (write_item_lem (bit_vector 0 n) c b i j))
+  unfolding walk_item write_item_lem
+  leaf-vector n = body-measured b j (raw_bytes_lem n) _ (raw_bytes_lem n) _ (λ h. sym (length-bytes_at b j (raw_bytes_lem n) h))
 
-  pub leaf-list : (limit : ℕ) → measured (walkItem (bitList 0 limit) c b i j) (get_or c i 0 / 8 + 1) ≡
-      measured (walkItem (bitList 0 limit) c b i j) (length (writeItem (bitList 0 limit) c b i j))
-  unfolding walkItem writeItem
+  pub leaf-list : (limit : ℕ) → measured (walk_item (bit_list 0 limit) c b i j) (get_or c i 0 / 8 + 1) ≡
+      measured (walk_item (bit_list 0 limit) c b i j) (length (write_item_lem (bit_list 0 limit) c b i j))
+  unfolding walk_item write_item_lem
   leaf-list limit =
-      word-measured c i (leb (get_or c i 0) limit) (walkBits b (get_or c i 0) (i + 1) j) (get_or c i 0 / 8 + 1) _
-      (body-measured b j (rawBytes (get_or c i 0)) _ (get_or c i 0 / 8 + 1) _ (λ h. sym (length-withMark b j (get_or c i 0) h)))
+      word-measured c i (leb (get_or c i 0) limit) (walk_bits b (get_or c i 0) (i + 1) j) (get_or c i 0 / 8 + 1) _
+      (body-measured b j (raw_bytes_lem (get_or c i 0)) _ (get_or c i 0 / 8 + 1) _ (λ h. sym (length-with_mark b j (get_or c i 0) h)))
 
 -- Whether n bytes are there, from j on.
 pub no_start : (len j n : ℕ) → len < j → false ≡ leb (j + n) len

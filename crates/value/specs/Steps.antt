@@ -9,8 +9,8 @@ use Rattle.standard.specs.declared.Head.TheVariants.{Fixed, Variable}
 use Rattle.standard.specs.declared.Refusal.TheVariants.{BadValue}
 use Rattle.layout.specs.Tree.{tree_of}
 use Rattle.message.specs.Steps.{Under, Row, row_of}
-use Rattle.value.specs.Walk.{Walked, upto, wrong, withBody, walkItem, walkFields}
-use Rattle.value.specs.Write.{writeItem, partsFrom}
+use Rattle.value.specs.Walk.{Walked, upto, wrong, with_body, walk_item, walk_fields}
+use Rattle.value.specs.Write.{write_item_lem, parts_from}
 use Rattle.value.specs.declared.laid.Laid.{Laid}
 use Rattle.value.specs.declared.measure.Measured.{Measured}
 
@@ -34,11 +34,11 @@ extra (Fixed n) = 0
 extra Variable = 4
 
 -- What the contents word at i chooses among the n options that the table's words from a on name
-abbrev pub laidAt : ℕ → Laid
-laidAt w = pick (eqb w 4294967295) Laid.Bare (Laid.Body w)
+abbrev pub laid_at : ℕ → Laid
+laid_at w = pick (eqb w 4294967295) Laid.Bare (Laid.Body w)
 
 abbrev pub laid_of : List ℕ → ℕ → ℕ → ℕ → ℕ → Laid
-laid_of l a n k i = pick (ltb k n) (laidAt (word_at l (a + k))) (Laid.Wrong (BadValue 0 i))
+laid_of l a n k i = pick (ltb k n) (laid_at (word_at l (a + k))) (Laid.Wrong (BadValue 0 i))
 
 unfoldable pub choose : List ℕ → ℕ → ℕ → List ℕ → ℕ → Laid
 choose l a n c i =
@@ -56,25 +56,25 @@ IsUpto (wrong r) = ⊥
 pub record AsRow (l : List ℕ) (t : ℕ) (c : List ℕ) (i a step n p : ℕ) : Type 0 where
   pub row : (lens : List ℕ) → Under lens l (t + 1) → Row lens l t a step n
   pub small : n < 2 ^ 32
-  pub walk : (b : List ℕ) (j : ℕ) → walkItem (tree_of l t) c b i j ≡ walkFields (row_of l t a step n) c b p j
-  pub write : (b : List ℕ) (j : ℕ) → writeItem (tree_of l t) c b i j ≡ join (partsFrom (row_of l t a step n) c b p j)
+  pub walk : (b : List ℕ) (j : ℕ) → walk_item (tree_of l t) c b i j ≡ walk_fields (row_of l t a step n) c b p j
+  pub write : (b : List ℕ) (j : ℕ) → write_item_lem (tree_of l t) c b i j ≡ join (parts_from (row_of l t a step n) c b p j)
 
 -- The type t is a union whose selector is the contents word i: its item is that byte, and what `of` and `x` say of its body.
 pub record AsOption (l : List ℕ) (t : ℕ) (c : List ℕ) (i : ℕ) (of : List ℕ → ℕ → Walked) (x : List ℕ → ℕ → List ℕ) : Type 0 where
   pub there : i < length c
   pub small : get_or c i 0 < 256
-  pub walk : (b : List ℕ) (j : ℕ) → walkItem (tree_of l t) c b i j ≡ of b j
-  pub write : (b : List ℕ) (j : ℕ) → writeItem (tree_of l t) c b i j ≡ get_or c i 0 ∷ x b j
+  pub walk : (b : List ℕ) (j : ℕ) → walk_item (tree_of l t) c b i j ≡ of b j
+  pub write : (b : List ℕ) (j : ℕ) → write_item_lem (tree_of l t) c b i j ≡ get_or c i 0 ∷ x b j
 
 -- What the item of the type t, which starts at the contents word i, is made of
 abbrev pub LaidAs : List ℕ → ℕ → List ℕ → ℕ → Laid → Type 0
 LaidAs l t c i (Laid.Fields a step n p) = AsRow l t c i a step n p
 LaidAs l t c i Laid.Bare = AsOption l t c i (λ b j. upto (i + 1) j) (λ b j. [])
 LaidAs l t c i (Laid.Body o) =
-    (o < t) × AsOption l t c i (λ b j. walkItem (tree_of l o) c b (i + 1) j) (λ b j. writeItem (tree_of l o) c b (i + 1) j)
-LaidAs l t c i (Laid.Wrong r) = (b : List ℕ) (j : ℕ) → walkItem (tree_of l t) c b i j ≡ wrong r
+    (o < t) × AsOption l t c i (λ b j. walk_item (tree_of l o) c b (i + 1) j) (λ b j. write_item_lem (tree_of l o) c b (i + 1) j)
+LaidAs l t c i (Laid.Wrong r) = (b : List ℕ) (j : ℕ) → walk_item (tree_of l t) c b i j ≡ wrong r
 
 -- What is measured of these fields is what is measured of n bytes of the bodies.
 unfoldable pub AllPlain : Tys → ℕ → Type 0
 AllPlain ts n =
-    (c b : List ℕ) (i j : ℕ) → measured (withBody b j n (upto i (j + n))) n ≡ measured (walkFields ts c b i j) (length (join (partsFrom ts c b i j)))
+    (c b : List ℕ) (i j : ℕ) → measured (with_body b j n (upto i (j + n))) n ≡ measured (walk_fields ts c b i j) (length (join (parts_from ts c b i j)))

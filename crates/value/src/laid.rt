@@ -2,7 +2,7 @@
 ghost use Rattle.std.specs.Prelude.{◌≡◌, ◌+◌, ◌≤◌, ◌<◌, ◌^◌};
 ghost use Rattle.layout.specs.Tree.{node_of};
 ghost use Rattle.layout.specs.Legal.{Legal};
-ghost use Rattle.value.specs.Steps.{choose, laid_of, laidAt, LaidAs};
+ghost use Rattle.value.specs.Steps.{choose, laid_of, laid_at, LaidAs};
 
 use crate::words::word_in;
 use decode::union_selector::{SelectorResult, UnionSelector};
@@ -22,7 +22,7 @@ pub(crate) enum Laid {
 
 // The option whose word is w.
 fn option_at(w: usize) -> Laid
-    ensures { result ≡ laidAt w }
+    ensures { result ≡ laid_at w }
 {
     if w == NO_BODY {
         Laid::Bare

@@ -7,7 +7,7 @@ mod words;
 ghost use Rattle.std.specs.Prelude.{◌≡◌, ◌≤◌};
 ghost use Rattle.layout.specs.declared.Checked.TheVariants.{Upto};
 ghost use Rattle.message.specs.Steps.{Under};
-ghost use Rattle.value.specs.Write.{writtenUnder, storedUnder, writeMessage, writtenBytes};
+ghost use Rattle.value.specs.Write.{written_under, stored_under, write_message, written_bytes};
 
 use layout::{Checked, table_of};
 use measure::{Measured, measure_item};
@@ -31,8 +31,8 @@ fn write_under(
     bodies: &[u8],
 ) -> Written
     requires { Under lens.now layout.now n × (1 ≤ n) }
-    ensures value { result ≡ writtenUnder (Upto n) layout.now contents.now bodies.now out.old }
-    ensures out_after { out.new ≡ storedUnder (Upto n) layout.now contents.now bodies.now out.old }
+    ensures value { result ≡ written_under (Upto n) layout.now contents.now bodies.now out.old }
+    ensures out_after { out.new ≡ stored_under (Upto n) layout.now contents.now bodies.now out.old }
 {
     let last = n - 1;
     let r = measure_item(lens, layout, last, contents, bodies, 0, 0);
@@ -64,8 +64,8 @@ fn write_under(
 // Writes the message whose value has this form: 20 for a bad table, 25 for the first fault of the form, 21 for 2^32 bytes or more, then
 // 22 (bytes needed, room).
 pub fn write(layout: &[u8], contents: &[u32], bodies: &[u8], out: &mut [u8]) -> Written
-    ensures value { result ≡ writeMessage layout.now contents.now bodies.now out.old }
-    ensures out_after { out.new ≡ writtenBytes layout.now contents.now bodies.now out.old }
+    ensures value { result ≡ write_message layout.now contents.now bodies.now out.old }
+    ensures out_after { out.new ≡ written_bytes layout.now contents.now bodies.now out.old }
 {
     let mut lens = [0u32; 64];
     let c = table_of(&mut lens, layout);

@@ -1,14 +1,14 @@
 // The form of a value measured: its first fault, or how far it goes and how long what it says is. Nothing is written.
 ghost use Rattle.std.specs.Prelude.{◌≡◌, ◌+◌, ◌/◌, ◌<◌, ◌^◌, length, get_or, ltb, leb};
 ghost use Rattle.standard.specs.Choice.{pick};
-ghost use Rattle.standard.specs.Types.{freeBytes, bitList};
+ghost use Rattle.standard.specs.Types.{free_bytes, bit_list};
 ghost use Rattle.standard.specs.Parts.{join};
 ghost use Rattle.standard.specs.declared.Refusal.TheVariants.{BadValue};
-ghost use Rattle.layout.specs.Tree.{leafOf, tree_of, head_of};
-ghost use Rattle.message.specs.Read.{rawBytes};
+ghost use Rattle.layout.specs.Tree.{leaf_of, tree_of, head_of};
+ghost use Rattle.message.specs.Read.{raw_bytes_lem};
 ghost use Rattle.message.specs.Steps.{Under, Row, row_of, is_plain};
-ghost use Rattle.value.specs.Walk.{upto, wrong, withBody, walkBits, walkItem, walkFields};
-ghost use Rattle.value.specs.Write.{writeItem, partsFrom};
+ghost use Rattle.value.specs.Walk.{upto, wrong, with_body, walk_bits, walk_item, walk_fields};
+ghost use Rattle.value.specs.Write.{write_item_lem, parts_from};
 ghost use Rattle.value.specs.Steps.{cap, measured, selected, extra, AllPlain};
 ghost use Rattle.value.specs.declared.measure.Mark.{Mark};
 ghost use Rattle.value.specs.declared.measure.Measured.{Measured};
@@ -50,7 +50,7 @@ fn add(a: usize, b: usize) -> usize
 
 // The raw bytes of so many bits.
 pub(crate) fn raw_bytes(bits: usize) -> usize
-    ensures { result ≡ rawBytes bits }
+    ensures { result ≡ raw_bytes_lem bits }
 {
     let q = bits / 8;
     if bits % 8 != 0 {
@@ -86,7 +86,7 @@ fn has(bodies: &[u8], j: usize, n: usize) -> bool
 
 // A number or fixed bytes: n bytes.
 fn measure_exact(bodies: &[u8], i: usize, j: usize, n: usize) -> Measured
-    ensures { result ≡ measured (withBody bodies.now j n (upto i (j + n))) n }
+    ensures { result ≡ measured (with_body bodies.now j n (upto i (j + n))) n }
 {
     let there = has(bodies, j, n);
     if there {
@@ -100,7 +100,7 @@ fn measure_exact(bodies: &[u8], i: usize, j: usize, n: usize) -> Measured
 
 // A boolean: one byte, 0 or 1.
 fn measure_boolean(bodies: &[u8], i: usize, j: usize) -> Measured
-    ensures { result ≡ measured (withBody bodies.now j 1 (pick (ltb (get_or bodies.now j 0) 2) (upto i (j + 1)) (wrong (BadValue 1 j)))) 1 }
+    ensures { result ≡ measured (with_body bodies.now j 1 (pick (ltb (get_or bodies.now j 0) 2) (upto i (j + 1)) (wrong (BadValue 1 j)))) 1 }
 {
     let len = bodies.len();
     if j >= len {
@@ -119,7 +119,7 @@ fn measure_boolean(bodies: &[u8], i: usize, j: usize) -> Measured
 
 // Raw bytes of k bits, with zero above the last bit; n bytes are written of them.
 fn measure_bits(bodies: &[u8], k: usize, i: usize, j: usize, n: usize) -> Measured
-    ensures { result ≡ measured (walkBits bodies.now k i j) n }
+    ensures { result ≡ measured (walk_bits bodies.now k i j) n }
 {
     let raw = raw_bytes(k);
     let there = has(bodies, j, raw);
@@ -140,7 +140,7 @@ fn measure_bits(bodies: &[u8], k: usize, i: usize, j: usize, n: usize) -> Measur
 
 // Free bytes up to their limit.
 fn measure_free(contents: &[u32], bodies: &[u8], i: usize, j: usize, limit: usize) -> Measured
-    ensures { result ≡ measured (walkItem (freeBytes 0 limit) contents.now bodies.now i j) (get_or contents.now i 0) }
+    ensures { result ≡ measured (walk_item (free_bytes 0 limit) contents.now bodies.now i j) (get_or contents.now i 0) }
 {
     let words = contents.len();
     if i >= words {
@@ -156,7 +156,7 @@ fn measure_free(contents: &[u32], bodies: &[u8], i: usize, j: usize, limit: usiz
 
 // A bit list of at most limit bits.
 fn measure_list(contents: &[u32], bodies: &[u8], i: usize, j: usize, limit: usize) -> Measured
-    ensures { result ≡ measured (walkItem (bitList 0 limit) contents.now bodies.now i j) (get_or contents.now i 0 / 8 + 1) }
+    ensures { result ≡ measured (walk_item (bit_list 0 limit) contents.now bodies.now i j) (get_or contents.now i 0 / 8 + 1) }
 {
     let words = contents.len();
     if i >= words {
@@ -173,7 +173,7 @@ fn measure_list(contents: &[u32], bodies: &[u8], i: usize, j: usize, limit: usiz
 
 // An item of a type that has no lower types.
 fn measure_leaf(n: Node, contents: &[u32], bodies: &[u8], i: usize, j: usize) -> Measured
-    ensures { result ≡ measured (walkItem (leafOf 0 n) contents.now bodies.now i j) (length (writeItem (leafOf 0 n) contents.now bodies.now i j)) }
+    ensures { result ≡ measured (walk_item (leaf_of 0 n) contents.now bodies.now i j) (length (write_item_lem (leaf_of 0 n) contents.now bodies.now i j)) }
 {
     let kind = n.kind;
     let second = n.second;
@@ -252,7 +252,7 @@ pub(crate) fn measure_item(
     j: usize,
 ) -> Measured
     requires { Under lens.now layout.now (t + 1) }
-    ensures { result ≡ measured (walkItem (tree_of layout.now t) contents.now bodies.now i j) (length (writeItem (tree_of layout.now t) contents.now bodies.now i j)) }
+    ensures { result ≡ measured (walk_item (tree_of layout.now t) contents.now bodies.now i j) (length (write_item_lem (tree_of layout.now t) contents.now bodies.now i j)) }
 {
     let n = look_in(layout, t);
     if n.kind < 6 {
@@ -301,7 +301,7 @@ fn measure_fields(
     j0: usize,
 ) -> Measured
     requires { Row lens.now layout.now t a0 step n }
-    ensures { result ≡ measured (walkFields (row_of layout.now t a0 step n) contents.now bodies.now i0 j0) (length (join (partsFrom (row_of layout.now t a0 step n) contents.now bodies.now i0 j0))) }
+    ensures { result ≡ measured (walk_fields (row_of layout.now t a0 step n) contents.now bodies.now i0 j0) (length (join (parts_from (row_of layout.now t a0 step n) contents.now bodies.now i0 j0))) }
 {
     let mut sum: usize = 0;
     let mut a = a0;

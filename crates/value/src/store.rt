@@ -6,11 +6,11 @@ ghost use Rattle.standard.specs.Bytes.{Room};
 ghost use Rattle.standard.specs.Types.{head, width, portion};
 ghost use Rattle.standard.specs.Parts.{join};
 ghost use Rattle.standard.specs.declared.Head.TheVariants.{Variable};
-ghost use Rattle.layout.specs.Tree.{leafOf, tree_of, head_of};
-ghost use Rattle.message.specs.Read.{rawBytes};
-ghost use Rattle.message.specs.Steps.{Under, Row, row_of, headsOf};
-ghost use Rattle.value.specs.Walk.{upto, lastBits, walkItem, walkFields};
-ghost use Rattle.value.specs.Write.{bytes_at, withMark, writeItem, partsFrom};
+ghost use Rattle.layout.specs.Tree.{leaf_of, tree_of, head_of};
+ghost use Rattle.message.specs.Read.{raw_bytes_lem};
+ghost use Rattle.message.specs.Steps.{Under, Row, row_of, heads_of};
+ghost use Rattle.value.specs.Walk.{upto, last_bits, walk_item, walk_fields};
+ghost use Rattle.value.specs.Write.{bytes_at, with_mark, write_item_lem, parts_from};
 ghost use Rattle.value.specs.Steps.{IsUpto};
 ghost use Rattle.value.specs.Stores.{Put, Together, Fields};
 
@@ -66,8 +66,8 @@ fn mark_byte(bodies: &[u8], place: usize, bits: usize) -> u8
 
 // Stores a bit list of k bits: its raw bytes with the mark.
 fn put_list(out: &mut [u8], at: usize, bodies: &[u8], i: usize, j: usize, k: usize) -> Stop
-    requires { (j + rawBytes k ≤ length bodies.now) × (get_or bodies.now (j + rawBytes k - 1) 0 < 2 ^ lastBits k) × (at + (k / 8 + 1) ≤ length out.old) }
-    ensures { Put out.old at (withMark bodies.now j k) (upto i (j + rawBytes k)) result out.new }
+    requires { (j + raw_bytes_lem k ≤ length bodies.now) × (get_or bodies.now (j + raw_bytes_lem k - 1) 0 < 2 ^ last_bits k) × (at + (k / 8 + 1) ≤ length out.old) }
+    ensures { Put out.old at (with_mark bodies.now j k) (upto i (j + raw_bytes_lem k)) result out.new }
 {
     let q = k / 8;
     let full = j + q;
@@ -92,8 +92,8 @@ fn put_leaf(
     i: usize,
     j: usize,
 ) -> Stop
-    requires { (head (leafOf 0 n) ≡ Variable) × IsUpto (walkItem (leafOf 0 n) contents.now bodies.now i j) × Room out.old at (writeItem (leafOf 0 n) contents.now bodies.now i j) }
-    ensures { Put out.old at (writeItem (leafOf 0 n) contents.now bodies.now i j) (walkItem (leafOf 0 n) contents.now bodies.now i j) result out.new }
+    requires { (head (leaf_of 0 n) ≡ Variable) × IsUpto (walk_item (leaf_of 0 n) contents.now bodies.now i j) × Room out.old at (write_item_lem (leaf_of 0 n) contents.now bodies.now i j) }
+    ensures { Put out.old at (write_item_lem (leaf_of 0 n) contents.now bodies.now i j) (walk_item (leaf_of 0 n) contents.now bodies.now i j) result out.new }
 {
     let k = contents[i] as usize;
     let next = i + 1;
@@ -118,8 +118,8 @@ fn put_selector(out: &mut [u8], at: usize, contents: &[u32], i: usize, j: usize)
 // The fixed portion of the n fields of type t that the words from a0 on name, step words apart. Elements have an offset each: there may be
 // very many, so they are not added up one by one.
 fn portion_of(lens: &[u32; 64], layout: &[u8], t: usize, a0: usize, step: usize, n: usize) -> usize
-    requires { Row lens.now layout.now t a0 step n × (portion (headsOf layout.now t a0 step n) < 2 ^ 64) × (step ≡ 0 → portion (headsOf layout.now t a0 step n) ≡ 4 * n) }
-    ensures { result ≡ portion (headsOf layout.now t a0 step n) }
+    requires { Row lens.now layout.now t a0 step n × (portion (heads_of layout.now t a0 step n) < 2 ^ 64) × (step ≡ 0 → portion (heads_of layout.now t a0 step n) ≡ 4 * n) }
+    ensures { result ≡ portion (heads_of layout.now t a0 step n) }
 {
     if step == 0 {
         return 4 * n;
@@ -172,8 +172,8 @@ pub(crate) fn write_item(
     i: usize,
     j: usize,
 ) -> Stop
-    requires { Under lens.now layout.now (t + 1) × IsUpto (walkItem (tree_of layout.now t) contents.now bodies.now i j) × Room out.old at (writeItem (tree_of layout.now t) contents.now bodies.now i j) }
-    ensures { Put out.old at (writeItem (tree_of layout.now t) contents.now bodies.now i j) (walkItem (tree_of layout.now t) contents.now bodies.now i j) result out.new }
+    requires { Under lens.now layout.now (t + 1) × IsUpto (walk_item (tree_of layout.now t) contents.now bodies.now i j) × Room out.old at (write_item_lem (tree_of layout.now t) contents.now bodies.now i j) }
+    ensures { Put out.old at (write_item_lem (tree_of layout.now t) contents.now bodies.now i j) (walk_item (tree_of layout.now t) contents.now bodies.now i j) result out.new }
 {
     let own = lens[t] as usize;
     if own > 0 {
@@ -234,7 +234,7 @@ fn write_fields(
     j0: usize,
 ) -> Stop
     requires { Fields lens.now layout.now t a0 step n contents.now bodies.now i0 j0 out.old start }
-    ensures { Put out.old start (join (partsFrom (row_of layout.now t a0 step n) contents.now bodies.now i0 j0)) (walkFields (row_of layout.now t a0 step n) contents.now bodies.now i0 j0) result out.new }
+    ensures { Put out.old start (join (parts_from (row_of layout.now t a0 step n) contents.now bodies.now i0 j0)) (walk_fields (row_of layout.now t a0 step n) contents.now bodies.now i0 j0) result out.new }
 {
     let own = portion_of(lens, layout, t, a0, step, n);
     let mut p = start;

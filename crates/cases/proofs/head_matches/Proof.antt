@@ -1,12 +1,12 @@
 -- The tests in their order; the first that fails settles it. Assumes nothing.
 use borrow.Author.Tests.{eq-eqb, ne_eqb, not-true, not-false}
-use Rattle.cases.specs.Answers.{headMatches}
+use Rattle.cases.specs.Answers.{head_matches_lem}
 use borrow.Author.Rules.{rules}
 use Rattle.cases.proofs.head_matches.Statement.{statement}
 use Rattle.cases.proofs.head_matches.Tie as tie
 
 returns : tie.Need-returns
-unfolding headMatches
+unfolding head_matches_lem
 returns c = rw (ne_eqb _ _ c.if1.true)
 
 eight-at-requires : tie.Need-eight-at-requires
@@ -16,7 +16,7 @@ does-agree-requires : tie.Need-does-agree-requires
 does-agree-requires c κs = search rules
 
 returns-2 : tie.Need-returns-2
-unfolding headMatches
+unfolding head_matches_lem
 returns-2 c =
     let c2 = c.before.before in
     let c3 = c2.before in
@@ -34,7 +34,7 @@ does-agree-requires-2 : tie.Need-does-agree-requires-2
 does-agree-requires-2 c κs = search rules
 
 returns-3 : tie.Need-returns-3
-unfolding headMatches
+unfolding head_matches_lem
 returns-3 c =
     let c2 = c.before.before in
     let c3 = c2.before in
@@ -58,7 +58,7 @@ does-agree-requires-3 : tie.Need-does-agree-requires-3
 does-agree-requires-3 c κs = search rules
 
 returns-4 : tie.Need-returns-4
-unfolding headMatches
+unfolding head_matches_lem
 returns-4 c =
     let c2 = c.before.before in
     let c3 = c2.before in
@@ -88,7 +88,7 @@ does-agree-requires-4 : tie.Need-does-agree-requires-4
 does-agree-requires-4 c κs = search rules
 
 returns-5 : tie.Need-returns-5
-unfolding headMatches
+unfolding head_matches_lem
 returns-5 c =
     let c2 = c.before.before in
     let c3 = c2.before in
@@ -124,7 +124,7 @@ does-agree-requires-5 : tie.Need-does-agree-requires-5
 does-agree-requires-5 c κs = search rules
 
 returns-6 : tie.Need-returns-6
-unfolding headMatches
+unfolding head_matches_lem
 returns-6 c =
     let c2 = c.before.before in
     let c3 = c2.before in

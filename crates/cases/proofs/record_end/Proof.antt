@@ -1,22 +1,22 @@
 -- What is left of the row of parts ends where the whole row does. Assumes nothing.
-use Rattle.cases.specs.Records.{recordEnd}
+use Rattle.cases.specs.Records.{record_end_lem}
 use mathlib.Core.Path.{◌≡◌, refl, sym, ◌∙◌}
 use native.Mathlib.Omega.{arith}
 use borrow.Author.Rules.{rules}
 use borrow.Author.Tests.{lt-ltb, le-ltb}
-use Rattle.cases.specs.Records.{rowEnd}
+use Rattle.cases.specs.Records.{row_end}
 use Rattle.cases.proofs.Laws.{row_more, row_cut, row-none}
 use Rattle.cases.proofs.record_end.Statement.{statement}
 use Rattle.cases.proofs.record_end.Tie as tie
 
 abbrev invariant-loop : tie.invariant-loop
-invariant-loop b left₀ at₀ left at = rowEnd b left at ≡ rowEnd b left₀ at₀
+invariant-loop b left₀ at₀ left at = row_end b left at ≡ row_end b left₀ at₀
 
 abbrev decreases-loop : tie.decreases-loop
 decreases-loop b left₀ at₀ left at = left
 
 returns : tie.Need-returns invariant-loop decreases-loop
-unfolding recordEnd
+unfolding record_end_lem
 returns c = rw (lt-ltb _ _ c.if1.true)
 
 word-at-requires : tie.Need-word-at-requires invariant-loop decreases-loop
@@ -35,7 +35,7 @@ enum_told : tie.Need-enum-told invariant-loop decreases-loop
 enum_told c = search rules
 
 returns-2 : tie.Need-returns-2 invariant-loop decreases-loop
-unfolding recordEnd
+unfolding record_end_lem
 returns-2 c =
     let c2 = c.before.before in
     let c3 = c2.before in
@@ -59,7 +59,7 @@ loop-again c =
     row_more _ _ _ _ c4.loop-test.true (sym c.before.end.given.1 ∙ c3.part-end.ensures) ∙ c5.loop.invariant
 
 returns-3 : tie.Need-returns-3 invariant-loop decreases-loop
-unfolding recordEnd
+unfolding record_end_lem
 returns-3 c =
     let c2 = c.before.before in
     let c3 = c2.before in

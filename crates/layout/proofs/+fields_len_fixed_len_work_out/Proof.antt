@@ -6,12 +6,12 @@ use native.Mathlib.Omega.{arith}
 use borrow.Author.Rules.{rules}
 use borrow.Author.Tests.{lt-ltb, not-true, not-false}
 use Rattle.layout.specs.Table.{count}
-use Rattle.layout.proofs.Facts.{length-filled, legal-node, legal-below}
-use Rattle.layout.proofs.Trees.{leaf-length, len-small}
-use Rattle.layout.proofs.Tables.{known-len, known_small, below-nine}
-use Rattle.layout.proofs.Lengths.{Taking, taking-start, taking-wrong, taking-lower, taking-width}
-use Rattle.layout.proofs.Lengths.{taking-fixed, taking-variable, taking-end, no-sizes}
-use Rattle.layout.proofs.Lengths.{sizes-len, legal-refs, lengthened, vector-lower, vector-small, vector-found}
+use Rattle.layout.proofs.Facts.{length-filled, legal_node, legal-below}
+use Rattle.layout.proofs.Trees.{leaf-length, len_small}
+use Rattle.layout.proofs.Tables.{known_len, known_small, below-nine}
+use Rattle.layout.proofs.Lengths.{Taking, taking_start, taking_wrong, taking_lower, taking_width}
+use Rattle.layout.proofs.Lengths.{taking_fixed, taking_variable, taking_end, no-sizes}
+use Rattle.layout.proofs.Lengths.{sizes_len, legal-refs, lengthened, vector-lower, vector-small, vector-found}
 use Prim.Native.Nat.{ℕ, ◌<◌}
 use borrow.Fn.Kinds.{In}
 use borrow.Fn.PlainCycle.{Measures, is, falls, and}
@@ -105,7 +105,7 @@ abbrev fields-len-μ-loop : fields-len-lts.decreases-loop
 fields-len-μ-loop lens₀ known layout t a0 n a₀ left₀ portion₀ fixed₀ lens a left portion fixed = left
 
 fields-len-loop-holds : (t : ℕ) → fields-len-lts.Need-loop-init (fields-len-calls t) (fields-len-at t) fields-len.Post fields-len-Inv-loop fields-len-μ-loop
-fields-len-loop-holds t c = taking-start _ _ _ _ _ _ c.before.requires.1.0.found
+fields-len-loop-holds t c = taking_start _ _ _ _ _ _ c.before.requires.1.0.found
 
 fields-len-word-in-requires : (t : ℕ) → fields-len-lts.Need-word-in-requires (fields-len-calls t) (fields-len-at t) fields-len.Post
     fields-len-Inv-loop fields-len-μ-loop
@@ -137,7 +137,7 @@ fields-len-returns t c =
     let test = word.before in
     let loop = test.before in
     let start = loop.before.before in
-    let bad = taking-wrong _ _ _ _ _ _ _ _ _ _ _ 0 loop.loop.invariant test.loop-test.true word.word_in.ensures.0 start.requires.1.1
+    let bad = taking_wrong _ _ _ _ _ _ _ _ _ _ _ 0 loop.loop.invariant test.loop-test.true word.word_in.ensures.0 start.requires.1.1
     (fields-len-there t word) _ named.may-name.ensures (not-true _ c.before.if1.true) in
     (c.no_fields.ensures ∙ no-sizes _ _ _ bad, loop.loop.invariant.found ∙ sym start.requires.1.0.found)
 
@@ -149,7 +149,7 @@ fields-len-fixed-len-requires t c κs =
     let test = word.before in
     let loop = test.before in
     let start = loop.before.before in
-    let h = taking-lower _ _ _ _ _ _ _ _ _ _ _ 0 loop.loop.invariant test.loop-test.true word.word_in.ensures.0 start.requires.1.1
+    let h = taking_lower _ _ _ _ _ _ _ _ _ _ _ 0 loop.loop.invariant test.loop-test.true word.word_in.ensures.0 start.requires.1.1
     (fields-len-there t word) _ named.may-name.ensures (not-false _ c.before.if1.false) in (
       rw (← start.requires.0) (omega (arith, h)),
       (
@@ -174,7 +174,7 @@ fields-len-add-portion t c =
     let test = word.before in
     let loop = test.before in
     let start = loop.before.before in
-    let w = taking-width _ _ _ _ _ _ _ _ _ _ _ _ loop.loop.invariant test.loop-test.true word.word_in.ensures.0 start.requires.1.1
+    let w = taking_width _ _ _ _ _ _ _ _ _ _ _ _ loop.loop.invariant test.loop-test.true word.word_in.ensures.0 start.requires.1.1
     (fields-len-there t word) _ named.may-name.ensures (not-false _ lower.if1.false) start.requires.1.0.legal len.fixed-len.ensures.gives _
     c.width_of_lem.ensures in
     omega (arith, w, loop.loop.invariant.adding.bound, start.requires.1.2, test.loop-test.true)
@@ -202,10 +202,10 @@ fields-len-loop-again t c =
     let loop = test.before in
     let start = loop.before.before in
     ⊎_elim
-    (λ h. rw h.1 (taking-variable _ _ _ _ _ _ _ _ _ _ _ _ loop.loop.invariant test.loop-test.true word.word_in.ensures.0 start.requires.1.1
+    (λ h. rw h.1 (taking_variable _ _ _ _ _ _ _ _ _ _ _ _ loop.loop.invariant test.loop-test.true word.word_in.ensures.0 start.requires.1.1
     (fields-len-there t word) _ named.may-name.ensures (not-false _ lower.if1.false) start.requires.1.0.legal len.fixed-len.ensures.gives _
     c.width_of_lem.ensures _ len.fixed-len.ensures.found h.0.taken))
-    (λ h. rw h.1 (taking-fixed _ _ _ _ _ _ _ _ _ _ _ _ loop.loop.invariant test.loop-test.true word.word_in.ensures.0 start.requires.1.1
+    (λ h. rw h.1 (taking_fixed _ _ _ _ _ _ _ _ _ _ _ _ loop.loop.invariant test.loop-test.true word.word_in.ensures.0 start.requires.1.1
     (fields-len-there t word) _ named.may-name.ensures (not-false _ lower.if1.false) start.requires.1.0.legal len.fixed-len.ensures.gives _
     c.width_of_lem.ensures _ len.fixed-len.ensures.found h.0.left))
     joined.if2.branch
@@ -215,14 +215,14 @@ fields-len-returns-2 t c =
     let done = c.before in
     let loop = done.before in
     let start = loop.before.before in
-    (rw c.if3.true at (taking-end _ _ _ _ _ _ _ _ _ _ loop.loop.invariant done.loop-test.false), loop.loop.invariant.found ∙ sym start.requires.1.0.found)
+    (rw c.if3.true at (taking_end _ _ _ _ _ _ _ _ _ _ loop.loop.invariant done.loop-test.false), loop.loop.invariant.found ∙ sym start.requires.1.0.found)
 
 fields-len-returns-3 : (t : ℕ) → fields-len-lts.Need-returns-3 (fields-len-calls t) (fields-len-at t) fields-len.Post fields-len-Inv-loop fields-len-μ-loop
 fields-len-returns-3 t c =
     let done = c.before in
     let loop = done.before in
     let start = loop.before.before in
-    (rw c.if3.false at (taking-end _ _ _ _ _ _ _ _ _ _ loop.loop.invariant done.loop-test.false), loop.loop.invariant.found ∙ sym start.requires.1.0.found)
+    (rw c.if3.false at (taking_end _ _ _ _ _ _ _ _ _ _ loop.loop.invariant done.loop-test.false), loop.loop.invariant.found ∙ sym start.requires.1.0.found)
 
 fixed-len-mul-result : (t : ℕ) → fixed-len-lts.Need-overflow-mul-result (fixed-len-calls t) (fixed-len-at t) fixed-len.Post
 fixed-len-mul-result t c =
@@ -244,7 +244,7 @@ fixed-len-returns : (t : ℕ) → fixed-len-lts.Need-returns (fixed-len-calls t)
 fixed-len-returns t c =
     let c1 = c.before in
     let c3 = c1.before.before in
-    record { gives = known-len _ _ _ c3.requires.1.0 _ c1.if1.true; found = rw (lt-ltb _ _ c1.if1.true) c3.requires.1.0.found }
+    record { gives = known_len _ _ _ c3.requires.1.0 _ c1.if1.true; found = rw (lt-ltb _ _ c1.if1.true) c3.requires.1.0.found }
 
 fixed-len-work-out-requires : (t : ℕ) → fixed-len-lts.Need-work-out-requires (fixed-len-calls t) (fixed-len-at t) fixed-len.Post
 fixed-len-work-out-requires t c κs =
@@ -268,7 +268,7 @@ work-out-add-word-at : (t : ℕ) → work-out-lts.Need-overflow-add-word-at (wor
 work-out-add-word-at t c =
     let c3 = c.before.before.before in
     let start = c3.before.before in
-    let g = legal-node _ _ _ c3.look.ensures start.requires.1.1 in omega (arith, g.near)
+    let g = legal_node _ _ _ c3.look.ensures start.requires.1.1 in omega (arith, g.near)
 
 work-out-word-at-requires : (t : ℕ) → work-out-lts.Need-word-at-requires (work-out-calls t) (work-out-at t) work-out.Post
 work-out-word-at-requires t c κs = search rules
@@ -329,7 +329,7 @@ work-out-leaf-len-requires : (t : ℕ) → work-out-lts.Need-leaf-len-requires (
 work-out-leaf-len-requires t c κs =
     let c4 = c.before.before.before.before in
     let start = c4.before.before in
-    (legal-node _ _ _ c4.look.ensures start.requires.1.1).small
+    (legal_node _ _ _ c4.look.ensures start.requires.1.1).small
 
 work-out-cast-lens-2 : (t : ℕ) → work-out-lts.Need-overflow-cast-lens-2 (work-out-calls t) (work-out-at t) work-out.Post
 work-out-cast-lens-2 t c =
@@ -337,9 +337,9 @@ work-out-cast-lens-2 t c =
     let c3 = c1.before.before in
     let c5 = c3.before.before in
     let start = c5.before.before in
-    let g = legal-node _ _ _ c5.look.ensures start.requires.1.1 in
+    let g = legal_node _ _ _ c5.look.ensures start.requires.1.1 in
     let e = c.leaf-len.ensures ∙ leaf-length _ _ _ c5.look.ensures (below-nine _ g.known c3.if1.false) c1.if2.true in
-    omega (arith, e, len-small _ _ (legal-node _ _ _ refl start.requires.1.1))
+    omega (arith, e, len_small _ _ (legal_node _ _ _ refl start.requires.1.1))
 
 work-out-mul-lens-2 : (t : ℕ) → work-out-lts.Need-overflow-mul-lens-2 (work-out-calls t) (work-out-at t) work-out.Post
 work-out-mul-lens-2 t c =
@@ -357,7 +357,7 @@ work-out-returns-2 t c =
     let c3 = c1.before.before in
     let c5 = c3.before.before in
     let start = c5.before.before in
-    let g = legal-node _ _ _ c5.look.ensures start.requires.1.1 in
+    let g = legal_node _ _ _ c5.look.ensures start.requires.1.1 in
     let e = c.leaf-len.ensures ∙ leaf-length _ _ _ c5.look.ensures (below-nine _ g.known c3.if1.false) c1.if2.true in
     lengthened _ _ _ _ _ start.requires.1.0.found (omega arith) (omega arith) start.requires.1.2 e
 
@@ -365,14 +365,14 @@ work-out-add-first : (t : ℕ) → work-out-lts.Need-overflow-add-first (work-ou
 work-out-add-first t c =
     let c5 = c.before.before.before.before.before in
     let start = c5.before.before in
-    let g = legal-node _ _ _ c5.look.ensures start.requires.1.1 in omega (arith, g.near)
+    let g = legal_node _ _ _ c5.look.ensures start.requires.1.1 in omega (arith, g.near)
 
 work-out-fields-len-requires : (t : ℕ) → work-out-lts.Need-fields-len-requires (work-out-calls t) (work-out-at t) work-out.Post
 work-out-fields-len-requires t c κs =
     let c2 = c.before.before in
     let c6 = c2.before.before.before.before in
     let start = c6.before.before in
-    let g = legal-node _ _ _ c6.look.ensures start.requires.1.1 in
+    let g = legal_node _ _ _ c6.look.ensures start.requires.1.1 in
     let within = g.within (omega (arith, c2.if2.false)) (omega (arith, c2.if2.false)) in
     (rw (← start.requires.0) (omega arith), (start.requires.1.0, omega arith, g.few c2.if2.false, omega (arith, g.near), within))
 
@@ -381,9 +381,9 @@ work-out-cast-lens-3 t c =
     let c3 = c.before.before.before in
     let c7 = c3.before.before.before.before in
     let start = c7.before.before in
-    let g = legal-node _ _ _ c7.look.ensures start.requires.1.1 in
-    let e = sizes-len _ _ _ _ _ c7.look.ensures c3.if2.false c.fields-len.ensures.0 (legal-refs _ _ _ g c3.if2.false) in
-    omega (arith, e, len-small _ _ (legal-node _ _ _ refl start.requires.1.1))
+    let g = legal_node _ _ _ c7.look.ensures start.requires.1.1 in
+    let e = sizes_len _ _ _ _ _ c7.look.ensures c3.if2.false c.fields-len.ensures.0 (legal-refs _ _ _ g c3.if2.false) in
+    omega (arith, e, len_small _ _ (legal_node _ _ _ refl start.requires.1.1))
 
 work-out-mul-lens-3 : (t : ℕ) → work-out-lts.Need-overflow-mul-lens-3 (work-out-calls t) (work-out-at t) work-out.Post
 work-out-mul-lens-3 t c =
@@ -400,8 +400,8 @@ work-out-returns-3 t c =
     let c3 = c.before.before.before in
     let c7 = c3.before.before.before.before in
     let start = c7.before.before in
-    let g = legal-node _ _ _ c7.look.ensures start.requires.1.1 in
-    let e = sizes-len _ _ _ _ _ c7.look.ensures c3.if2.false c.fields-len.ensures.0 (legal-refs _ _ _ g c3.if2.false) in
+    let g = legal_node _ _ _ c7.look.ensures start.requires.1.1 in
+    let e = sizes_len _ _ _ _ _ c7.look.ensures c3.if2.false c.fields-len.ensures.0 (legal-refs _ _ _ g c3.if2.false) in
     lengthened _ _ _ _ _ (c.fields-len.ensures.1 ∙ start.requires.1.0.found) (omega arith) (omega arith) start.requires.1.2 e
 
 pub +fields-len-fixed-len-work-out-spec : {M : Type 1} → statement M

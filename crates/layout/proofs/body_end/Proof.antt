@@ -3,14 +3,14 @@ use mathlib.Core.Path.{◌≡◌, refl, sym, ap, ◌∙◌}
 use native.Mathlib.Omega.{arith}
 use borrow.Author.Rules.{rules}
 use borrow.Author.Tests.{lt-ltb, le-ltb, ne_eqb}
-use Rattle.layout.specs.Table.{count, bodyEnd}
+use Rattle.layout.specs.Table.{count, body_end_lem}
 use Rattle.layout.proofs.Tables.{leaf-kind}
 use Rattle.layout.proofs.Lengths.{one_found, none_found, ended, ended-bad}
 use Rattle.layout.proofs.body_end.Statement.{statement}
 use Rattle.layout.proofs.body_end.Tie as tie
 
 returns : tie.Need-returns
-unfolding bodyEnd count
+unfolding body_end_lem count
 returns c = ended-bad _ _ _ _ _ (rw (le-ltb _ _ c.if1.true))
 
 word-in-requires : tie.Need-word-in-requires
@@ -21,7 +21,7 @@ container-end-requires : tie.Need-container-end-requires
 container-end-requires c κs = search rules
 
 returns-2 : tie.Need-returns-2
-unfolding bodyEnd count
+unfolding body_end_lem count
 returns-2 c =
     let c2 = c.before.before in
     let c3 = c2.before in
@@ -41,7 +41,7 @@ add-t10 : tie.Need-overflow-add-t10
 add-t10 c = search rules
 
 returns-3 : tie.Need-returns-3
-unfolding bodyEnd count
+unfolding body_end_lem count
 returns-3 c =
     let c1 = c.before in
     let c2 = c1.before in
@@ -60,7 +60,7 @@ leaf-end-requires c κs =
     (start.requires.0, start.requires.1, start.requires.2, start.requires.3, c4.word_in.ensures.0, c1.if4.true)
 
 returns-4 : tie.Need-returns-4
-unfolding bodyEnd count
+unfolding body_end_lem count
 returns-4 c =
     let c2 = c.before.before in
     let c3 = c2.before in
@@ -94,7 +94,7 @@ union-end-requires : tie.Need-union-end-requires
 union-end-requires c κs = search rules
 
 returns-5 : tie.Need-returns-5
-unfolding bodyEnd count
+unfolding body_end_lem count
 returns-5 c =
     let c1 = c.before in
     let c5 = c1.before.before.before.before in
@@ -115,7 +115,7 @@ list-end-requires : tie.Need-list-end-requires
 list-end-requires c κs = search rules
 
 returns-6 : tie.Need-returns-6
-unfolding bodyEnd count
+unfolding body_end_lem count
 returns-6 c =
     let c1 = c.before in
     let c6 = c1.before.before.before.before.before in
@@ -130,7 +130,7 @@ vector-end-requires : tie.Need-vector-end-requires
 vector-end-requires c κs = search rules
 
 returns-7 : tie.Need-returns-7
-unfolding bodyEnd count
+unfolding body_end_lem count
 returns-7 c =
     let c2 = c.before.before in
     let c8 = c2.before.before.before.before.before.before in
@@ -141,7 +141,7 @@ returns-7 c =
     }
 
 returns-8 : tie.Need-returns-8
-unfolding bodyEnd count
+unfolding body_end_lem count
 returns-8 c =
     let c1 = c.before in
     let c2 = c1.before in

@@ -3,9 +3,9 @@ use mathlib.Core.Path.{◌≡◌, refl, sym, ap, ◌∙◌}
 use native.Mathlib.Omega.{arith}
 use borrow.Author.Rules.{rules}
 use borrow.Author.Tests.{le-leb, lt-leb}
-use Rattle.layout.specs.Table.{count, many, containerEnd}
+use Rattle.layout.specs.Table.{count, many, container_end_lem}
 use Rattle.layout.proofs.Tables.{counted-says}
-use Rattle.layout.proofs.Lengths.{sizes-end, sizes-portion, sizes-small, container-len, found-set, ended, ended-bad, ended-cut}
+use Rattle.layout.proofs.Lengths.{sizes-end, sizes-portion, sizes-small, container_len, found-set, ended, ended-bad, ended-cut}
 use Rattle.layout.proofs.container_end.Statement.{statement}
 use Rattle.layout.proofs.container_end.Tie as tie
 
@@ -55,7 +55,7 @@ enum-known-end-2 : tie.Need-enum-known-end-2
 enum-known-end-2 c = search rules
 
 returns-2 : tie.Need-returns-2
-unfolding containerEnd many
+unfolding container_end_lem many
 returns-2 c =
     let e = c.before.before.before in
     let len = e.before.before in
@@ -81,13 +81,13 @@ element-write-lens : tie.Need-element-write-lens
 element-write-lens c = search rules
 
 returns-3 : tie.Need-returns-3
-unfolding containerEnd many
+unfolding container_end_lem many
 returns-3 c =
     let c1 = c.before in
     ended-bad _ _ _ _ _ (rw (← c1.before.before.count_at.ensures, c1.fields.given.1))
 
 returns-4 : tie.Need-returns-4
-unfolding containerEnd many
+unfolding container_end_lem many
 returns-4 c =
     let e = c.before in
     let len = e.before.before in
@@ -98,7 +98,7 @@ returns-4 c =
     ended-bad _ _ _ _ _ (rw (← m, u))
 
 returns-5 : tie.Need-returns-5
-unfolding containerEnd many
+unfolding container_end_lem many
 returns-5 c =
     let small = c.before in
     let e = small.before.before.before in
@@ -110,7 +110,7 @@ returns-5 c =
     let k = counted-says _ _ _ _ (sym m) in
     let made = len.fields-len.ensures.0 in
     let u = sym (sizes-end _ _ _ made) ∙ e.end2.given.1 in
-    let v = container-len _ _ _ p.3 _ _ _ p.4 k.word made u in
+    let v = container_len _ _ _ p.3 _ _ _ p.4 k.word made u in
     ended _ _ _ _ _
     (rw (← m, ← k.word, u, ← sizes-portion _ _ _ _ made u, le-leb _ _ small.if2.false))
     (found-set _ _ _ _ (len.fields-len.ensures.1 ∙ p.0.found) p.1 v)

@@ -2,7 +2,7 @@
 use mathlib.Core.Path.{refl}
 use native.Mathlib.Omega.{arith}
 use borrow.Author.Rules.{rules}
-use Rattle.layout.proofs.Trees.{leaf-len-small}
+use Rattle.layout.proofs.Trees.{leaf_len-small}
 use Rattle.layout.proofs.keep.Statement.{statement}
 use Rattle.layout.proofs.keep.Tie as tie
 
@@ -10,7 +10,7 @@ leaf-len-requires : tie.Need-leaf-len-requires
 leaf-len-requires c κs = search rules
 
 cast-lens : tie.Need-overflow-cast-lens
-cast-lens c = omega (arith, leaf-len-small _ _ c.leaf-len.ensures c.before.requires.1)
+cast-lens c = omega (arith, leaf_len-small _ _ c.leaf-len.ensures c.before.requires.1)
 
 mul-lens : tie.Need-overflow-mul-lens
 mul-lens c = search rules

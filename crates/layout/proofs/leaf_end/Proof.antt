@@ -4,7 +4,7 @@ use Prim.Native.Nat.{◌+◌}
 use native.Mathlib.Omega.{arith}
 use borrow.Author.Tests.{lt-ltb, le-ltb, not-true, not-false}
 use borrow.Author.Rules.{rules}
-use Rattle.layout.specs.Table.{count, leafEnd}
+use Rattle.layout.specs.Table.{count, leaf_end_lem}
 use Rattle.layout.proofs.Lengths.{leaf-found, ended, ended-bad}
 use Rattle.layout.proofs.leaf_end.Statement.{statement}
 use Rattle.layout.proofs.leaf_end.Tie as tie
@@ -13,7 +13,7 @@ add-next : tie.Need-overflow-add-next
 add-next c = omega (arith, c.before.requires.2)
 
 returns : tie.Need-returns
-unfolding leafEnd count
+unfolding leaf_end_lem count
 returns c = ended-bad _ _ _ _ _ (rw (le-ltb _ _ c.if1.true))
 
 word-in-requires : tie.Need-word-in-requires
@@ -24,7 +24,7 @@ leaf-ok-requires : tie.Need-leaf-ok-requires
 leaf-ok-requires c κs = search rules
 
 returns-2 : tie.Need-returns-2
-unfolding leafEnd count
+unfolding leaf_end_lem count
 returns-2 c =
     let c1 = c.before in
     let c2 = c1.before in
@@ -43,7 +43,7 @@ add-t11 : tie.Need-overflow-add-t11
 add-t11 c = search rules
 
 returns-3 : tie.Need-returns-3
-unfolding leafEnd count
+unfolding leaf_end_lem count
 returns-3 c =
     let c2 = c.before.before in
     let c3 = c2.before in

@@ -2,7 +2,7 @@
 use mathlib.Core.Path.{◌≡◌, sym, ◌∙◌}
 use borrow.Author.Rules.{rules}
 use borrow.Author.Tests.{lt-ltb, le-ltb}
-use Rattle.layout.specs.Table.{count, listEnd}
+use Rattle.layout.specs.Table.{count, list_end_lem}
 use Rattle.layout.proofs.list_end.Statement.{statement}
 use Rattle.layout.proofs.list_end.Tie as tie
 
@@ -22,21 +22,21 @@ add-t12 : tie.Need-overflow-add-t12
 add-t12 c = search rules
 
 returns : tie.Need-returns
-unfolding listEnd
+unfolding list_end_lem
 returns c =
     let c1 = c.before in
     let c3 = c1.before.before in
     rw (← c3.refs-end.ensures, c1.named.given.1)
 
 returns-2 : tie.Need-returns-2
-unfolding listEnd count
+unfolding list_end_lem count
 returns-2 c =
     let c2 = c.before.before in
     let c4 = c2.before.before in
     rw (← c4.refs-end.ensures, c2.named2.given.1, lt-ltb _ _ c.if1.true)
 
 returns-3 : tie.Need-returns-3
-unfolding listEnd count
+unfolding list_end_lem count
 returns-3 c =
     let c2 = c.before.before in
     let c4 = c2.before.before in

@@ -4,7 +4,7 @@ use native.Mathlib.Omega.{arith}
 use borrow.Author.Tests.{not-true, not-false}
 use borrow.Author.Rules.{rules}
 use Rattle.layout.specs.Table.{count, refs}
-use Rattle.layout.proofs.Tables.{refs-missing, refs-wrong, refs-next, refs-none}
+use Rattle.layout.proofs.Tables.{refs_missing, refs-wrong, refs-next, refs-none}
 use Rattle.layout.proofs.refs_end.Statement.{statement}
 use Rattle.layout.proofs.refs_end.Tie as tie
 
@@ -22,7 +22,7 @@ returns : tie.Need-returns invariant-loop decreases-loop
 unfolding count
 returns c =
     let c2 = c.before.before in
-    refs-missing _ _ _ _ _ _ c.before.loop-test.true c2.loop.invariant.1 c.if1.true
+    refs_missing _ _ _ _ _ _ c.before.loop-test.true c2.loop.invariant.1 c.if1.true
 
 word-at-requires : tie.Need-word-at-requires invariant-loop decreases-loop
 word-at-requires c κs = search rules

@@ -4,7 +4,7 @@ use native.Mathlib.Omega.{arith}
 use borrow.Author.Tests.{eq-eqb, ne_eqb}
 use borrow.Author.Rules.{rules}
 use Rattle.layout.specs.Table.{count, table_of}
-use Rattle.layout.proofs.Tables.{types-say, tabled, tabled-bad}
+use Rattle.layout.proofs.Tables.{types_say, tabled, tabled-bad}
 use Rattle.layout.proofs.table_end.Statement.{statement}
 use Rattle.layout.proofs.table_end.Tie as tie
 
@@ -21,7 +21,7 @@ types-end-requires : tie.Need-types-end-requires
 types-end-requires c κs =
     let c2 = c.before.before in
     let c4 = c2.before.before in
-    let s = types-say _ _ (sym c4.types_of.ensures ∙ c2.begun2.given.1) in
+    let s = types_say _ _ (sym c4.types_of.ensures ∙ c2.begun2.given.1) in
     (c4.before.before.requires, s.1, s.2)
 
 enum-known-c : tie.Need-enum-known-c

@@ -5,7 +5,7 @@ use native.Mathlib.Omega.{arith}
 use borrow.Author.Rules.{rules}
 use Rattle.layout.specs.Table.{count}
 use Rattle.standard.proofs.Bytes.{bytes-known}
-use Rattle.layout.proofs.Tables.{Checking, typed-bad, checking-listed, checking-start, checking-bad, checking-next, checking-end}
+use Rattle.layout.proofs.Tables.{Checking, typed-bad, checking_listed, checking_start, checking_bad, checking_next, checking_end}
 use Rattle.layout.proofs.types_end.Statement.{statement}
 use Rattle.layout.proofs.types_end.Tie as tie
 
@@ -29,14 +29,14 @@ add-next : tie.Need-overflow-add-next invariant-loop decreases-loop
 add-next c = omega arith
 
 word-in-requires : tie.Need-word-in-requires invariant-loop decreases-loop
-word-in-requires c κs = checking-listed _ _ _ _ _ c.before.loop.invariant c.loop-test.true
+word-in-requires c κs = checking_listed _ _ _ _ _ c.before.loop.invariant c.loop-test.true
 
 returns : tie.Need-returns invariant-loop decreases-loop
 returns c =
     let c1 = c.before in
     let c2 = c1.before in
     let c3 = c2.before in
-    typed-bad _ _ _ _ (checking-start _ _ _ _ _ c3.loop.invariant c2.loop-test.true _ c1.word_in.ensures.0 c.if1.true)
+    typed-bad _ _ _ _ (checking_start _ _ _ _ _ c3.loop.invariant c2.loop-test.true _ c1.word_in.ensures.0 c.if1.true)
 
 body-end-requires : tie.Need-body-end-requires invariant-loop decreases-loop
 body-end-requires c κs =
@@ -63,7 +63,7 @@ returns-2 c =
     let c7 = c6.before in
     let c8 = c7.before in
     typed-bad _ _ _ _
-    (checking-bad _ _ _ _ _ c8.loop.invariant c7.loop-test.true _ c6.word_in.ensures.0 c5.if1.false _
+    (checking_bad _ _ _ _ _ c8.loop.invariant c7.loop-test.true _ c6.word_in.ensures.0 c5.if1.false _
     (sym c1.c.given.1 ∙ c3.body-end.ensures.gives))
 
 enum-known-c-2 : tie.Need-enum-known-c-2 invariant-loop decreases-loop
@@ -87,13 +87,13 @@ loop-again c =
     let c9 = c8.before in
     let c10 = c9.before in
     let b = bytes-known _ (λ i. (c9.shared-slice-known.given i).fits) in
-    checking-next _ _ _ _ _ c8.loop.invariant c7.loop-test.true _ c6.word_in.ensures.0 c5.if1.false b _
+    checking_next _ _ _ _ _ c8.loop.invariant c7.loop-test.true _ c6.word_in.ensures.0 c5.if1.false b _
     (sym c1.c2.given.1 ∙ c3.body-end.ensures.gives) _ c10.requires.1 (c3.body-end.ensures.found _ c1.c2.given.1)
 
 returns-3 : tie.Need-returns-3 invariant-loop decreases-loop
 returns-3 c =
     let c1 = c.before in
-    let e = checking-end _ _ _ _ _ c1.loop.invariant c.loop-test.false in
+    let e = checking_end _ _ _ _ _ c1.loop.invariant c.loop-test.false in
     record { gives = e.0; found = λ _ _. e.1 }
 
 pub types-end-spec : {M : Type 1} → statement M

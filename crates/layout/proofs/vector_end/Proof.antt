@@ -2,8 +2,8 @@
 use mathlib.Core.Path.{◌≡◌, sym, ◌∙◌}
 use native.Mathlib.Omega.{arith}
 use borrow.Author.Rules.{rules}
-use Rattle.layout.specs.Table.{vectorEnd}
-use Rattle.layout.proofs.Lengths.{element-below, element-small, elements-fit, elements-len-fits, elements-small, elements-len, vector-wide, vector-ends}
+use Rattle.layout.specs.Table.{vector_end_lem}
+use Rattle.layout.proofs.Lengths.{element-below, element-small, elements_fit, elements_len_fits, elements-small, elements_len, vector_wide, vector-ends}
 use Rattle.layout.proofs.Lengths.{found-set, ended, ended-bad}
 use Rattle.layout.proofs.vector_end.Statement.{statement}
 use Rattle.layout.proofs.vector_end.Tie as tie
@@ -75,7 +75,7 @@ mul-if1 c =
     let r = sym counted.before.enum_told.given.1 ∙ named.refs-end.ensures in
     let k = sym word.before.before.elements2.given.1 ∙ counted.count_at.ensures in
     let f = word.word_at.ensures.0 in
-    omega (arith, elements-fit _ _ _ _ _ _ _ start.requires.0 r k f _ c.width_of_lem.ensures)
+    omega (arith, elements_fit _ _ _ _ _ _ _ start.requires.0 r k f _ c.width_of_lem.ensures)
 
 returns : tie.Need-returns
 returns c =
@@ -86,7 +86,7 @@ returns c =
     let r = sym counted.before.enum_told.given.1 ∙ named.refs-end.ensures in
     let k = sym word.before.before.elements2.given.1 ∙ counted.count_at.ensures in
     let f = word.word_at.ensures.0 in
-    ended-bad _ _ _ _ _ (vector-wide _ _ _ _ _ _ _ start.requires.0 r k f _ c.before.width_of_lem.ensures c.if1.true)
+    ended-bad _ _ _ _ _ (vector_wide _ _ _ _ _ _ _ start.requires.0 r k f _ c.before.width_of_lem.ensures c.if1.true)
 
 mul-lens : tie.Need-overflow-mul-lens
 mul-lens c =
@@ -97,7 +97,7 @@ mul-lens c =
     let r = sym counted.before.enum_told.given.1 ∙ named.refs-end.ensures in
     let k = sym word.before.before.elements2.given.1 ∙ counted.count_at.ensures in
     let f = word.word_at.ensures.0 in
-    omega (arith, elements-len-fits _ _ _ _ _ _ _ start.requires.0 r k f _ c.before.width_of_lem.ensures)
+    omega (arith, elements_len_fits _ _ _ _ _ _ _ start.requires.0 r k f _ c.before.width_of_lem.ensures)
 
 cast-lens : tie.Need-overflow-cast-lens
 cast-lens c =
@@ -120,14 +120,14 @@ add-t16 : tie.Need-overflow-add-t16
 add-t16 c = search rules
 
 returns-2 : tie.Need-returns-2
-unfolding vectorEnd
+unfolding vector_end_lem
 returns-2 c =
     let c1 = c.before in
     let c3 = c1.before.before in
     ended-bad _ _ _ _ _ (rw (← c3.refs-end.ensures, c1.named.given.1))
 
 returns-3 : tie.Need-returns-3
-unfolding vectorEnd
+unfolding vector_end_lem
 returns-3 c =
     let c1 = c.before in
     let c3 = c1.before.before in
@@ -146,7 +146,7 @@ returns-4 c =
     let f = word.word_at.ensures.0 in
     ended _ _ _ _ _
     (vector-ends _ _ _ _ _ _ _ start.requires.0 r k f _ c.before.width_of_lem.ensures c.if1.false)
-    (found-set _ _ _ _ start.requires.0.found start.requires.1 (elements-len _ _ _ _ _ _ _ start.requires.0 r k f start.requires.3 start.requires.4))
+    (found-set _ _ _ _ start.requires.0.found start.requires.1 (elements_len _ _ _ _ _ _ _ start.requires.0 r k f start.requires.3 start.requires.4))
 
 pub vector-end-spec : {M : Type 1} → statement M
 vector-end-spec =

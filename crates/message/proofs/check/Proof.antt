@@ -1,8 +1,8 @@
 -- As the table goes. Assumes nothing.
 use mathlib.Core.Path.{◌≡◌, refl, sym, ap, ◌∙◌}
 use Rattle.standard.proofs.Bytes.{bytes-known}
-use Rattle.layout.proofs.Tables.{table-known}
-use Rattle.message.specs.Check.{checkMessage}
+use Rattle.layout.proofs.Tables.{table_known}
+use Rattle.message.specs.Check.{check_message}
 use Rattle.message.proofs.Rows.{under_table}
 use borrow.Author.Rules.{rules}
 use Rattle.message.proofs.check.Statement.{statement}
@@ -23,18 +23,18 @@ check-under-requires c κs =
     let c4 = c2.before.before in
     let c7 = c4.before.before.before in
     let b = bytes-known _ (λ i. (c7.shared-slice-known.given i).fits) in
-    let k = table-known _ _ _ b (sym c4.table_of.ensures.0 ∙ c2.c2.given.1) c4.table_of.ensures.1 in
+    let k = table_known _ _ _ b (sym c4.table_of.ensures.0 ∙ c2.c2.given.1) c4.table_of.ensures.1 in
     (under_table _ _ _ k.0, k.1)
 
 returns : tie.Need-returns
-unfolding checkMessage
+unfolding check_message
 returns c =
     let c1 = c.before in
     let c3 = c1.before.before in
     rw (← c3.table_of.ensures.0, c1.c.given.1)
 
 returns-2 : tie.Need-returns-2
-unfolding checkMessage
+unfolding check_message
 returns-2 c =
     let c3 = c.before.before.before in
     let c5 = c3.before.before in

@@ -1,8 +1,8 @@
 -- As the table goes. Assumes nothing.
 use mathlib.Core.Path.{◌≡◌, refl, sym, ap, ◌∙◌}
 use Rattle.standard.proofs.Bytes.{bytes-known}
-use Rattle.layout.proofs.Tables.{table-known}
-use Rattle.message.specs.Check.{checkMessage, listMessage, listedRecords}
+use Rattle.layout.proofs.Tables.{table_known}
+use Rattle.message.specs.Check.{check_message, list_message, listed_records}
 use Rattle.message.proofs.Rows.{under_table}
 use borrow.Author.Rules.{rules}
 use Rattle.message.proofs.list.Statement.{statement}
@@ -23,11 +23,11 @@ list-under-requires c κs =
     let c5 = c3.before.before in
     let c9 = c5.before.before.before.before in
     let b = bytes-known _ (λ i. (c9.shared-slice-known.given i).fits) in
-    let k = table-known _ _ _ b (sym c5.table_of.ensures.0 ∙ c3.c2.given.1) c5.table_of.ensures.1 in
+    let k = table_known _ _ _ b (sym c5.table_of.ensures.0 ∙ c3.c2.given.1) c5.table_of.ensures.1 in
     (under_table _ _ _ k.0, k.1)
 
 returns : tie.Need-returns
-unfolding listMessage listedRecords checkMessage
+unfolding list_message listed_records check_message
 returns c =
     let c1 = c.before in
     let c3 = c1.before.before in
@@ -38,7 +38,7 @@ same_length : tie.Need-same-length
 same_length c = search rules
 
 returns-2 : tie.Need-returns-2
-unfolding listMessage listedRecords checkMessage
+unfolding list_message listed_records check_message
 returns-2 c =
     let c2 = c.before.before in
     let c6 = c2.before.before.before.before in

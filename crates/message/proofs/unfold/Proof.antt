@@ -2,9 +2,9 @@
 use mathlib.Core.Path.{sym, ◌∙◌}
 use borrow.Author.Rules.{rules}
 use Rattle.standard.proofs.Bytes.{bytes-known}
-use Rattle.layout.proofs.Tables.{table-known}
-use Rattle.message.specs.Check.{checkMessage}
-use Rattle.message.specs.Unfold.{unfoldMessage, unfoldedWords, unfoldedBytes}
+use Rattle.layout.proofs.Tables.{table_known}
+use Rattle.message.specs.Check.{check_message}
+use Rattle.message.specs.Unfold.{unfold_message, unfolded_words, unfolded_bytes}
 use Rattle.message.proofs.Rows.{under_table}
 use Rattle.message.proofs.unfold.Statement.{statement}
 use Rattle.message.proofs.unfold.Tie as tie
@@ -24,11 +24,11 @@ unfold-under-requires c κs =
     let c6 = c4.before.before in
     let c11 = c6.before.before.before.before.before in
     let b = bytes-known _ (λ i. (c11.shared-slice-known.given i).fits) in
-    let k = table-known _ _ _ b (sym c6.table_of.ensures.0 ∙ c4.c2.given.1) c6.table_of.ensures.1 in
+    let k = table_known _ _ _ b (sym c6.table_of.ensures.0 ∙ c4.c2.given.1) c6.table_of.ensures.1 in
     (under_table _ _ _ k.0, k.1)
 
 returns : tie.Need-returns
-unfolding unfoldMessage unfoldedWords unfoldedBytes checkMessage
+unfolding unfold_message unfolded_words unfolded_bytes check_message
 returns c =
     let c1 = c.before in
     let c3 = c1.before.before in
@@ -42,7 +42,7 @@ same-length-2 : tie.Need-same-length-2
 same-length-2 c = search rules
 
 returns-2 : tie.Need-returns-2
-unfolding unfoldMessage unfoldedWords unfoldedBytes checkMessage
+unfolding unfold_message unfolded_words unfolded_bytes check_message
 returns-2 c =
     let c4 = c.before.before.before.before in
     let c9 = c4.before.before.before.before.before in

@@ -56,7 +56,7 @@ use Rattle.decode.specs.contracts.decoder.SszDecoder.item as item
 use Rattle.decode.proofs.decoder.SszDecoder.item.Symbol as item-def
 use Rattle.decode.proofs.decoder.SszDecoder.item.Symbol.{name as #item}
 use Rattle.decode.proofs.decoder.SszDecoder.item.Met as item-thm
-use Rattle.reader.specs.Walked.{stepAfter, readerAfter, itemNext, toldNext}
+use Rattle.reader.specs.Walked.{step_after_lem, reader_after, item_next, told_next}
 use Rattle.reader.specs.declared.ReaderStep.{ReaderStep}
 use Rattle.reader.specs.declared.SszReader.{SszReader}
 use Rattle.reader.specs.declared.Taken.{Taken}
@@ -155,12 +155,12 @@ module _ {M : Type 1} {𝓤 : Ura M} (𝓛 : Logic 𝓤) (mem : Memory → SProp
 
   -- of each callee's `ensured`, the clause alone: neither has a `&mut`, so what is said of last values is dropped
   step-said : (r : ReaderStep) → ent 𝓤 (ensured 𝓛 step.ended (step.clauses 𝓛 mem run) tt (d.ranges, (d.next, (len, tt))) tt r)
-      (fact 𝓤 (r ≡ stepAfter d.ranges d.next len))
-  step-said r = ex_e 𝓤 _ (λ ws. snd∗ 𝓤 (sem 𝓛 (lasts step.ended tt (d.ranges, (d.next, (len, tt))) ws)) (fact 𝓤 (r ≡ stepAfter d.ranges d.next len)))
+      (fact 𝓤 (r ≡ step_after_lem d.ranges d.next len))
+  step-said r = ex_e 𝓤 _ (λ ws. snd∗ 𝓤 (sem 𝓛 (lasts step.ended tt (d.ranges, (d.next, (len, tt))) ws)) (fact 𝓤 (r ≡ step_after_lem d.ranges d.next len)))
 
   item-said : (i : Bor (List ℕ)) → ent 𝓤 (ensured 𝓛 item.ended (item.clauses 𝓛 mem run) (κ, tt) (d.ranges, (d.next, (d.bytes, tt))) tt i)
-      (fact 𝓤 (i.now ≡ itemNext d))
-  item-said i = ex_e 𝓤 _ (λ ws. snd∗ 𝓤 (sem 𝓛 (lasts item.ended (κ, tt) (d.ranges, (d.next, (d.bytes, tt))) ws)) (fact 𝓤 (i.now ≡ itemNext d)))
+      (fact 𝓤 (i.now ≡ item_next d))
+  item-said i = ex_e 𝓤 _ (λ ws. snd∗ 𝓤 (sem 𝓛 (lasts item.ended (κ, tt) (d.ranges, (d.next, (d.bytes, tt))) ws)) (fact 𝓤 (i.now ≡ item_next d)))
 
   item-asked : ent 𝓤 (on_entry 𝓛 item.signature (κ, tt) (q, tt) (d.ranges, (d.next, (d.bytes, tt))) item-passed) ((ItemOf 𝓛 mem run).pre to_item)
   item-asked = qed 𝓛 ((‵ (flft κ q) ⊛ ‵ ftrue) ∷ ‵ (owns (S.the_row ∷ usize ∷ ShrSlice (named 0) κ u8 ∷ []) (d.ranges, (d.next, (d.bytes, tt)))
@@ -190,7 +190,7 @@ module _ {M : Type 1} {𝓤 : Ura M} (𝓛 : Logic 𝓤) (mem : Memory → SProp
         owned ! S.the_row (Is S.the_row) ((LL.makes S.the_type S'.the_plain) 𝓛) d.ranges _ is-d $ fjoin ! $
         move ! (3 ∷ 0 ∷ []) $ use2 𝓛 (raw ((ItemOf 𝓛 mem run).pre to_item)) item-asked $ frame ! $ done !)
 
-    module _ (r : ReaderStep) (is-r : Is P.the_row r (LL.vals P.the_type P'.the_laws r)) (e : r ≡ stepAfter d.ranges d.next len) where
+    module _ (r : ReaderStep) (is-r : Is P.the_row r (LL.vals P.the_type P'.the_laws r)) (e : r ≡ step_after_lem d.ranges d.next len) where
       -- r's fields fit, and so do the fields of the reader that is made of it
       abbrev is-told : Is O.the_row r.told (EL.vals O.the_type O'.the_laws r.told)
       is-told = (LL.owed P.the_type P'.the_laws r _ is-r).0
@@ -201,7 +201,7 @@ module _ {M : Type 1} {𝓤 : Ura M} (𝓛 : Logic 𝓤) (mem : Memory → SProp
       is-after : Is (T.the_row α) (after r) (LL.vals D L (after r))
       is-after = LL.owes D L (after r) (is-s, (is-d, ((refl, ok-next), tt)))
 
-      exits : (i : Bor (List ℕ)) → i.now ≡ itemNext d → ent 𝓤 (⋆ 𝓛 (‵ (OwnS i) ∷ (‵ (flft κ q) ⊛ ‵ ftrue) ∷ (‵ (OwnS d.bytes) ⊛ ‵ Own) ∷ []))
+      exits : (i : Bor (List ℕ)) → i.now ≡ item_next d → ent 𝓤 (⋆ 𝓛 (‵ (OwnS i) ∷ (‵ (flft κ q) ⊛ ‵ ftrue) ∷ (‵ (OwnS d.bytes) ⊛ ‵ Own) ∷ []))
           (Post (LL.val (N.the_type α) (N'.the_laws α) (taken r i)))
       exits i e' =
           qed 𝓛 (‵ (OwnS i) ∷ (‵ (flft κ q) ⊛ ‵ ftrue) ∷ (‵ (OwnS d.bytes) ⊛ ‵ Own) ∷ []) ∵
@@ -242,8 +242,8 @@ module _ {M : Type 1} {𝓤 : Ura M} (𝓛 : Logic 𝓤) (mem : Memory → SProp
           (and_then ! (load ! (from ! (stop !)) (look ! 9 refl)) (and_then ! (load ! (from ! (stop !)) (look ! 3 refl)) (no_more !)))) (λ u.
           use1 𝓛 (later (some (λ (r : ReaderStep). (‵ ftrue ⊛ ‵ ((P.the_row).own_val r (u ∷ []))) ⊛ raw
           (ensured 𝓛 step.ended (step.clauses 𝓛 mem run) tt (d.ranges, (d.next, (len, tt))) tt r)))) (id⊢ 𝓤 _) $ await ! tt $ pick ! (λ r.
-          split ! $ move ! (1 ∷ []) $ use1 𝓛 (raw (fact 𝓤 (r ≡ stepAfter d.ranges d.next len))) (step-said r) $ heard !
-          (r ≡ stepAfter d.ranges d.next len) (λ e. split ! $ drop ! $
+          split ! $ move ! (1 ∷ []) $ use1 𝓛 (raw (fact 𝓤 (r ≡ step_after_lem d.ranges d.next len))) (step-said r) $ heard !
+          (r ≡ step_after_lem d.ranges d.next len) (λ e. split ! $ drop ! $
           facts ! P.the_row (Is P.the_row) (shows 𝓛 P.the_row) r (u ∷ []) (λ is.
           -- [_8; …; _7; …; _6; …; room for _5; …]
           spelled_as ! (ap only (LL.tells P.the_type P'.the_laws r (u ∷ []) is)) $
@@ -256,7 +256,7 @@ module _ {M : Type 1} {𝓤 : Ura M} (𝓛 : Logic 𝓤) (mem : Memory → SProp
           use1 𝓛 (later (some (λ (i : Bor (List ℕ)). ((‵ (flft κ q) ⊛ ‵ ftrue) ⊛ ‵ ((ShrSlice (named 0) κ u8).own_val i (u' ∷ []))) ⊛ raw
           (ensured 𝓛 item.ended (item.clauses 𝓛 mem run) (κ, tt) (d.ranges, (d.next, (d.bytes, tt))) tt i)))) (id⊢ 𝓤 _) $ await ! tt $
           pick ! (λ i.
-          split ! $ move ! (1 ∷ []) $ use1 𝓛 (raw (fact 𝓤 (i.now ≡ itemNext d))) (item-said i) $ heard ! (i.now ≡ itemNext d) (λ e'. split ! $ move ! (1 ∷ []) $
+          split ! $ move ! (1 ∷ []) $ use1 𝓛 (raw (fact 𝓤 (i.now ≡ item_next d))) (item-said i) $ heard ! (i.now ≡ item_next d) (λ e'. split ! $ move ! (1 ∷ []) $
           peeks ! (ShrSlice (named 0) κ u8) (Is (ShrSlice (named 0) κ u8)) (shows 𝓛 (ShrSlice (named 0) κ u8)) i (u' ∷ []) (λ is'.
           rewrite ! 0 (λ (us : List Val). ‵ ((ShrSlice (named 0) κ u8).own_val i us)) (shr_slice_Tells (named 0) κ u8 i (u' ∷ []) is') refl $
           peeks ! (ShrSlice (named 0) κ u8) (Is (ShrSlice (named 0) κ u8)) (shows 𝓛 (ShrSlice (named 0) κ u8)) i (shr_slice_vals i) (λ is-i.

@@ -16,10 +16,10 @@ use types.Run.{look, init, forget, stop, fld, from, load, of_opd, and_then, no_m
 use types.Run.{alloc1, alloc0, params1, pass1, pass0, free1, free0}
 use denote.Triple.Entry.{on_entry}
 use Rattle.decode.specs.Reader.{item_of}
-use Rattle.reader.specs.Walked.{itemNext}
+use Rattle.reader.specs.Walked.{item_next}
 use Rattle.reader.proofs.Steps.{bytes-val, ranges-val, passed}
 use Rattle.reader.proofs.Items.{Content, Walks, makes, takes, hands_out, stands}
-use Rattle.reader.proofs.Items.{bytes-typed, ranges_typed, reader-typed, taken-typed, item-typed}
+use Rattle.reader.proofs.Items.{bytes-typed, ranges_typed, reader_typed, taken-typed, item-typed}
 use Rattle.reader.specs.contracts.item_after.Key.{name as #reader·item-after}
 use Rattle.reader.specs.contracts.item_after as item
 use Rattle.reader.proofs.item_after.Statement as stated
@@ -40,7 +40,7 @@ module _ {M : Type 1} {𝓤 : Ura M} (𝓛 : Logic 𝓤) (mem : Memory → SProp
       move ! (12 ∷ []) $ makes ! mem run κ q s d n fm known-new (and_then ! (load ! (from ! (stop !)) (look ! 10 refl))
       (and_then ! (load ! (from ! (stop !)) (look ! 8 refl)) (and_then ! (load ! (from ! (stop !)) (look ! 6 refl)) (no_more !)))) (λ r e u is.
       -- [what the reader owns; the token; what s owns; room for _5; …; room for _4; …; _3; …]
-      land ! (from ! (stop !)) (init ! 3 refl (reader-typed 𝓛 κ r u is).0) $
+      land ! (from ! (stop !)) (init ! 3 refl (reader_typed 𝓛 κ r u is).0) $
       takes ! mem run κ q r u fm known_next (and_then ! (load ! (from ! (stop !)) (look ! 2 refl)) (no_more !)) (λ t e' is'.
       -- [what is taken owns; the token; what s owns; _5; …; room for _4; …]
       land ! (from ! (stop !)) (init ! 5 refl (taken-typed 𝓛 κ t is').0) $
@@ -49,7 +49,7 @@ module _ {M : Type 1} {𝓤 : Ura M} (𝓛 : Logic 𝓤) (mem : Memory → SProp
       returns ! (look ! 13 refl) $ forget ! 3 refl $ forget ! 5 refl $ forget ! 7 refl $ forget ! 9 refl $ forget ! 11 refl $ forget ! 13 refl $
       move ! (13 ∷ 14 ∷ []) $ free1 ! $ move ! (11 ∷ 12 ∷ []) $ free1 ! $ move ! (9 ∷ 10 ∷ []) $ free1 ! $ move ! (7 ∷ 8 ∷ []) $ free1 ! $ move !
       (5 ∷ 6 ∷ []) $ free1 ! $ move ! (3 ∷ 4 ∷ []) $ free1 ! $ free0 ! $
-      by ! (hands_out 𝓛 handed κ q s d n is-d ok t (e'.1.0 ∙ ap itemNext e))))))))))
+      by ! (hands_out 𝓛 handed κ q s d n is-d ok t (e'.1.0 ∙ ap item_next e))))))))))
 
 pub item-after-spec : {M : Type 1} → stated.statement M
 unfolding code.routine

@@ -15,10 +15,10 @@ use types.Part.{whole, sub, look_in}
 use types.Run.{look, init, forget, stop, fld, from, load, of_opd, and_then, no_more, assigns, land, returns, enter}
 use types.Run.{alloc1, alloc0, params1, pass1, pass0, free1, free0}
 use denote.Triple.Entry.{on_entry}
-use Rattle.reader.specs.Walked.{readerAt, readerAfter, itemNext}
+use Rattle.reader.specs.Walked.{reader_at, reader_after, item_next}
 use Rattle.reader.proofs.Steps.{bytes-val, ranges-val, left, passed, Held, held_out}
 use Rattle.reader.proofs.Items.{Content, Walks, makes, takes, hands_out, stands}
-use Rattle.reader.proofs.Items.{bytes-typed, ranges_typed, reader-typed, taken-typed, rest_typed, item-typed}
+use Rattle.reader.proofs.Items.{bytes-typed, ranges_typed, reader_typed, taken-typed, rest_typed, item-typed}
 use Rattle.reader.specs.contracts.item_then.Key.{name as #reader·item-then}
 use Rattle.reader.specs.contracts.item_then as item
 use Rattle.reader.proofs.item_then.Statement as stated
@@ -26,7 +26,7 @@ use Rattle.reader.proofs.item_then.Code as code
 
 -- the content of what it hands back
 abbrev handed : Content
-handed s d n = itemNext (readerAfter (readerAt s d n))
+handed s d n = item_next (reader_after (reader_at s d n))
 
 module _ {M : Type 1} {𝓤 : Ura M} (𝓛 : Logic 𝓤) (mem : Memory → SProp 𝓤) (run : Routine → Fun 𝓤) where
   walk : Walks 𝓛 handed mem run code.function
@@ -39,7 +39,7 @@ module _ {M : Type 1} {𝓤 : Ura M} (𝓛 : Logic 𝓤) (mem : Memory → SProp
       move ! (16 ∷ []) $ makes ! mem run κ q s d n fm known-new (and_then ! (load ! (from ! (stop !)) (look ! 14 refl))
       (and_then ! (load ! (from ! (stop !)) (look ! 12 refl)) (and_then ! (load ! (from ! (stop !)) (look ! 10 refl)) (no_more !)))) (λ r e u is.
       -- [what the reader owns; the token; what s owns; room for _7; …; room for _6; …; _3; …]
-      land ! (from ! (stop !)) (init ! 5 refl (reader-typed 𝓛 κ r u is).0) $
+      land ! (from ! (stop !)) (init ! 5 refl (reader_typed 𝓛 κ r u is).0) $
       takes ! mem run κ q r u fm known_next (and_then ! (load ! (from ! (stop !)) (look ! 4 refl)) (no_more !)) (λ t e' is'.
       -- [what the first step's answer owns; the token; what s owns; room for _7; …; _6; …; room for _5; …; room for _4; …]
       land ! (from ! (stop !)) (init ! 9 refl (taken-typed 𝓛 κ t is').0) $
@@ -55,7 +55,7 @@ module _ {M : Type 1} {𝓤 : Ura M} (𝓛 : Logic 𝓤) (mem : Memory → SProp
       forget ! 15 refl $ forget ! 17 refl $
       move ! (17 ∷ 18 ∷ []) $ free1 ! $ move ! (15 ∷ 16 ∷ []) $ free1 ! $ move ! (13 ∷ 14 ∷ []) $ free1 ! $ move ! (11 ∷ 12 ∷ []) $ free1 ! $ move !
       (9 ∷ 10 ∷ []) $ free1 ! $ move ! (7 ∷ 8 ∷ []) $ free1 ! $ move ! (5 ∷ 6 ∷ []) $ free1 ! $ move ! (3 ∷ 4 ∷ []) $ free1 ! $ free0 ! $
-      by ! (hands_out 𝓛 handed κ q s d n is-d ok t' (e''.1.0 ∙ ap itemNext (e'.1.1 ∙ ap readerAfter e))))))))))))))
+      by ! (hands_out 𝓛 handed κ q s d n is-d ok t' (e''.1.0 ∙ ap item_next (e'.1.1 ∙ ap reader_after e))))))))))))))
 
 pub item-then-spec : {M : Type 1} → stated.statement M
 unfolding code.routine

@@ -1,7 +1,7 @@
 -- An item that there is has a number below 64. Assumes nothing.
 use mathlib.Core.Path.{sym, ◌∙◌}
 use native.Mathlib.Omega.{arith}
-use Rattle.decode.proofs.Items.{item-fine}
+use Rattle.decode.proofs.Items.{item_fine}
 use borrow.Author.Rules.{rules}
 use Rattle.reader.proofs.step_after.Statement.{statement}
 use Rattle.reader.proofs.step_after.Tie as tie
@@ -13,7 +13,7 @@ enum_told : tie.Need-enum-told
 enum_told c = search rules
 
 add-t8 : tie.Need-overflow-add-t8
-add-t8 c = omega (arith, item-fine _ _ _ (sym c.before.before.item-told.ensures ∙ c.enum_told.given.1))
+add-t8 c = omega (arith, item_fine _ _ _ (sym c.before.before.item-told.ensures ∙ c.enum_told.given.1))
 
 enum-known-told : tie.Need-enum-known-told
 enum-known-told c = search rules

@@ -1,9 +1,9 @@
 -- As the table goes. Assumes nothing.
 use mathlib.Core.Path.{sym, ◌∙◌}
 use Rattle.standard.proofs.Bytes.{bytes-known}
-use Rattle.layout.proofs.Tables.{table-known}
+use Rattle.layout.proofs.Tables.{table_known}
 use Rattle.message.proofs.Rows.{under_table}
-use Rattle.value.specs.Write.{writeMessage, writtenBytes}
+use Rattle.value.specs.Write.{write_message, written_bytes}
 use borrow.Author.Rules.{rules}
 use Rattle.value.proofs.write.Statement.{statement}
 use Rattle.value.proofs.write.Tie as tie
@@ -23,11 +23,11 @@ write-under-requires c κs =
     let c5 = c3.before.before in
     let c10 = c5.before.before.before.before.before in
     let b = bytes-known _ (λ i. (c10.shared-slice-known.given i).fits) in
-    let k = table-known _ _ _ b (sym c5.table_of.ensures.0 ∙ c3.c2.given.1) c5.table_of.ensures.1 in
+    let k = table_known _ _ _ b (sym c5.table_of.ensures.0 ∙ c3.c2.given.1) c5.table_of.ensures.1 in
     (under_table _ _ _ k.0, k.1)
 
 returns : tie.Need-returns
-unfolding writeMessage writtenBytes
+unfolding write_message written_bytes
 returns c =
     let c1 = c.before in
     let c3 = c1.before.before in
@@ -38,7 +38,7 @@ same_length : tie.Need-same-length
 same_length c = search rules
 
 returns-2 : tie.Need-returns-2
-unfolding writeMessage writtenBytes
+unfolding write_message written_bytes
 returns-2 c =
     let c2 = c.before.before in
     let c6 = c2.before.before.before.before in

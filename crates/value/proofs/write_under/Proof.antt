@@ -2,7 +2,7 @@
 use mathlib.Core.Path.{◌≡◌, sym, ◌∙◌}
 use native.Mathlib.Omega.{arith}
 use Prim.Native.Nat.{◌+◌, ◌-◌}
-use Rattle.value.proofs.Calls.{call-wrong, call-words, call-bodies, call-large, call-room, call-ready, call-done}
+use Rattle.value.proofs.Calls.{call-wrong, call-words, call-bodies, call_large, call-room, call_ready, call-done}
 use borrow.Author.Rules.{rules}
 use Rattle.value.proofs.write_under.Statement.{statement}
 use Rattle.value.proofs.write_under.Tie as tie
@@ -41,7 +41,7 @@ returns-3 c =
     let c2 = c1.before in
     let c4 = c2.before.before in
     let c6 = c4.before.before in
-    call-large _ _ _ _ _ (sym c4.r2.given.1 ∙ c6.measure-item.ensures) c2.if1.false c1.if2.false c.if3.true
+    call_large _ _ _ _ _ (sym c4.r2.given.1 ∙ c6.measure-item.ensures) c2.if1.false c1.if2.false c.if3.true
 
 returns-4 : tie.Need-returns-4
 returns-4 c =
@@ -62,7 +62,7 @@ write-item-requires c κs =
     let c8 = c6.before.before in
     let c13 = c8.before.before.before.before.before in
     let e : c13.args.n - 1 + 1 ≡ c13.args.n = omega (arith, c13.requires.1) in
-    let z = call-ready _ _ _ _ _ (sym c6.r2.given.1 ∙ c8.measure-item.ensures) c4.if1.false c3.if2.false c2.if3.false c1.if4.false
+    let z = call_ready _ _ _ _ _ (sym c6.r2.given.1 ∙ c8.measure-item.ensures) c4.if1.false c3.if2.false c2.if3.false c1.if4.false
     in
     (rw e c13.requires.0, z.0, z.1)
 

@@ -3,9 +3,9 @@ use mathlib.Core.Path.{sym, ◌∙◌}
 use Prim.Native.Nat.{ℕ}
 use borrow.Author.Rules.{rules}
 use Rattle.bitfield.specs.Raw.{Raw}
-use Rattle.bitfield.specs.Bools.{noBits}
+use Rattle.bitfield.specs.Bools.{no_bits}
 use Rattle.bitfield.specs.Held.{held}
-use Rattle.bitfield.specs.Lists.{listCloneZeroed, listTold}
+use Rattle.bitfield.specs.Lists.{list_clone_zeroed, list_told}
 use Rattle.bitfield.proofs.Tolds.{list-kept}
 use Rattle.bitfield.proofs.Results.{raw-known, list_done}
 use Rattle.bitfield.proofs.BitList.clone_zeroed.Statement.{statement}
@@ -28,13 +28,13 @@ result-of-requires : tie.Need-result-of-requires
 result-of-requires c κs = search rules
 
 returns : tie.Need-returns
-unfolding listCloneZeroed listTold
+unfolding list_clone_zeroed list_told
 returns c =
     let c2 = c.before.before in
     let c5 = c2.before.before.before in
     let a = c5.args.t1 in
     let made = rw c2.first-told.ensures at c.before.fresh.ensures in
-    list_done a _ a.n _ (listTold a) (held (noBits a.len)) c.result-of.ensures made
+    list_done a _ a.n _ (list_told a) (held (no_bits a.len)) c.result-of.ensures made
 
 pub clone-zeroed-spec : {M : Type 1} → statement M
 clone-zeroed-spec =

@@ -3,9 +3,9 @@ use mathlib.Core.Path.{◌∙◌}
 use Prim.Native.Nat.{ℕ}
 use borrow.Author.Rules.{rules}
 use Rattle.bitfield.specs.declared.raw.Op.TheVariants.{AndNot}
-use Rattle.bitfield.specs.Held.{opBits}
-use Rattle.bitfield.specs.Lists.{listsTold, listDifference}
-use Rattle.bitfield.proofs.Ties.{and-not-whole}
+use Rattle.bitfield.specs.Held.{op_bits}
+use Rattle.bitfield.specs.Lists.{lists_told, list_difference}
+use Rattle.bitfield.proofs.Ties.{and_not_whole}
 use Rattle.bitfield.proofs.Results.{raw-known, list-merged}
 use Rattle.bitfield.proofs.BitList.difference.Statement.{statement}
 use Rattle.bitfield.proofs.BitList.difference.Tie as tie
@@ -17,8 +17,8 @@ merged-lists-requires : tie.Need-merged-lists-requires
 merged-lists-requires c κs = search rules
 
 returns : tie.Need-returns
-unfolding listsTold listDifference opBits
-returns c = c.merged-lists.ensures ∙ list-merged AndNot and-not-whole _ _ _ c.before.pair-told.ensures
+unfolding lists_told list_difference op_bits
+returns c = c.merged-lists.ensures ∙ list-merged AndNot and_not_whole _ _ _ c.before.pair-told.ensures
 
 pub difference-spec : {M : Type 1} → statement M
 difference-spec = tie.close (tie.spec pair-told-requires merged-lists-requires returns)

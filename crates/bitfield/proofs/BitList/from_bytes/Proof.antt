@@ -2,9 +2,9 @@
 use mathlib.Core.Path.{sym, ◌∙◌}
 use native.Mathlib.Omega.{arith}
 use borrow.Author.Rules.{rules}
-use Rattle.bitfield.specs.Lists.{listFromBytes}
+use Rattle.bitfield.specs.Lists.{list_from_bytes}
 use Rattle.bitfield.proofs.Tops.{bytes-known}
-use Rattle.bitfield.proofs.Tolds.{limited-fine}
+use Rattle.bitfield.proofs.Tolds.{limited_fine}
 use Rattle.bitfield.proofs.Standard.{list-says}
 use Rattle.bitfield.proofs.BitList.from_bytes.Statement.{statement}
 use Rattle.bitfield.proofs.BitList.from_bytes.Tie as tie
@@ -44,7 +44,7 @@ read-requires c κs =
     let c7 = c5.before.before in
     let c8 = c7.before in
     let body = list-says _ _ _ (sym c4.bitlist-body.ensures ∙ c2.body.given.1) in
-    let most = limited-fine _ (sym c7.limit-told.ensures ∙ c5.enum-told2.given.1) in
+    let most = limited_fine _ (sym c7.limit-told.ensures ∙ c5.enum-told2.given.1) in
     (omega (arith, body.1, most), omega (arith, body.0), bytes-known _ c8.shared-slice-known.given)
 
 made-requires : tie.Need-made-requires
@@ -66,7 +66,7 @@ result-of-requires-3 : tie.Need-result-of-requires-3
 result-of-requires-3 c κs = search rules
 
 returns : tie.Need-returns
-unfolding listFromBytes
+unfolding list_from_bytes
 returns c =
     let c2 = c.before.before in
     let c3 = c2.before in
@@ -75,7 +75,7 @@ returns c =
     c.result-of.ensures ∙ rw (c.before.refused.ensures, c2.nothing.ensures, told, c3.enum_told.given.1)
 
 returns-2 : tie.Need-returns-2
-unfolding listFromBytes
+unfolding list_from_bytes
 returns-2 c =
     let c2 = c.before.before in
     let c5 = c2.before.before.before in
@@ -87,7 +87,7 @@ returns-2 c =
     c.result-of2.ensures ∙ rw (c.before.made.ensures, c2.read.ensures, told, body)
 
 returns-3 : tie.Need-returns-3
-unfolding listFromBytes
+unfolding list_from_bytes
 returns-3 c =
     let c2 = c.before.before in
     let c4 = c2.before.before in

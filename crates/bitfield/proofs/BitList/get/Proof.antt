@@ -3,7 +3,7 @@ use mathlib.Core.Path.{sym, ◌∙◌}
 use Prim.Native.Nat.{ℕ}
 use borrow.Author.Rules.{rules}
 use Rattle.bitfield.specs.Raw.{Raw}
-use Rattle.bitfield.specs.Lists.{listGet, listTold}
+use Rattle.bitfield.specs.Lists.{list_get, list_told}
 use Rattle.bitfield.proofs.Tolds.{list-kept}
 use Rattle.bitfield.proofs.Results.{raw-known}
 use Rattle.bitfield.proofs.BitList.get.Statement.{statement}
@@ -24,7 +24,7 @@ get-bit-requires c κs =
     λ told. (list-kept _ (c5).args.t1.len (c5).args.t1.n (raw (c5)) (sym c2.first-told.ensures ∙ told)).0
 
 returns : tie.Need-returns
-unfolding listGet listTold
+unfolding list_get list_told
 returns c =
     let c3 = c.before.before.before in
     rw c3.first-told.ensures at c.get-bit.ensures

@@ -3,9 +3,9 @@ use mathlib.Core.Path.{◌∙◌}
 use Prim.Native.Nat.{ℕ}
 use borrow.Author.Rules.{rules}
 use Rattle.bitfield.specs.declared.raw.Op.TheVariants.{And}
-use Rattle.bitfield.specs.Held.{opBits}
-use Rattle.bitfield.specs.Lists.{listsTold, listIntersection}
-use Rattle.bitfield.proofs.Ties.{and-whole}
+use Rattle.bitfield.specs.Held.{op_bits}
+use Rattle.bitfield.specs.Lists.{lists_told, list_intersection}
+use Rattle.bitfield.proofs.Ties.{and_whole}
 use Rattle.bitfield.proofs.Results.{raw-known, list-merged}
 use Rattle.bitfield.proofs.BitList.intersection.Statement.{statement}
 use Rattle.bitfield.proofs.BitList.intersection.Tie as tie
@@ -17,8 +17,8 @@ merged-lists-requires : tie.Need-merged-lists-requires
 merged-lists-requires c κs = search rules
 
 returns : tie.Need-returns
-unfolding listsTold listIntersection opBits
-returns c = c.merged-lists.ensures ∙ list-merged And and-whole _ _ _ c.before.pair-told.ensures
+unfolding lists_told list_intersection op_bits
+returns c = c.merged-lists.ensures ∙ list-merged And and_whole _ _ _ c.before.pair-told.ensures
 
 pub intersection-spec : {M : Type 1} → statement M
 intersection-spec = tie.close (tie.spec pair-told-requires merged-lists-requires returns)

@@ -5,9 +5,9 @@ use borrow.Author.Rules.{rules}
 use lib.ListN.{length}
 use Rattle.bitfield.specs.Raw.{Raw}
 use Rattle.bitfield.specs.Held.{room_for}
-use Rattle.bitfield.specs.Lists.{listTold}
-use Rattle.bitfield.proofs.Tolds.{then-fine, room-fine, list-kept}
-use Rattle.bitfield.proofs.Results.{raw-known, list-into-refused, list-into-fine}
+use Rattle.bitfield.specs.Lists.{list_told}
+use Rattle.bitfield.proofs.Tolds.{then_fine, room_fine, list-kept}
+use Rattle.bitfield.proofs.Results.{raw-known, list_into_refused, list_into_fine}
 use Rattle.bitfield.proofs.BitList.into_bytes.Statement.{statement}
 use Rattle.bitfield.proofs.BitList.into_bytes.Tie as tie
 
@@ -32,7 +32,7 @@ enum_told : tie.Need-enum-told
 enum_told c = search rules
 
 put-marked-requires : tie.Need-put-marked-requires
-unfolding listTold
+unfolding list_told
 put-marked-requires c κs =
     let c3 = c.before.before.before in
     let c5 = c3.before.before in
@@ -41,24 +41,24 @@ put-marked-requires c κs =
     let s = c10 in
     let a = s.args.t1 in
     let tests = rw c6.first-told.ensures at c5.room-told.ensures in
-    let fine = then-fine (listTold a) (room_for (a.len / 8 + 1) (length s.args.out.now)) (sym tests ∙ c3.enum_told.given.1) in
-    ((list-kept _ a.len a.n (raw s) fine.0).0, room-fine _ _ fine.1)
+    let fine = then_fine (list_told a) (room_for (a.len / 8 + 1) (length s.args.out.now)) (sym tests ∙ c3.enum_told.given.1) in
+    ((list-kept _ a.len a.n (raw s) fine.0).0, room_fine _ _ fine.1)
 
 returns : tie.Need-returns
-unfolding listTold
+unfolding list_told
 returns c =
     let c3 = c.before.before.before in
     let c4 = c3.before in
     let c8 = c4.before.before.before.before in
     let s = c8 in
     let tests = rw c4.first-told.ensures at c3.room-told.ensures in
-    list-into-refused s.args.t1 s.args.out.now _ (sym tests ∙ c.before.told.given.1)
+    list_into_refused s.args.t1 s.args.out.now _ (sym tests ∙ c.before.told.given.1)
 
 same_length : tie.Need-same-length
 same_length c = search rules
 
 returns-2 : tie.Need-returns-2
-unfolding listTold
+unfolding list_told
 returns-2 c =
     let c2 = c.before.before in
     let c6 = c2.before.before.before.before in
@@ -67,7 +67,7 @@ returns-2 c =
     let c13 = c9.before.before.before.before in
     let s = c13 in
     let tests = rw c9.first-told.ensures at c8.room-told.ensures in
-    list-into-fine s.args.t1 s.args.out.now _ (sym tests ∙ c6.enum_told.given.1) c2.put-marked.ensures
+    list_into_fine s.args.t1 s.args.out.now _ (sym tests ∙ c6.enum_told.given.1) c2.put-marked.ensures
 
 pub into-bytes-spec : {M : Type 1} → statement M
 into-bytes-spec =

@@ -3,7 +3,7 @@ use mathlib.Core.Path.{sym, ◌∙◌}
 use Prim.Native.Nat.{ℕ}
 use borrow.Author.Rules.{rules}
 use Rattle.bitfield.specs.Raw.{Raw}
-use Rattle.bitfield.specs.Lists.{listIsZero, listTold}
+use Rattle.bitfield.specs.Lists.{list_is_zero, list_told}
 use Rattle.bitfield.proofs.Tolds.{list-kept}
 use Rattle.bitfield.proofs.Results.{raw-known}
 use Rattle.bitfield.proofs.BitList.is_zero.Statement.{statement}
@@ -24,7 +24,7 @@ zero-told-requires c κs =
     λ told. (list-kept _ (c5).args.t1.len (c5).args.t1.n (raw (c5)) (sym c2.first-told.ensures ∙ told)).0
 
 returns : tie.Need-returns
-unfolding listIsZero listTold
+unfolding list_is_zero list_told
 returns c =
     let c3 = c.before.before.before in
     rw c3.first-told.ensures at c.zero-told.ensures

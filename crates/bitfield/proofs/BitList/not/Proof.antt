@@ -5,7 +5,7 @@ use borrow.Author.Rules.{rules}
 use Rattle.bitfield.specs.Raw.{Raw}
 use Rattle.bitfield.specs.Bools.{flipped}
 use Rattle.bitfield.specs.Held.{held}
-use Rattle.bitfield.specs.Lists.{bits, listNot, listTold}
+use Rattle.bitfield.specs.Lists.{bits, list_not, list_told}
 use Rattle.bitfield.proofs.Tolds.{list-kept}
 use Rattle.bitfield.proofs.Results.{raw-known, list_done}
 use Rattle.bitfield.proofs.BitList.not.Statement.{statement}
@@ -27,12 +27,12 @@ result-of-requires : tie.Need-result-of-requires
 result-of-requires c κs = search rules
 
 returns : tie.Need-returns
-unfolding listNot listTold
+unfolding list_not list_told
 returns c =
     let c4 = c.before.before.before.before in
     let s = c4.before.before.before in
     let a = s.args.t1 in
-    list_done a _ a.n _ (listTold a) (held (flipped (bits a))) c.result-of.ensures
+    list_done a _ a.n _ (list_told a) (held (flipped (bits a))) c.result-of.ensures
     (rw c4.first-told.ensures at c.before.complement.ensures)
 
 pub not-spec : {M : Type 1} → statement M

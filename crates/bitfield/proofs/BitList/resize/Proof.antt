@@ -4,8 +4,8 @@ use Prim.Native.Nat.{ℕ}
 use borrow.Author.Rules.{rules}
 use Rattle.bitfield.specs.Raw.{Raw}
 use Rattle.bitfield.specs.Bools.{widened}
-use Rattle.bitfield.specs.Held.{held, limited, notBelow, and_then}
-use Rattle.bitfield.specs.Lists.{bits, listResize, listTold}
+use Rattle.bitfield.specs.Held.{held, limited, not_below, and_then}
+use Rattle.bitfield.specs.Lists.{bits, list_resize, list_told}
 use Rattle.bitfield.proofs.Tolds.{list-kept}
 use Rattle.bitfield.proofs.Results.{raw-known, list_done}
 use Rattle.bitfield.proofs.BitList.resize.Statement.{statement}
@@ -29,14 +29,14 @@ result-of-requires : tie.Need-result-of-requires
 result-of-requires c κs = search rules
 
 returns : tie.Need-returns
-unfolding listResize listTold
+unfolding list_resize list_told
 returns c =
     let c4 = c.before.before.before.before in
     let c7 = c4.before.before.before in
     let s = c7 in
     let a = s.args.t1 in
     let made = rw c4.first-told.ensures at c.before.resize-to.ensures in
-    let told = and_then (listTold a) (and_then (limited s.args.m) (notBelow s.args.m a.n)) in
+    let told = and_then (list_told a) (and_then (limited s.args.m) (not_below s.args.m a.n)) in
     list_done a _ s.args.m _ told (held (widened s.args.m (bits a))) c.result-of.ensures made
 
 pub resize_spec : {M : Type 1} → statement M

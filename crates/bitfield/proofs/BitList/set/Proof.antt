@@ -5,7 +5,7 @@ use borrow.Author.Rules.{rules}
 use lib.ListN.{set}
 use Rattle.bitfield.specs.Raw.{Raw}
 use Rattle.bitfield.specs.Held.{held, inside, and_then}
-use Rattle.bitfield.specs.Lists.{bits, listSet, listTold}
+use Rattle.bitfield.specs.Lists.{bits, list_set, list_told}
 use Rattle.bitfield.proofs.Tolds.{list-kept}
 use Rattle.bitfield.proofs.Results.{raw-known, list_done}
 use Rattle.bitfield.proofs.BitList.set.Statement.{statement}
@@ -29,14 +29,14 @@ result-of-requires : tie.Need-result-of-requires
 result-of-requires c κs = search rules
 
 returns : tie.Need-returns
-unfolding listSet listTold
+unfolding list_set list_told
 returns c =
     let c4 = c.before.before.before.before in
     let c7 = c4.before.before.before in
     let s = c7 in
     let a = s.args.t1 in
     let made = rw c4.first-told.ensures at c.before.set-bit.ensures in
-    list_done a _ a.n _ (and_then (listTold a) (inside s.args.i a.len)) (held (set (bits a) s.args.i s.args.value)) c.result-of.ensures
+    list_done a _ a.n _ (and_then (list_told a) (inside s.args.i a.len)) (held (set (bits a) s.args.i s.args.value)) c.result-of.ensures
     made
 
 pub set_spec : {M : Type 1} → statement M

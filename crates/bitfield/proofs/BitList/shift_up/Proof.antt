@@ -5,7 +5,7 @@ use borrow.Author.Rules.{rules}
 use Rattle.bitfield.specs.Raw.{Raw}
 use Rattle.bitfield.specs.Bools.{moved}
 use Rattle.bitfield.specs.Held.{held, up_to, and_then}
-use Rattle.bitfield.specs.Lists.{bits, listShiftUp, listTold}
+use Rattle.bitfield.specs.Lists.{bits, list_shift_up, list_told}
 use Rattle.bitfield.proofs.Tolds.{list-kept}
 use Rattle.bitfield.proofs.Results.{raw-known, list_done}
 use Rattle.bitfield.proofs.BitList.shift_up.Statement.{statement}
@@ -27,12 +27,12 @@ result-of-requires : tie.Need-result-of-requires
 result-of-requires c κs = search rules
 
 returns : tie.Need-returns
-unfolding listShiftUp listTold
+unfolding list_shift_up list_told
 returns c =
     let c4 = c.before.before.before.before in
     let s = c4.before.before.before in
     let a = s.args.t1 in
-    list_done a _ a.n _ (and_then (listTold a) (up_to s.args.k a.len)) (held (moved s.args.k (bits a))) c.result-of.ensures
+    list_done a _ a.n _ (and_then (list_told a) (up_to s.args.k a.len)) (held (moved s.args.k (bits a))) c.result-of.ensures
     (rw c4.first-told.ensures at c.before.shift.ensures)
 
 pub shift-up-spec : {M : Type 1} → statement M

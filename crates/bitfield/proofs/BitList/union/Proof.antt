@@ -3,9 +3,9 @@ use mathlib.Core.Path.{◌∙◌}
 use Prim.Native.Nat.{ℕ}
 use borrow.Author.Rules.{rules}
 use Rattle.bitfield.specs.declared.raw.Op.TheVariants.{Or}
-use Rattle.bitfield.specs.Held.{opBits}
-use Rattle.bitfield.specs.Lists.{listsTold, listUnion}
-use Rattle.bitfield.proofs.Ties.{or-whole}
+use Rattle.bitfield.specs.Held.{op_bits}
+use Rattle.bitfield.specs.Lists.{lists_told, list_union}
+use Rattle.bitfield.proofs.Ties.{or_whole}
 use Rattle.bitfield.proofs.Results.{raw-known, list-merged}
 use Rattle.bitfield.proofs.BitList.union.Statement.{statement}
 use Rattle.bitfield.proofs.BitList.union.Tie as tie
@@ -17,8 +17,8 @@ merged-lists-requires : tie.Need-merged-lists-requires
 merged-lists-requires c κs = search rules
 
 returns : tie.Need-returns
-unfolding listsTold listUnion opBits
-returns c = c.merged-lists.ensures ∙ list-merged Or or-whole _ _ _ c.before.pair-told.ensures
+unfolding lists_told list_union op_bits
+returns c = c.merged-lists.ensures ∙ list-merged Or or_whole _ _ _ c.before.pair-told.ensures
 
 pub union-spec : {M : Type 1} → statement M
 union-spec = tie.close (tie.spec pair-told-requires merged-lists-requires returns)

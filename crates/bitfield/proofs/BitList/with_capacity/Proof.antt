@@ -2,10 +2,10 @@
 use mathlib.Core.Path.{sym, ◌∙◌}
 use native.Mathlib.Omega.{arith}
 use borrow.Author.Rules.{rules}
-use Rattle.bitfield.specs.Bools.{noBits}
+use Rattle.bitfield.specs.Bools.{no_bits}
 use Rattle.bitfield.specs.Held.{held, limited, up_to, and_then}
-use Rattle.bitfield.specs.Lists.{noList, listWithCapacity}
-use Rattle.bitfield.proofs.Tolds.{then-fine, limited-fine, up-to-fine}
+use Rattle.bitfield.specs.Lists.{no_list, list_with_capacity}
+use Rattle.bitfield.proofs.Tolds.{then_fine, limited_fine, up_to_fine}
 use Rattle.bitfield.proofs.Results.{list_done}
 use Rattle.bitfield.proofs.BitList.with_capacity.Statement.{statement}
 use Rattle.bitfield.proofs.BitList.with_capacity.Tie as tie
@@ -26,16 +26,16 @@ fresh-requires c κs =
     λ told.
     let a = c3.args in
     let tests = rw c2.limit-told.ensures at c.before.up-to-told.ensures in
-    let fine = then-fine (limited a.n) (up_to a.len a.n) (sym tests ∙ told) in
-    let h = limited-fine a.n fine.0 in
-    let k = up-to-fine a.len a.n fine.1 in
+    let fine = then_fine (limited a.n) (up_to a.len a.n) (sym tests ∙ told) in
+    let h = limited_fine a.n fine.0 in
+    let k = up_to_fine a.len a.n fine.1 in
     omega arith
 
 result-of-requires : tie.Need-result-of-requires
 result-of-requires c κs = search rules
 
 returns : tie.Need-returns
-unfolding listWithCapacity
+unfolding list_with_capacity
 returns c =
     let c2 = c.before.before in
     let c3 = c2.before in
@@ -45,7 +45,7 @@ returns c =
     let tests = rw c4.limit-told.ensures at c3.up-to-told.ensures in
     let made = rw tests at c.before.fresh.ensures in
     let r = rw c2.nothing.ensures at c.result-of.ensures in
-    list_done noList _ a.n _ (and_then (limited a.n) (up_to a.len a.n)) (held (noBits a.len)) r made
+    list_done no_list _ a.n _ (and_then (limited a.n) (up_to a.len a.n)) (held (no_bits a.len)) r made
 
 pub with-capacity-spec : {M : Type 1} → statement M
 with-capacity-spec =

@@ -1,9 +1,9 @@
 -- `bitfield::BitVector::from_bytes` meets its contract: the limit, the body's tests, then its bits. Assumes nothing.
 use mathlib.Core.Path.{sym, ◌∙◌}
 use borrow.Author.Rules.{rules}
-use Rattle.bitfield.specs.Vectors.{vectorFromBytes}
+use Rattle.bitfield.specs.Vectors.{vector_from_bytes}
 use Rattle.bitfield.proofs.Tops.{bytes-known}
-use Rattle.bitfield.proofs.Tolds.{limited-fine}
+use Rattle.bitfield.proofs.Tolds.{limited_fine}
 use Rattle.bitfield.proofs.Standard.{vector-says}
 use Rattle.bitfield.proofs.BitVector.from_bytes.Statement.{statement}
 use Rattle.bitfield.proofs.BitVector.from_bytes.Tie as tie
@@ -42,7 +42,7 @@ read-requires c κs =
     let c6 = c4.before.before in
     let c7 = c6.before in
     let body = vector-says _ _ (sym c3.bitvector-body.ensures ∙ c.before.enum-told3.given.1) in
-    let most = limited-fine _ (sym c6.limit-told.ensures ∙ c4.enum-told2.given.1) in
+    let most = limited_fine _ (sym c6.limit-told.ensures ∙ c4.enum-told2.given.1) in
     (most, body, bytes-known _ c7.shared-slice-known.given)
 
 made-requires : tie.Need-made-requires
@@ -64,7 +64,7 @@ result-of-requires-3 : tie.Need-result-of-requires-3
 result-of-requires-3 c κs = search rules
 
 returns : tie.Need-returns
-unfolding vectorFromBytes
+unfolding vector_from_bytes
 returns c =
     let c2 = c.before.before in
     let c3 = c2.before in
@@ -73,7 +73,7 @@ returns c =
     c.result-of.ensures ∙ rw (c.before.refused.ensures, c2.nothing.ensures, told, c3.enum_told.given.1)
 
 returns-2 : tie.Need-returns-2
-unfolding vectorFromBytes
+unfolding vector_from_bytes
 returns-2 c =
     let c2 = c.before.before in
     let c4 = c2.before.before in
@@ -85,7 +85,7 @@ returns-2 c =
     c.result-of2.ensures ∙ rw (c.before.made.ensures, c2.read.ensures, told, body)
 
 returns-3 : tie.Need-returns-3
-unfolding vectorFromBytes
+unfolding vector_from_bytes
 returns-3 c =
     let c2 = c.before.before in
     let c3 = c2.before in

@@ -3,7 +3,7 @@ use mathlib.Core.Path.{sym, ◌∙◌}
 use Prim.Native.Nat.{ℕ}
 use borrow.Author.Rules.{rules}
 use Rattle.bitfield.specs.Raw.{Raw}
-use Rattle.bitfield.specs.Vectors.{vectorHighestSetBit, vectorTold}
+use Rattle.bitfield.specs.Vectors.{vector_highest_set_bit, vector_told_lem}
 use Rattle.bitfield.proofs.Tolds.{vector-kept}
 use Rattle.bitfield.proofs.Results.{raw-known}
 use Rattle.bitfield.proofs.BitVector.highest_set_bit.Statement.{statement}
@@ -24,7 +24,7 @@ highest-told-requires c κs =
     λ told. vector-kept _ (c5).args.t1.len (c5).args.t1.n (raw (c5)) (sym c2.first-told.ensures ∙ told)
 
 returns : tie.Need-returns
-unfolding vectorHighestSetBit vectorTold
+unfolding vector_highest_set_bit vector_told_lem
 returns c =
     let c3 = c.before.before.before in
     rw c3.first-told.ensures at c.highest-told.ensures

@@ -3,9 +3,9 @@ use mathlib.Core.Path.{◌∙◌}
 use Prim.Native.Nat.{ℕ}
 use borrow.Author.Rules.{rules}
 use Rattle.bitfield.specs.declared.raw.Op.TheVariants.{And}
-use Rattle.bitfield.specs.Held.{opBits}
-use Rattle.bitfield.specs.Vectors.{vectorsTold, vectorIntersection}
-use Rattle.bitfield.proofs.Ties.{and-whole}
+use Rattle.bitfield.specs.Held.{op_bits}
+use Rattle.bitfield.specs.Vectors.{vectors_told, vector_intersection}
+use Rattle.bitfield.proofs.Ties.{and_whole}
 use Rattle.bitfield.proofs.Results.{raw-known, vector-merged}
 use Rattle.bitfield.proofs.BitVector.intersection.Statement.{statement}
 use Rattle.bitfield.proofs.BitVector.intersection.Tie as tie
@@ -17,8 +17,8 @@ merged-vectors-requires : tie.Need-merged-vectors-requires
 merged-vectors-requires c κs = search rules
 
 returns : tie.Need-returns
-unfolding vectorsTold vectorIntersection opBits
-returns c = c.merged-vectors.ensures ∙ vector-merged And and-whole _ _ _ c.before.pair-told.ensures
+unfolding vectors_told vector_intersection op_bits
+returns c = c.merged-vectors.ensures ∙ vector-merged And and_whole _ _ _ c.before.pair-told.ensures
 
 pub intersection-spec : {M : Type 1} → statement M
 intersection-spec = tie.close (tie.spec pair-told-requires merged-vectors-requires returns)

@@ -7,9 +7,9 @@ use lib.ListN.{length}
 use Rattle.bitfield.specs.Raw.{Raw}
 use Rattle.bitfield.specs.Facts.{Kept}
 use Rattle.bitfield.specs.Held.{room_for}
-use Rattle.bitfield.specs.Vectors.{vectorTold}
-use Rattle.bitfield.proofs.Tolds.{then-fine, room-fine, vector-kept}
-use Rattle.bitfield.proofs.Results.{raw-known, vector-into-refused, vector-into-fine}
+use Rattle.bitfield.specs.Vectors.{vector_told_lem}
+use Rattle.bitfield.proofs.Tolds.{then_fine, room_fine, vector-kept}
+use Rattle.bitfield.proofs.Results.{raw-known, vector_into_refused, vector_into_fine}
 use Rattle.bitfield.proofs.BitVector.into_bytes.Statement.{statement}
 use Rattle.bitfield.proofs.BitVector.into_bytes.Tie as tie
 
@@ -34,7 +34,7 @@ enum_told : tie.Need-enum-told
 enum_told c = search rules
 
 put-raw-requires : tie.Need-put-raw-requires
-unfolding vectorTold
+unfolding vector_told_lem
 put-raw-requires c κs =
     let c3 = c.before.before.before in
     let c5 = c3.before.before in
@@ -45,12 +45,12 @@ put-raw-requires c κs =
     let a = s.args.t1 in
     let need = c9.raw-len in
     let tests = rw c6.first-told.ensures at c5.room-told.ensures in
-    let fine = then-fine (vectorTold a) (room_for need.result (length s.args.out.now)) (sym tests ∙ c3.enum_told.given.1) in
+    let fine = then_fine (vector_told_lem a) (room_for need.result (length s.args.out.now)) (sym tests ∙ c3.enum_told.given.1) in
     let k : Kept a.bytes a.len = vector-kept _ a.len a.n (raw s) fine.0 in
-    (omega (arith, k.few, need.ensures), room-fine _ _ fine.1, k.raw)
+    (omega (arith, k.few, need.ensures), room_fine _ _ fine.1, k.raw)
 
 returns : tie.Need-returns
-unfolding vectorTold
+unfolding vector_told_lem
 returns c =
     let c3 = c.before.before.before in
     let c4 = c3.before in
@@ -59,13 +59,13 @@ returns c =
     let s = c9 in
     let need = c7.raw-len in
     let tests = rw c4.first-told.ensures at c3.room-told.ensures in
-    vector-into-refused s.args.t1 s.args.out.now need.result _ need.ensures (sym tests ∙ c.before.told.given.1)
+    vector_into_refused s.args.t1 s.args.out.now need.result _ need.ensures (sym tests ∙ c.before.told.given.1)
 
 same_length : tie.Need-same-length
 same_length c = search rules
 
 returns-2 : tie.Need-returns-2
-unfolding vectorTold
+unfolding vector_told_lem
 returns-2 c =
     let c2 = c.before.before in
     let c6 = c2.before.before.before.before in
@@ -77,9 +77,9 @@ returns-2 c =
     let a = s.args.t1 in
     let need = c12.raw-len in
     let tests = sym (rw c9.first-told.ensures at c8.room-told.ensures) ∙ c6.enum_told.given.1 in
-    let fine = then-fine (vectorTold a) (room_for need.result (length s.args.out.now)) tests in
+    let fine = then_fine (vector_told_lem a) (room_for need.result (length s.args.out.now)) tests in
     let k = vector-kept _ a.len a.n (raw s) fine.0 in
-    vector-into-fine a s.args.out.now _ need.result k need.ensures tests c2.put-raw.ensures
+    vector_into_fine a s.args.out.now _ need.result k need.ensures tests c2.put-raw.ensures
 
 pub into-bytes-spec : {M : Type 1} → statement M
 into-bytes-spec =

@@ -2,7 +2,7 @@
 use Prim.Native.Nat.{ℕ}
 use borrow.Author.Rules.{rules}
 use Rattle.bitfield.specs.Raw.{Raw}
-use Rattle.bitfield.specs.Vectors.{vectorIsSubset, vectorsTold}
+use Rattle.bitfield.specs.Vectors.{vector_is_subset, vectors_told}
 use Rattle.bitfield.proofs.Results.{raw-known}
 use Rattle.bitfield.proofs.BitVector.is_subset.Statement.{statement}
 use Rattle.bitfield.proofs.BitVector.is_subset.Tie as tie
@@ -17,7 +17,7 @@ subset-told-requires : tie.Need-subset-told-requires
 subset-told-requires c κs = c.before.before.before.before.pair-told.ensures.1
 
 returns : tie.Need-returns
-unfolding vectorIsSubset vectorsTold
+unfolding vector_is_subset vectors_told
 returns c = rw c.before.before.before.before.before.pair-told.ensures.0 at c.subset-told.ensures
 
 pub is-subset-spec : {M : Type 1} → statement M

@@ -3,7 +3,7 @@ use mathlib.Core.Path.{sym, ◌∙◌}
 use Prim.Native.Nat.{ℕ}
 use borrow.Author.Rules.{rules}
 use Rattle.bitfield.specs.Raw.{Raw}
-use Rattle.bitfield.specs.Vectors.{vectorIsZero, vectorTold}
+use Rattle.bitfield.specs.Vectors.{vector_is_zero, vector_told_lem}
 use Rattle.bitfield.proofs.Tolds.{vector-kept}
 use Rattle.bitfield.proofs.Results.{raw-known}
 use Rattle.bitfield.proofs.BitVector.is_zero.Statement.{statement}
@@ -24,7 +24,7 @@ zero-told-requires c κs =
     λ told. vector-kept _ (c5).args.t1.len (c5).args.t1.n (raw (c5)) (sym c2.first-told.ensures ∙ told)
 
 returns : tie.Need-returns
-unfolding vectorIsZero vectorTold
+unfolding vector_is_zero vector_told_lem
 returns c =
     let c3 = c.before.before.before in
     rw c3.first-told.ensures at c.zero-told.ensures

@@ -5,7 +5,7 @@ use borrow.Author.Rules.{rules}
 use Rattle.bitfield.specs.Raw.{Raw}
 use Rattle.bitfield.specs.Bools.{flipped}
 use Rattle.bitfield.specs.Held.{held}
-use Rattle.bitfield.specs.Vectors.{bits, vectorNot, vectorTold}
+use Rattle.bitfield.specs.Vectors.{bits, vector_not, vector_told_lem}
 use Rattle.bitfield.proofs.Tolds.{vector-kept}
 use Rattle.bitfield.proofs.Results.{raw-known, vector-done}
 use Rattle.bitfield.proofs.BitVector.not.Statement.{statement}
@@ -27,12 +27,12 @@ result-of-requires : tie.Need-result-of-requires
 result-of-requires c κs = search rules
 
 returns : tie.Need-returns
-unfolding vectorNot vectorTold
+unfolding vector_not vector_told_lem
 returns c =
     let c4 = c.before.before.before.before in
     let s = c4.before.before.before in
     let a = s.args.t1 in
-    vector-done a _ a.n _ (vectorTold a) (held (flipped (bits a))) c.result-of.ensures
+    vector-done a _ a.n _ (vector_told_lem a) (held (flipped (bits a))) c.result-of.ensures
     (rw c4.first-told.ensures at c.before.complement.ensures)
 
 pub not-spec : {M : Type 1} → statement M

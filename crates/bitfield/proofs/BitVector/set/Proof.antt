@@ -5,7 +5,7 @@ use borrow.Author.Rules.{rules}
 use lib.ListN.{set}
 use Rattle.bitfield.specs.Raw.{Raw}
 use Rattle.bitfield.specs.Held.{held, inside, and_then}
-use Rattle.bitfield.specs.Vectors.{bits, vectorSet, vectorTold}
+use Rattle.bitfield.specs.Vectors.{bits, vector_set, vector_told_lem}
 use Rattle.bitfield.proofs.Tolds.{vector-kept}
 use Rattle.bitfield.proofs.Results.{raw-known, vector-done}
 use Rattle.bitfield.proofs.BitVector.set.Statement.{statement}
@@ -29,14 +29,14 @@ result-of-requires : tie.Need-result-of-requires
 result-of-requires c κs = search rules
 
 returns : tie.Need-returns
-unfolding vectorSet vectorTold
+unfolding vector_set vector_told_lem
 returns c =
     let c4 = c.before.before.before.before in
     let c7 = c4.before.before.before in
     let s = c7 in
     let a = s.args.t1 in
     let made = rw c4.first-told.ensures at c.before.set-bit.ensures in
-    vector-done a _ a.n _ (and_then (vectorTold a) (inside s.args.i a.len)) (held (set (bits a) s.args.i s.args.value))
+    vector-done a _ a.n _ (and_then (vector_told_lem a) (inside s.args.i a.len)) (held (set (bits a) s.args.i s.args.value))
     c.result-of.ensures made
 
 pub set_spec : {M : Type 1} → statement M

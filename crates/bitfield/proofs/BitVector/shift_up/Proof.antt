@@ -5,7 +5,7 @@ use borrow.Author.Rules.{rules}
 use Rattle.bitfield.specs.Raw.{Raw}
 use Rattle.bitfield.specs.Bools.{moved}
 use Rattle.bitfield.specs.Held.{held, up_to, and_then}
-use Rattle.bitfield.specs.Vectors.{bits, vectorShiftUp, vectorTold}
+use Rattle.bitfield.specs.Vectors.{bits, vector_shift_up, vector_told_lem}
 use Rattle.bitfield.proofs.Tolds.{vector-kept}
 use Rattle.bitfield.proofs.Results.{raw-known, vector-done}
 use Rattle.bitfield.proofs.BitVector.shift_up.Statement.{statement}
@@ -27,12 +27,12 @@ result-of-requires : tie.Need-result-of-requires
 result-of-requires c κs = search rules
 
 returns : tie.Need-returns
-unfolding vectorShiftUp vectorTold
+unfolding vector_shift_up vector_told_lem
 returns c =
     let c4 = c.before.before.before.before in
     let s = c4.before.before.before in
     let a = s.args.t1 in
-    vector-done a _ a.n _ (and_then (vectorTold a) (up_to s.args.k a.len)) (held (moved s.args.k (bits a))) c.result-of.ensures
+    vector-done a _ a.n _ (and_then (vector_told_lem a) (up_to s.args.k a.len)) (held (moved s.args.k (bits a))) c.result-of.ensures
     (rw c4.first-told.ensures at c.before.shift.ensures)
 
 pub shift-up-spec : {M : Type 1} → statement M

@@ -3,9 +3,9 @@ use mathlib.Core.Path.{◌∙◌}
 use Prim.Native.Nat.{ℕ}
 use borrow.Author.Rules.{rules}
 use Rattle.bitfield.specs.declared.raw.Op.TheVariants.{Or}
-use Rattle.bitfield.specs.Held.{opBits}
-use Rattle.bitfield.specs.Vectors.{vectorsTold, vectorUnion}
-use Rattle.bitfield.proofs.Ties.{or-whole}
+use Rattle.bitfield.specs.Held.{op_bits}
+use Rattle.bitfield.specs.Vectors.{vectors_told, vector_union}
+use Rattle.bitfield.proofs.Ties.{or_whole}
 use Rattle.bitfield.proofs.Results.{raw-known, vector-merged}
 use Rattle.bitfield.proofs.BitVector.union.Statement.{statement}
 use Rattle.bitfield.proofs.BitVector.union.Tie as tie
@@ -17,8 +17,8 @@ merged-vectors-requires : tie.Need-merged-vectors-requires
 merged-vectors-requires c κs = search rules
 
 returns : tie.Need-returns
-unfolding vectorsTold vectorUnion opBits
-returns c = c.merged-vectors.ensures ∙ vector-merged Or or-whole _ _ _ c.before.pair-told.ensures
+unfolding vectors_told vector_union op_bits
+returns c = c.merged-vectors.ensures ∙ vector-merged Or or_whole _ _ _ c.before.pair-told.ensures
 
 pub union-spec : {M : Type 1} → statement M
 union-spec = tie.close (tie.spec pair-told-requires merged-vectors-requires returns)

@@ -3,14 +3,14 @@ use mathlib.Core.Path.{◌∙◌}
 use native.Mathlib.Omega.{arith}
 use borrow.Author.Tests.{eq-eqb}
 use borrow.Author.Rules.{rules}
-use Rattle.bitfield.specs.Body.{bitListBody}
+use Rattle.bitfield.specs.Body.{bit_list_body}
 use Rattle.bitfield.proofs.Tops.{bytes-known}
 use Rattle.bitfield.proofs.Bodies.{marked-here}
 use Rattle.bitfield.proofs.body.bitlist_body.Statement.{statement}
 use Rattle.bitfield.proofs.body.bitlist_body.Tie as tie
 
 returns : tie.Need-returns
-unfolding bitListBody
+unfolding bit_list_body
 returns c = rw (eq-eqb _ 0 c.if1.true)
 
 sub-last : tie.Need-overflow-sub-last

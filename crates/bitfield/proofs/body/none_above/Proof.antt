@@ -1,7 +1,7 @@
 -- `bitfield::body::none_above` meets its contract: only the byte that holds bit n can have a bit above. Assumes nothing.
 use native.Mathlib.Omega.{arith}
 use borrow.Author.Rules.{rules}
-use Rattle.bitfield.proofs.Bodies.{within-short, within-here, within-not}
+use Rattle.bitfield.proofs.Bodies.{within-short, within-here, within_not}
 use Rattle.bitfield.proofs.body.none_above.Statement.{statement}
 use Rattle.bitfield.proofs.body.none_above.Tie as tie
 
@@ -27,7 +27,7 @@ returns-3 : tie.Need-returns-3
 returns-3 c =
     let c3 = c.before.before.before in
     let s = c3 in
-    within-not _ s.args.n s.requires.1 (omega arith) c.if2.false
+    within_not _ s.args.n s.requires.1 (omega arith) c.if2.false
 
 pub none-above-spec : {M : Type 1} → statement M
 none-above-spec =

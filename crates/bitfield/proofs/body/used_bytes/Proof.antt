@@ -4,7 +4,7 @@ use Prim.Native.Nat.{◌≤◌}
 use native.Mathlib.Omega.{arith}
 use lib.ListN.{length, drop}
 use Rattle.standard.specs.Bytes.{num}
-use Rattle.bitfield.proofs.Tops.{zero-before, used-upto, used-none}
+use Rattle.bitfield.proofs.Tops.{zero-before, used_upto, used_none}
 use Rattle.bitfield.proofs.body.used_bytes.Statement.{statement}
 use Rattle.bitfield.proofs.body.used_bytes.Tie as tie
 
@@ -27,7 +27,7 @@ returns : tie.Need-returns invariant-loop decreases-loop
 returns c =
     let c3 = c.before.before.before in
     let i = c3.loop in
-    used-upto _ _ i.invariant.0 i.invariant.1 c.if1.true
+    used_upto _ _ i.invariant.0 i.invariant.1 c.if1.true
 
 sub-i : tie.Need-overflow-sub-i invariant-loop decreases-loop
 sub-i c = omega arith
@@ -45,7 +45,7 @@ loop-again c =
 returns-2 : tie.Need-returns-2 invariant-loop decreases-loop
 returns-2 c =
     let z : c.before.loop.i ≡ 0 = omega arith in
-    used-none _ (rw z at c.before.loop.invariant.1)
+    used_none _ (rw z at c.before.loop.invariant.1)
 
 pub used-bytes-spec : {M : Type 1} → statement M
 used-bytes-spec =

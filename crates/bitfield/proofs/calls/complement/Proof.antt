@@ -1,7 +1,7 @@
 -- `bitfield::calls::complement` meets its contract: the work where the tests went well, else their refusal. Assumes nothing.
 use mathlib.Core.Path.{◌∙◌}
 use borrow.Author.Rules.{rules}
-use Rattle.bitfield.specs.Held.{opBits}
+use Rattle.bitfield.specs.Held.{op_bits}
 use Rattle.bitfield.proofs.calls.complement.Statement.{statement}
 use Rattle.bitfield.proofs.calls.complement.Tie as tie
 
@@ -23,7 +23,7 @@ refused-requires : tie.Need-refused-requires
 refused-requires c κs = search rules
 
 returns : tie.Need-returns
-unfolding opBits
+unfolding op_bits
 returns c = c.made.ensures ∙ rw (c.before.merged.ensures, c.before.before.enum_told.given.1)
 
 returns-2 : tie.Need-returns-2

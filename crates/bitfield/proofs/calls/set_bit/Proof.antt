@@ -2,7 +2,7 @@
 use mathlib.Core.Path.{sym, ◌∙◌}
 use borrow.Author.Rules.{rules}
 use Rattle.bitfield.specs.Held.{inside}
-use Rattle.bitfield.proofs.Tolds.{then-fine, inside-fine}
+use Rattle.bitfield.proofs.Tolds.{then_fine, inside_fine}
 use Rattle.bitfield.proofs.calls.set_bit.Statement.{statement}
 use Rattle.bitfield.proofs.calls.set_bit.Tie as tie
 
@@ -17,8 +17,8 @@ changed-requires c κs =
     let c2 = c.before.before in
     let c3 = c2.before in
     let s = c3 in
-    let fine = then-fine s.args.told (inside s.args.i s.args.len) (sym c2.inside-told.ensures ∙ c.enum_told.given.1) in
-    (s.requires fine.0, inside-fine _ _ fine.1)
+    let fine = then_fine s.args.told (inside s.args.i s.args.len) (sym c2.inside-told.ensures ∙ c.enum_told.given.1) in
+    (s.requires fine.0, inside_fine _ _ fine.1)
 
 made-requires : tie.Need-made-requires
 made-requires c κs = search rules

@@ -2,7 +2,7 @@
 use mathlib.Core.Path.{sym, ◌∙◌}
 use borrow.Author.Rules.{rules}
 use Rattle.bitfield.specs.Held.{up_to}
-use Rattle.bitfield.proofs.Tolds.{then-fine, up-to-fine}
+use Rattle.bitfield.proofs.Tolds.{then_fine, up_to_fine}
 use Rattle.bitfield.proofs.calls.shift.Statement.{statement}
 use Rattle.bitfield.proofs.calls.shift.Tie as tie
 
@@ -17,8 +17,8 @@ upward-requires c κs =
     let c2 = c.before.before in
     let c3 = c2.before in
     let s = c3 in
-    let fine = then-fine s.args.told (up_to s.args.n s.args.len) (sym c2.up-to-told.ensures ∙ c.enum_told.given.1) in
-    (s.requires fine.0, up-to-fine _ _ fine.1)
+    let fine = then_fine s.args.told (up_to s.args.n s.args.len) (sym c2.up-to-told.ensures ∙ c.enum_told.given.1) in
+    (s.requires fine.0, up_to_fine _ _ fine.1)
 
 made-requires : tie.Need-made-requires
 made-requires c κs = search rules

@@ -1,6 +1,6 @@
 -- `bitfield::fields::mark_byte` meets its contract: the byte that holds the end, if there is one, with the mark put in. Assumes nothing.
 use borrow.Author.Rules.{rules}
-use Rattle.bitfield.proofs.Marks.{mark-here, mark-past}
+use Rattle.bitfield.proofs.Marks.{mark_here, mark_past}
 use Rattle.bitfield.proofs.fields.mark_byte.Statement.{statement}
 use Rattle.bitfield.proofs.fields.mark_byte.Tie as tie
 
@@ -17,12 +17,12 @@ returns : tie.Need-returns
 returns c =
     let c2 = c.before.before in
     let s = c2 in
-    mark-here _ s.args.len s.requires c.before.if1.true
+    mark_here _ s.args.len s.requires c.before.if1.true
 
 returns-2 : tie.Need-returns-2
 returns-2 c =
     let s = c.before in
-    mark-past _ s.args.len s.requires c.if1.false
+    mark_past _ s.args.len s.requires c.if1.false
 
 pub mark-byte-spec : {M : Type 1} → statement M
 mark-byte-spec = tie.close (tie.spec cast-m shl-m element-copy-out-result returns returns-2)

@@ -2,7 +2,7 @@
 use mathlib.Core.Path.{sym}
 use native.Mathlib.Nat.{min-eq_left, min-eq_right, max-eq_left, max-eq_right, le_of_lt}
 use borrow.Author.Rules.{rules}
-use Rattle.bitfield.specs.Held.{opLength}
+use Rattle.bitfield.specs.Held.{op_length}
 use Rattle.bitfield.proofs.fields.op_len.Statement.{statement}
 use Rattle.bitfield.proofs.fields.op_len.Tie as tie
 
@@ -19,27 +19,27 @@ enum-told-4 : tie.Need-enum-told-4
 enum-told-4 c = search rules
 
 returns : tie.Need-returns
-unfolding opLength
+unfolding op_length
 returns c = rw c.before.enum_told.given.1 (sym (min-eq_left c.if1.true))
 
 returns-2 : tie.Need-returns-2
-unfolding opLength
+unfolding op_length
 returns-2 c = rw c.before.enum_told.given.1 (sym (min-eq_right (le_of_lt c.if1.false)))
 
 returns-3 : tie.Need-returns-3
-unfolding opLength
+unfolding op_length
 returns-3 c = rw c.before.enum-told2.given.1 (sym (max-eq_right c.if2.true))
 
 returns-4 : tie.Need-returns-4
-unfolding opLength
+unfolding op_length
 returns-4 c = rw c.before.enum-told2.given.1 (sym (max-eq_left (le_of_lt c.if2.false)))
 
 returns-5 : tie.Need-returns-5
-unfolding opLength
+unfolding op_length
 returns-5 c = rw c.enum-told3.given.1
 
 returns-6 : tie.Need-returns-6
-unfolding opLength
+unfolding op_length
 returns-6 c = rw c.enum-told4.given.1
 
 pub op-len-spec : {M : Type 1} → statement M

@@ -2,7 +2,7 @@
 use mathlib.Core.Path.{◌∙◌}
 use native.Mathlib.Omega.{arith}
 use borrow.Author.Rules.{rules}
-use Rattle.bitfield.proofs.Ties.{copy-number, part-cuttable, read_held}
+use Rattle.bitfield.proofs.Ties.{copy_number, part-cuttable, read_held}
 use Rattle.bitfield.proofs.fields.read.Statement.{statement}
 use Rattle.bitfield.proofs.fields.read.Tie as tie
 
@@ -20,7 +20,7 @@ cut-requires c κs =
     let c4 = c2.before.before in
     let s = c4 in
     let e = rw c2.bytes-for.ensures at c.before.copy_of.ensures in
-    let n = e ∙ copy-number _ _ s.requires.2 (omega arith) s.requires.1 in
+    let n = e ∙ copy_number _ _ s.requires.2 (omega arith) s.requires.1 in
     let m = part-cuttable _ s.args.k _ s.requires.0 n in
     (m.few, m.raw, m.small)
 

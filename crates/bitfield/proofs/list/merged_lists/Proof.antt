@@ -2,7 +2,7 @@
 use Prim.Native.Nat.{ℕ}
 use native.Mathlib.Omega.{arith}
 use borrow.Author.Rules.{rules}
-use Rattle.bitfield.specs.Lists.{listMerge}
+use Rattle.bitfield.specs.Lists.{list_merge}
 use Rattle.bitfield.proofs.Results.{raw-known}
 use Rattle.bitfield.proofs.list.merged_lists.Statement.{statement}
 use Rattle.bitfield.proofs.list.merged_lists.Tie as tie
@@ -20,11 +20,11 @@ op-len-requires : tie.Need-op-len-requires
 op-len-requires c κs = search rules
 
 returns : tie.Need-returns
-unfolding listMerge
+unfolding list_merge
 returns c = rw c.before.told.given.1
 
 returns-2 : tie.Need-returns-2
-unfolding listMerge
+unfolding list_merge
 returns-2 c = rw (c.before.before.before.before.before.before.enum_told.given.1, c.before.combine.ensures, c.op-len.ensures)
 
 pub merged-lists-spec : {M : Type 1} → statement M

@@ -1,7 +1,7 @@
 -- `bitfield::raw::byte_op` meets its contract, case by case; what is left of x without y is a difference. Assumes nothing.
 use borrow.Author.Rules.{rules}
 use Rattle.bitfield.specs.Raw.{op_of}
-use Rattle.bitfield.proofs.Places.{and-not}
+use Rattle.bitfield.proofs.Places.{and_not}
 use Rattle.bitfield.proofs.raw.byte_op.Statement.{statement}
 use Rattle.bitfield.proofs.raw.byte_op.Tie as tie
 
@@ -30,7 +30,7 @@ unfolding op_of
 returns-3 c =
     let c2 = c.before.before in
     let s = c2 in
-    rw c.enum-told3.given.1 (and-not _ _ s.ranges.x.fits s.ranges.y.fits)
+    rw c.enum-told3.given.1 (and_not _ _ s.ranges.x.fits s.ranges.y.fits)
 
 returns-4 : tie.Need-returns-4
 unfolding op_of

@@ -1,7 +1,7 @@
 -- `bitfield::raw::cut` meets its contract: only the last byte in use can have a bit behind the end. Assumes nothing.
 use native.Mathlib.Omega.{arith}
 use borrow.Author.Rules.{rules}
-use Rattle.bitfield.proofs.Places.{cut-none, cut-law}
+use Rattle.bitfield.proofs.Places.{cut-none, cut_law}
 use Rattle.bitfield.proofs.raw.cut.Statement.{statement}
 use Rattle.bitfield.proofs.raw.cut.Tie as tie
 
@@ -33,7 +33,7 @@ returns-2 c =
     let c4 = c3.before in
     let s = c4 in
     let b = c3.bytes-for.ensures in
-    rw (c.last-byte-mask.ensures, b) (cut-law _ s.args.len s.requires.1 s.requires.0 (omega arith) s.requires.2)
+    rw (c.last-byte-mask.ensures, b) (cut_law _ s.args.len s.requires.1 s.requires.0 (omega arith) s.requires.2)
 
 pub cut_spec : {M : Type 1} → statement M
 cut_spec =

@@ -4,7 +4,7 @@ use native.Mathlib.Omega.{arith}
 use borrow.Author.Tests.{lt-leb}
 use borrow.Author.Rules.{rules}
 use Rattle.bitfield.specs.Raw.{clean}
-use Rattle.bitfield.proofs.Clean.{clean-full, clean-not, clean-rest}
+use Rattle.bitfield.proofs.Clean.{clean_full, clean_not, clean-rest}
 use Rattle.bitfield.proofs.raw.is_clean.Statement.{statement}
 use Rattle.bitfield.proofs.raw.is_clean.Tie as tie
 
@@ -21,7 +21,7 @@ returns-2 c = rw (lt-leb _ 2048 c.if2.true)
 returns-3 : tie.Need-returns-3
 returns-3 c =
     let s = c.before.before.before in
-    clean-full _ s.args.len s.requires c.before.if2.false c.if3.true
+    clean_full _ s.args.len s.requires c.before.if2.false c.if3.true
 
 word-of-requires : tie.Need-word-of-requires
 word-of-requires c κs = search rules
@@ -33,7 +33,7 @@ returns-4 : tie.Need-returns-4
 returns-4 c =
     let c2 = c.before.before in
     let s = c2.before.before.before in
-    clean-not _ s.args.len _ s.requires c2.before.if2.false c2.if3.false c.before.word_of.ensures c.if4.true
+    clean_not _ s.args.len _ s.requires c2.before.if2.false c2.if3.false c.before.word_of.ensures c.if4.true
 
 add-none-from : tie.Need-overflow-add-none-from
 add-none-from c = search rules

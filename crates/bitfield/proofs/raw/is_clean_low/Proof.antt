@@ -3,7 +3,7 @@ use mathlib.Core.Path.{◌≡◌, ◌∙◌}
 use Prim.Native.Nat.{◌+◌, ◌*◌, ◌/◌}
 use native.Mathlib.Omega.{arith}
 use borrow.Author.Rules.{rules}
-use Rattle.bitfield.proofs.Clean.{clean-not, clean-rest}
+use Rattle.bitfield.proofs.Clean.{clean_not, clean-rest}
 use Rattle.bitfield.proofs.raw.is_clean_low.Statement.{statement}
 use Rattle.bitfield.proofs.raw.is_clean_low.Tie as tie
 
@@ -16,7 +16,7 @@ shr-if1 c = search rules
 returns : tie.Need-returns
 returns c =
     let s = c.before.before in
-    clean-not _ s.args.len _ s.requires.1 (omega arith) (omega arith) c.before.word_of.ensures c.if1.true
+    clean_not _ s.args.len _ s.requires.1 (omega arith) (omega arith) c.before.word_of.ensures c.if1.true
 
 mul-none-in-halves : tie.Need-overflow-mul-none-in-halves
 mul-none-in-halves c = search rules

@@ -1,7 +1,7 @@
 -- `bitfield::raw::last_byte_mask` meets its contract: all ones, shifted by the bits that the last byte does not use. Assumes nothing.
 use borrow.Author.Rules.{rules}
 use Rattle.bitfield.specs.Raw.{mask_of}
-use Rattle.bitfield.proofs.Places.{mask-shifted}
+use Rattle.bitfield.proofs.Places.{mask_shifted}
 use Rattle.bitfield.proofs.raw.last_byte_mask.Statement.{statement}
 use Rattle.bitfield.proofs.raw.last_byte_mask.Tie as tie
 
@@ -19,7 +19,7 @@ shr-result : tie.Need-overflow-shr-result
 shr-result c = search rules
 
 returns-2 : tie.Need-returns-2
-returns-2 c = mask-shifted _ c.if1.false
+returns-2 c = mask_shifted _ c.if1.false
 
 pub last-byte-mask-spec : {M : Type 1} → statement M
 last-byte-mask-spec = tie.close (tie.spec returns sub-result cast-result shr-result returns-2)

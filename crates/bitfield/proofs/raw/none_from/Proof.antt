@@ -2,7 +2,7 @@
 use mathlib.Core.Path.{◌≡◌}
 use Prim.Native.Nat.{◌≤◌, ◌-◌, ◌*◌, ◌+◌}
 use native.Mathlib.Omega.{arith}
-use Rattle.bitfield.proofs.Loops.{Gathered, gathered-start, gathered_next, gathered-end}
+use Rattle.bitfield.proofs.Loops.{Gathered, gathered_start, gathered_next, gathered_end}
 use Rattle.bitfield.proofs.raw.none_from.Statement.{statement}
 use Rattle.bitfield.proofs.raw.none_from.Tie as tie
 
@@ -13,7 +13,7 @@ abbrev decreases-loop : tie.decreases-loop
 decreases-loop bytes from acc₀ w₀ acc w = 32 - w
 
 loop-holds : tie.Need-loop-init invariant-loop decreases-loop
-loop-holds c = (omega arith, gathered-start _ _)
+loop-holds c = (omega arith, gathered_start _ _)
 
 word-of-requires : tie.Need-word-of-requires invariant-loop decreases-loop
 word-of-requires c κs =
@@ -39,7 +39,7 @@ returns c =
     let s = c2 in
     let l = c.before.loop in
     let e : l.w ≡ 32 = omega arith in
-    gathered-end s.args.bytes.now (8 * s.args.from) l.acc (rw s.requires.1.long (rw e at l.invariant.1))
+    gathered_end s.args.bytes.now (8 * s.args.from) l.acc (rw s.requires.1.long (rw e at l.invariant.1))
 
 pub none-from-spec : {M : Type 1} → statement M
 none-from-spec =

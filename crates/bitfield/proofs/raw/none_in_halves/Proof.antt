@@ -2,7 +2,7 @@
 use mathlib.Core.Path.{◌≡◌}
 use Prim.Native.Nat.{◌≤◌, ◌-◌}
 use native.Mathlib.Omega.{arith}
-use Rattle.bitfield.proofs.Loops.{Halved, halved-start, halved-next, halved-end}
+use Rattle.bitfield.proofs.Loops.{Halved, halved_start, halved_next, halved_end}
 use Rattle.bitfield.proofs.raw.none_in_halves.Statement.{statement}
 use Rattle.bitfield.proofs.raw.none_in_halves.Tie as tie
 
@@ -13,7 +13,7 @@ abbrev decreases-loop : tie.decreases-loop
 decreases-loop bytes from acc₀ k₀ acc k = 128 - k
 
 loop-holds : tie.Need-loop-init invariant-loop decreases-loop
-loop-holds c = (omega arith, halved-start _ _)
+loop-holds c = (omega arith, halved_start _ _)
 
 add-acc : tie.Need-overflow-add-acc invariant-loop decreases-loop
 add-acc c = omega arith
@@ -38,13 +38,13 @@ loop-again c =
     let c3 = c.before.before.before in
     let s = c3.before in
     let l = c3.loop in
-    (omega arith, halved-next s.args.bytes.now s.args.from l.acc l.k s.requires.1.long s.requires.0 (omega arith) l.invariant.1)
+    (omega arith, halved_next s.args.bytes.now s.args.from l.acc l.k s.requires.1.long s.requires.0 (omega arith) l.invariant.1)
 
 returns : tie.Need-returns invariant-loop decreases-loop
 returns c =
     let s = c.before.before in
     let l = c.before.loop in
-    halved-end s.args.bytes.now s.args.from l.acc l.k s.requires.1.long s.requires.0 (omega arith) l.invariant.1
+    halved_end s.args.bytes.now s.args.from l.acc l.k s.requires.1.long s.requires.0 (omega arith) l.invariant.1
 
 pub none-in-halves-spec : {M : Type 1} → statement M
 none-in-halves-spec =

@@ -5,7 +5,7 @@ use native.Mathlib.Omega.{arith}
 use lib.Count.{ones}
 use lib.ListN.{drop}
 use Rattle.standard.specs.Bytes.{num}
-use Rattle.bitfield.proofs.Loops.{none-behind, ones-more, ones_none}
+use Rattle.bitfield.proofs.Loops.{none-behind, ones_more, ones_none}
 use Rattle.bitfield.proofs.raw.ones_in.Statement.{statement}
 use Rattle.bitfield.proofs.raw.ones_in.Tie as tie
 
@@ -24,7 +24,7 @@ ones-of-requires c κs = tt
 returns : tie.Need-returns invariant-loop decreases-loop
 returns c =
     let t = c.before.before in
-    let more = ones-more _ (8 * 0) _ c.before.word_of.ensures in
+    let more = ones_more _ (8 * 0) _ c.before.word_of.ensures in
     let none = ones_none _ (none-behind _ (8 * t.before.args.words) 8 (omega arith) t.before.requires.2) in
     omega (arith, more, none, c.ones-of.ensures.0)
 
@@ -52,7 +52,7 @@ loop-again : tie.Need-loop-preserved invariant-loop decreases-loop
 loop-again c =
     let c3 = c.before.before.before in
     let l = c3.loop in
-    let more = ones-more _ (8 * l.w) _ c.before.word-of2.ensures in
+    let more = ones_more _ (8 * l.w) _ c.before.word-of2.ensures in
     let e : 8 * (l.w + 1) ≡ 8 * l.w + 8 = omega arith in
     (omega arith, omega arith, rw e (omega (arith, more, c.ones-of2.ensures.0, l.invariant.2)))
 

@@ -2,7 +2,7 @@
 use mathlib.Core.Path.{◌≡◌}
 use Prim.Native.Nat.{◌≤◌, ◌-◌}
 use native.Mathlib.Omega.{arith}
-use Rattle.bitfield.proofs.Loops.{Shifting, shifting-start, shifting-next, shifting-end}
+use Rattle.bitfield.proofs.Loops.{Shifting, shifting_start, shifting_next, shifting_end}
 use Rattle.bitfield.proofs.raw.shifted.Statement.{statement}
 use Rattle.bitfield.proofs.raw.shifted.Tie as tie
 
@@ -13,7 +13,7 @@ abbrev decreases-loop : tie.decreases-loop
 decreases-loop a n used s places out₀ carry₀ i₀ out carry i = used - i
 
 loop-holds : tie.Need-loop-init invariant-loop decreases-loop
-loop-holds c = (omega arith, shifting-start _ _ _)
+loop-holds c = (omega arith, shifting_start _ _ _)
 
 sub-spread : tie.Need-overflow-sub-spread invariant-loop decreases-loop
 sub-spread c = c.before.loop.invariant.1.from
@@ -48,7 +48,7 @@ loop-again c =
     let s = c5 in
     let l = c4.loop in
     let e = c.before.spread.ensures.0 in
-    (omega arith, rw c.low_byte.ensures (shifting-next _ _ _ _ _ l.i _ s.requires.2 (omega arith) l.invariant.1 (rw e)))
+    (omega arith, rw c.low_byte.ensures (shifting_next _ _ _ _ _ l.i _ s.requires.2 (omega arith) l.invariant.1 (rw e)))
 
 returns : tie.Need-returns invariant-loop decreases-loop
 returns c =
@@ -56,7 +56,7 @@ returns c =
     let s = c2 in
     let l = c.before.loop in
     let e : l.i ≡ s.args.used = omega arith in
-    shifting-end _ s.args.n _ _ _ s.requires.2 s.requires.0 (rw e at l.invariant.1)
+    shifting_end _ s.args.n _ _ _ s.requires.2 s.requires.0 (rw e at l.invariant.1)
 
 pub shifted-spec : {M : Type 1} → statement M
 shifted-spec =

@@ -2,7 +2,7 @@
 use mathlib.Core.Path.{◌∙◌}
 use native.Mathlib.Omega.{arith}
 use borrow.Author.Rules.{rules}
-use Rattle.bitfield.proofs.Places.{one_shifted, bit-on, bit-off}
+use Rattle.bitfield.proofs.Places.{one_shifted, bit-on, bit_off}
 use Rattle.bitfield.proofs.raw.with_bit.Statement.{statement}
 use Rattle.bitfield.proofs.raw.with_bit.Tie as tie
 
@@ -20,7 +20,7 @@ returns c =
 returns-2 : tie.Need-returns-2
 returns-2 c =
     let a = c.before.args in
-    rw (one_shifted a.j c.before.requires, c.if1.false) (bit-off a.x a.j c.before.ranges.x.fits c.before.requires ∙ omega arith)
+    rw (one_shifted a.j c.before.requires, c.if1.false) (bit_off a.x a.j c.before.ranges.x.fits c.before.requires ∙ omega arith)
 
 pub with-bit-spec : {M : Type 1} → statement M
 with-bit-spec = tie.close (tie.spec cast-m shl-m returns returns-2)

@@ -1,16 +1,16 @@
 -- `bitfield::tests::two_told` meets its contract, test by test. Assumes nothing.
 use borrow.Author.Tests.{eq-eqb, ne_eqb, not-true, not-false}
 use borrow.Author.Rules.{rules}
-use Rattle.bitfield.specs.Held.{twoTold}
+use Rattle.bitfield.specs.Held.{two_told_lem}
 use Rattle.bitfield.proofs.tests.two_told.Statement.{statement}
 use Rattle.bitfield.proofs.tests.two_told.Tie as tie
 
 returns : tie.Need-returns
-unfolding twoTold
+unfolding two_told_lem
 returns c = rw (not-true c.before.args.first c.if1.true)
 
 returns-2 : tie.Need-returns-2
-unfolding twoTold
+unfolding two_told_lem
 returns-2 c =
     let c2 = c.before.before in
     let a = c2.args in
@@ -20,7 +20,7 @@ limit-told-requires : tie.Need-limit-told-requires
 limit-told-requires c κs = search rules
 
 returns-3 : tie.Need-returns-3
-unfolding twoTold
+unfolding two_told_lem
 returns-3 c =
     let c2 = c.before.before in
     let c3 = c2.before in
@@ -29,7 +29,7 @@ returns-3 c =
     rw (not-false a.first c3.if1.false, not-false a.second c2.if2.false, eq-eqb _ _ c.before.if3.true) c.limit-told.ensures
 
 returns-4 : tie.Need-returns-4
-unfolding twoTold
+unfolding two_told_lem
 returns-4 c =
     let c2 = c.before.before in
     let c3 = c2.before in

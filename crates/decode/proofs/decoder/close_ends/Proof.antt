@@ -1,7 +1,7 @@
 -- The loop keeps `Closing`: from the back, the items passed are closed. Assumes nothing.
 use native.Mathlib.Omega.{arith}
 use borrow.Author.Rules.{rules}
-use Rattle.decode.proofs.Close.{Closing, closing-none, closing-more, closing-all}
+use Rattle.decode.proofs.Close.{Closing, closing_none, closing_more, closing_all}
 use Rattle.decode.proofs.decoder.close_ends.Statement.{statement}
 use Rattle.decode.proofs.decoder.close_ends.Tie as tie
 
@@ -12,7 +12,7 @@ abbrev decreases-loop : tie.decreases-loop
 decreases-loop count len starts ends closed₀ next₀ i₀ closed next i = i
 
 loop-holds : tie.Need-loop-init invariant-loop decreases-loop
-loop-holds c = closing-none _ _ _ _
+loop-holds c = closing_none _ _ _ _
 
 sub-i : tie.Need-overflow-sub-i invariant-loop decreases-loop
 sub-i c = omega arith
@@ -53,10 +53,10 @@ loop-again c =
     let taken = c2.loop-test.true in
     let starts = start.well-formed.0.1.0.1 in
     let ends = start.well-formed.1.0.1.0.1 in
-    closing-more _ _ _ _ _ _ _ c3.loop.invariant taken starts ends start.requires _ _ c.before.closed-end.ensures c.start-from.ensures
+    closing_more _ _ _ _ _ _ _ c3.loop.invariant taken starts ends start.requires _ _ c.before.closed-end.ensures c.start-from.ensures
 
 returns : tie.Need-returns invariant-loop decreases-loop
-returns c = closing-all _ _ _ _ _ _ _ c.before.loop.invariant c.loop-test.false
+returns c = closing_all _ _ _ _ _ _ _ c.before.loop.invariant c.loop-test.false
 
 pub close-ends-spec : {M : Type 1} → statement M
 close-ends-spec =

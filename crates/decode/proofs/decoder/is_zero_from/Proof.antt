@@ -1,6 +1,6 @@
 -- The loop keeps: what is left is zero just if the whole is. Assumes nothing.
 use mathlib.Core.Path.{◌≡◌, refl, ◌∙◌}
-use Rattle.decode.proofs.Walk.{zeros-more, zeros-stop, zeros-end}
+use Rattle.decode.proofs.Walk.{zeros-more, zeros_stop, zeros-end}
 use lib.ListN.{drop}
 use mathlib.Core.Path.{◌≡◌}
 use Prim.Native.Nat.{◌-◌}
@@ -28,7 +28,7 @@ returns : tie.Need-returns invariant-loop decreases-loop
 returns c =
     let c2 = c.before.before in
     let c3 = c2.before in
-    zeros-stop _ _ c3.well-formed.0.1.0.1 c.before.loop-test.true c.if1.true ∙ c2.loop.invariant
+    zeros_stop _ _ c3.well-formed.0.1.0.1 c.before.loop-test.true c.if1.true ∙ c2.loop.invariant
 
 add-i : tie.Need-overflow-add-i invariant-loop decreases-loop
 add-i c = omega arith

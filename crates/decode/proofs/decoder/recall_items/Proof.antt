@@ -3,7 +3,7 @@ use mathlib.Core.Path.{sym, ◌∙◌}
 use Prim.Native.Nat.{◌-◌}
 use native.Mathlib.Omega.{arith}
 use borrow.Author.Rules.{rules}
-use Rattle.decode.proofs.Walk.{Walking, walking-none, walking-more, walking-bad, walking-all}
+use Rattle.decode.proofs.Walk.{Walking, walking_none, walking_more, walking_bad, walking_all}
 use Rattle.decode.proofs.decoder.recall_items.Statement.{statement}
 use Rattle.decode.proofs.decoder.recall_items.Tie as tie
 
@@ -17,7 +17,7 @@ new-requires : tie.Need-new-requires invariant-loop decreases-loop
 new-requires c κs = search rules
 
 loop-holds : tie.Need-loop-init invariant-loop decreases-loop
-loop-holds c = walking-none _ _ _ _ _ c.new.ensures
+loop-holds c = walking_none _ _ _ _ _ c.new.ensures
 
 mul-recall-item : tie.Need-overflow-mul-recall-item invariant-loop decreases-loop
 mul-recall-item c = omega arith
@@ -51,7 +51,7 @@ returns c =
     let starts = start.well-formed.0.1.0.1 in
     let ends = start.well-formed.1.0.1.0.1 in
     let item = sym c.before.s2.given.1 ∙ c3.recall-item.ensures in
-    walking-bad _ _ _ _ _ _ c5.loop.invariant taken starts ends start.requires _ item
+    walking_bad _ _ _ _ _ _ c5.loop.invariant taken starts ends start.requires _ item
 
 add-i : tie.Need-overflow-add-i invariant-loop decreases-loop
 add-i c = omega arith
@@ -70,10 +70,10 @@ loop-again c =
     let starts = start.well-formed.0.1.0.1 in
     let ends = start.well-formed.1.0.1.0.1 in
     let item = sym c.before.s.given.1 ∙ c3.recall-item.ensures in
-    walking-more _ _ _ _ _ _ c5.loop.invariant taken starts ends start.requires _ item
+    walking_more _ _ _ _ _ _ c5.loop.invariant taken starts ends start.requires _ item
 
 returns-2 : tie.Need-returns-2 invariant-loop decreases-loop
-returns-2 c = walking-all _ _ _ _ _ _ c.before.loop.invariant c.loop-test.false
+returns-2 c = walking_all _ _ _ _ _ _ c.before.loop.invariant c.loop-test.false
 
 pub recall-items-spec : {M : Type 1} → statement M
 recall-items-spec =

@@ -1,6 +1,6 @@
 -- `lent::list::not_inplace` meets its contract: the walk of `Inplace.antt` at a bit list, with no argument. Assumes nothing.
 use mathlib.Core.List.{[]}
-use Rattle.bitfield.specs.Lists.{listNot}
+use Rattle.bitfield.specs.Lists.{list_not}
 use Rattle.bitfield.proofs.BitList.not.Symbol as called
 use Rattle.bitfield.proofs.BitList.not.Met.{met}
 use Rattle.lent.proofs.Values.{lists}
@@ -13,5 +13,5 @@ use Rattle.lent.proofs.list.not_inplace.Code as code
 pub not-inplace-spec : {M : Type 1} → statement M
 unfolding code.routine
 not-inplace-spec 𝓤 𝓛 𝓜 𝓡 =
-    inplace lists [] none (λ h a. listNot h)
+    inplace lists [] none (λ h a. list_not h)
     𝓛 𝓜 𝓡 code.env Key.name called.name called.routine (code.unfolded 𝓤 𝓛.H 𝓜 𝓡) code.calls-bitfield::BitList::not (met 𝓤 𝓛 𝓜 𝓡)

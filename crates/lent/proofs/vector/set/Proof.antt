@@ -1,6 +1,6 @@
 -- `lent::vector::set` meets its contract: the walk of `Inplace.antt` at a bit vector, with an index and a bool. Assumes nothing.
 use mathlib.Core.List.{[], ◌∷◌}
-use Rattle.bitfield.specs.Vectors.{vectorSet}
+use Rattle.bitfield.specs.Vectors.{vector_set}
 use Rattle.bitfield.proofs.BitVector.set.Symbol as called
 use Rattle.bitfield.proofs.BitVector.set.Met.{met}
 use Rattle.lent.proofs.Values.{number, truth, vectors}
@@ -13,5 +13,5 @@ use Rattle.lent.proofs.vector.set.Code as code
 pub set_spec : {M : Type 1} → statement M
 unfolding code.routine
 set_spec 𝓤 𝓛 𝓜 𝓡 =
-    inplace vectors (number ∷ truth ∷ []) (two number truth) (λ h a. vectorSet h a.0 a.1.0)
+    inplace vectors (number ∷ truth ∷ []) (two number truth) (λ h a. vector_set h a.0 a.1.0)
     𝓛 𝓜 𝓡 code.env Key.name called.name called.routine (code.unfolded 𝓤 𝓛.H 𝓜 𝓡) code.calls-bitfield::BitVector::set (met 𝓤 𝓛 𝓜 𝓡)

@@ -3,7 +3,7 @@ use mathlib.Core.Path.{◌≡◌}
 use native.Mathlib.Omega.{arith}
 use borrow.Author.Rules.{rules}
 use borrow.Author.Tests.{eq-eqb, ne_eqb}
-use Rattle.message.proofs.Counting.{says-fixed, says-short, says-offset}
+use Rattle.message.proofs.Counting.{says-fixed, says-short, says_offset}
 use Rattle.message.proofs.elements.count_of.Statement.{statement}
 use Rattle.message.proofs.elements.count_of.Tie as tie
 
@@ -29,7 +29,7 @@ returns-3 c limit =
     let c1 = c.before in
     let c2 = c1.before in
     let c4 = c2.before.before in
-    rw (eq-eqb c4.args.k 0 (omega (arith, c2.if1.false)), c.four-in.ensures.0) (says-offset limit _ c1.if2.false)
+    rw (eq-eqb c4.args.k 0 (omega (arith, c2.if1.false)), c.four_in_lem.ensures.0) (says_offset limit _ c1.if2.false)
 
 pub count-of-spec : {M : Type 1} → statement M
 count-of-spec = tie.close (tie.spec div-result returns returns-2 four-in-requires returns-3)

@@ -1,6 +1,6 @@
 -- The loop keeps `Following`; each way out is one of its laws. Assumes nothing.
 use native.Mathlib.Omega.{arith}
-use Rattle.message.proofs.Counting.{Following, following-new, following-low, following-past, following-back, following-next, following-end}
+use Rattle.message.proofs.Counting.{Following, following_new, following_low, following_past, following_back, following_next, following_end}
 use Rattle.message.proofs.elements.further_offsets.Statement.{statement}
 use Rattle.message.proofs.elements.further_offsets.Tie as tie
 
@@ -11,7 +11,7 @@ abbrev decreases-loop : tie.decreases-loop
 decreases-loop b first n len previous₀ p₀ left₀ previous p left = left
 
 loop-holds : tie.Need-loop-init invariant-loop decreases-loop
-loop-holds c = following-new c.before.requires.0
+loop-holds c = following_new c.before.requires.0
 
 four-in-requires : tie.Need-four-in-requires invariant-loop decreases-loop
 four-in-requires c κs = omega (arith, c.before.loop.invariant.room, c.loop-test.true)
@@ -21,7 +21,7 @@ returns c =
     let c1 = c.before in
     let c2 = c1.before in
     let c3 = c2.before in
-    following-low c3.loop.invariant c2.loop-test.true c1.four-in.ensures.0 c.if1.true
+    following_low c3.loop.invariant c2.loop-test.true c1.four_in_lem.ensures.0 c.if1.true
 
 returns-2 : tie.Need-returns-2 invariant-loop decreases-loop
 returns-2 c =
@@ -29,7 +29,7 @@ returns-2 c =
     let c2 = c1.before in
     let c3 = c2.before in
     let c4 = c3.before in
-    following-past c4.loop.invariant c3.loop-test.true c2.four-in.ensures.0 c1.if1.false c.if2.true
+    following_past c4.loop.invariant c3.loop-test.true c2.four_in_lem.ensures.0 c1.if1.false c.if2.true
 
 returns-3 : tie.Need-returns-3 invariant-loop decreases-loop
 returns-3 c =
@@ -38,7 +38,7 @@ returns-3 c =
     let c3 = c2.before in
     let c4 = c3.before in
     let c5 = c4.before in
-    following-back c5.loop.invariant c4.loop-test.true c3.four-in.ensures.0 c2.if1.false c1.if2.false c.if3.true
+    following_back c5.loop.invariant c4.loop-test.true c3.four_in_lem.ensures.0 c2.if1.false c1.if2.false c.if3.true
 
 add-p : tie.Need-overflow-add-p invariant-loop decreases-loop
 add-p c =
@@ -63,10 +63,10 @@ loop-again c =
     let c3 = c2.before in
     let c4 = c3.before in
     let c5 = c4.before in
-    following-next c5.loop.invariant c4.loop-test.true c3.four-in.ensures.0 c2.if1.false c1.if2.false c.if3.false
+    following_next c5.loop.invariant c4.loop-test.true c3.four_in_lem.ensures.0 c2.if1.false c1.if2.false c.if3.false
 
 returns-4 : tie.Need-returns-4 invariant-loop decreases-loop
-returns-4 c = following-end c.before.loop.invariant c.loop-test.false
+returns-4 c = following_end c.before.loop.invariant c.loop-test.false
 
 pub further-offsets-spec : {M : Type 1} → statement M
 further-offsets-spec =

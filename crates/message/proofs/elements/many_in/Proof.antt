@@ -4,7 +4,7 @@ use native.Mathlib.Omega.{arith}
 use borrow.Author.Rules.{rules}
 use borrow.Author.Tests.{eq-eqb}
 use Rattle.standard.specs.Bytes.{word_at}
-use Rattle.message.proofs.Rows.{node-legal}
+use Rattle.message.proofs.Rows.{node_legal}
 use Rattle.message.proofs.Repeats.{element-below, element-head, element-small, third-there}
 use Rattle.message.proofs.Manys.{many-elements}
 use Rattle.message.proofs.elements.many_in.Statement.{statement}
@@ -13,7 +13,7 @@ use Rattle.message.proofs.elements.many_in.Tie as tie
 add-word-in : tie.Need-overflow-add-word-in
 add-word-in c =
     let c5 = c.before.before.before.before.before in
-    omega (arith, (node-legal _ _ _ _ c5.requires.1 c5.requires.0).near)
+    omega (arith, (node_legal _ _ _ _ c5.requires.1 c5.requires.0).near)
 
 word-in-requires : tie.Need-word-in-requires
 word-in-requires c κs =

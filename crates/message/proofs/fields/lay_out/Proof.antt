@@ -3,8 +3,8 @@ use mathlib.Core.Path.{◌≡◌, refl, ◌∙◌}
 use native.Mathlib.Omega.{arith}
 use borrow.Author.Rules.{rules}
 use Rattle.message.proofs.Rows.{row-there, row_small, row-few}
-use Rattle.message.proofs.Numbers.{Counting, counting-new, counting-fixed, counting-long, counting-cut, counting-end}
-use Rattle.message.proofs.Numbers.{counting-past, counting-back, counting-first, counting-later}
+use Rattle.message.proofs.Numbers.{Counting, counting_new, counting_fixed, counting_long, counting_cut, counting_end}
+use Rattle.message.proofs.Numbers.{counting_past, counting_back, counting_first, counting_later}
 use Rattle.message.proofs.fields.lay_out.Statement.{statement}
 use Rattle.message.proofs.fields.lay_out.Tie as tie
 
@@ -15,7 +15,7 @@ abbrev decreases-loop : tie.decreases-loop
 decreases-loop lens layout t a0 step n b len p₀ first₀ previous₀ a₀ left₀ p first previous a left = left
 
 loop-holds : tie.Need-loop-init invariant-loop decreases-loop
-loop-holds c = counting-new c.before.before.requires.0
+loop-holds c = counting_new c.before.before.requires.0
 
 word-in-requires : tie.Need-word-in-requires invariant-loop decreases-loop
 word-in-requires c κs = row-there _ _ _ _ _ _ c.before.loop.invariant.laying.row c.loop-test.true
@@ -62,7 +62,7 @@ returns c =
     let c3 = c1.before.before in
     let c4 = c3.before in
     let c5 = c4.before in
-    counting-long c5.loop.invariant c4.loop-test.true c3.word_in.ensures.0 refl c1.if1.true c.if2.true
+    counting_long c5.loop.invariant c4.loop-test.true c3.word_in.ensures.0 refl c1.if1.true c.if2.true
 
 loop-less : tie.Need-loop-smaller invariant-loop decreases-loop
 loop-less c =
@@ -76,7 +76,7 @@ loop-again c =
     let c4 = c3.before in
     let c5 = c4.before in
     let c8 = c5.before.before.before in
-    counting-fixed c5.loop.invariant c4.loop-test.true c3.word_in.ensures.0 refl c1.if1.true c.if2.false c8.requires.1
+    counting_fixed c5.loop.invariant c4.loop-test.true c3.word_in.ensures.0 refl c1.if1.true c.if2.false c8.requires.1
 
 add-next : tie.Need-overflow-add-next invariant-loop decreases-loop
 add-next c =
@@ -95,7 +95,7 @@ returns-2 c =
     let c3 = c1.before.before in
     let c4 = c3.before in
     let c5 = c4.before in
-    counting-cut c5.loop.invariant c4.loop-test.true c3.word_in.ensures.0 refl c1.if1.false c.if3.true
+    counting_cut c5.loop.invariant c4.loop-test.true c3.word_in.ensures.0 refl c1.if1.false c.if3.true
 
 four-in-requires : tie.Need-four-in-requires invariant-loop decreases-loop
 four-in-requires c κs = search rules
@@ -108,8 +108,8 @@ returns-3 c =
     let c5 = c3.before.before in
     let c6 = c5.before in
     let c7 = c6.before in
-    counting-past c7.loop.invariant c6.loop-test.true c5.word_in.ensures.0 refl c3.if1.false
-    c2.if3.false c1.four-in.ensures.0 c.if4.true
+    counting_past c7.loop.invariant c6.loop-test.true c5.word_in.ensures.0 refl c3.if1.false
+    c2.if3.false c1.four_in_lem.ensures.0 c.if4.true
 
 returns-4 : tie.Need-returns-4 invariant-loop decreases-loop
 returns-4 c =
@@ -120,8 +120,8 @@ returns-4 c =
     let c6 = c4.before.before in
     let c7 = c6.before in
     let c8 = c7.before in
-    counting-back c8.loop.invariant c7.loop-test.true c6.word_in.ensures.0 refl c4.if1.false
-    c3.if3.false c2.four-in.ensures.0 c1.if4.false c.if5.true
+    counting_back c8.loop.invariant c7.loop-test.true c6.word_in.ensures.0 refl c4.if1.false
+    c3.if3.false c2.four_in_lem.ensures.0 c1.if4.false c.if5.true
 
 loop-less-2 : tie.Need-loop-smaller-2 invariant-loop decreases-loop
 loop-less-2 c =
@@ -138,8 +138,8 @@ loop-again-2 c =
     let c7 = c5.before.before in
     let c8 = c7.before in
     let c9 = c8.before in
-    counting-first c9.loop.invariant c8.loop-test.true c7.word_in.ensures.0 refl c5.if1.false
-    c4.if3.false c3.four-in.ensures.0 c2.if4.false c1.if5.false c.if6.true c3.four-in.ensures.1
+    counting_first c9.loop.invariant c8.loop-test.true c7.word_in.ensures.0 refl c5.if1.false
+    c4.if3.false c3.four_in_lem.ensures.0 c2.if4.false c1.if5.false c.if6.true c3.four_in_lem.ensures.1
 
 loop-less-3 : tie.Need-loop-smaller-3 invariant-loop decreases-loop
 loop-less-3 c =
@@ -156,8 +156,8 @@ loop-again-3 c =
     let c7 = c5.before.before in
     let c8 = c7.before in
     let c9 = c8.before in
-    counting-later c9.loop.invariant c8.loop-test.true c7.word_in.ensures.0 refl c5.if1.false
-    c4.if3.false c3.four-in.ensures.0 c2.if4.false c1.if5.false c.if6.false
+    counting_later c9.loop.invariant c8.loop-test.true c7.word_in.ensures.0 refl c5.if1.false
+    c4.if3.false c3.four_in_lem.ensures.0 c2.if4.false c1.if5.false c.if6.false
 
 finish-requires : tie.Need-finish-requires invariant-loop decreases-loop
 finish-requires c κs = search rules
@@ -166,7 +166,7 @@ returns-5 : tie.Need-returns-5 invariant-loop decreases-loop
 returns-5 c =
     let c1 = c.before in
     let c2 = c1.before in
-    c.finish.ensures ∙ counting-end c2.loop.invariant c1.loop-test.false
+    c.finish.ensures ∙ counting_end c2.loop.invariant c1.loop-test.false
 
 pub lay-out-spec : {M : Type 1} → statement M
 lay-out-spec =

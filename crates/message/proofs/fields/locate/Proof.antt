@@ -1,7 +1,7 @@
 -- By whether the field is of fixed or of variable size. Assumes nothing.
 use mathlib.Core.Path.{◌≡◌, refl, sym, ap, ◌∙◌}
 use native.Mathlib.Omega.{arith}
-use Rattle.message.proofs.Rows.{row_below, row_small, row-few, row-variable, row-fixed, row_next, first_fits, first-room, first_rest}
+use Rattle.message.proofs.Rows.{row_below, row_small, row-few, row_variable, row-fixed, row_next, first_fits, first-room, first_rest}
 use borrow.Author.Rules.{rules}
 use Rattle.message.proofs.fields.locate.Statement.{statement}
 use Rattle.message.proofs.fields.locate.Tie as tie
@@ -25,14 +25,14 @@ four-in-requires : tie.Need-four-in-requires
 four-in-requires c κs =
     let c4 = c.before.before.before.before in
     first-room _ _ _ _ _ _ _ _ _ c4.requires.0 c4.requires.1 c4.requires.2 c4.requires.3
-    (row-variable _ _ _ _ _ _ _ c4.requires.0 c4.requires.1 c4.requires.2 _ refl c.if1.true)
+    (row_variable _ _ _ _ _ _ _ c4.requires.0 c4.requires.1 c4.requires.2 _ refl c.if1.true)
 
 add-next : tie.Need-overflow-add-next
 add-next c =
     let c5 = c.before.before.before.before.before in
     omega (
       arith,
-      first-room _ _ _ _ _ _ _ _ _ c5.requires.0 c5.requires.1 c5.requires.2 c5.requires.3 (row-variable _ _ _ _ _ _ _ c5.requires.0 c5.requires.1
+      first-room _ _ _ _ _ _ _ _ _ c5.requires.0 c5.requires.1 c5.requires.2 c5.requires.3 (row_variable _ _ _ _ _ _ _ c5.requires.0 c5.requires.1
           c5.requires.2 _ refl c.before.if1.true),
     )
 
@@ -49,7 +49,7 @@ next-start-requires c κs =
     let c5 = c.before.before.before.before.before in (
       row_next _ _ _ _ _ _ _ c5.requires.0 c5.requires.1 c5.requires.2,
       first_rest _ _ _ _ _ _ _ _ _ c5.requires.0 c5.requires.1 c5.requires.2 c5.requires.3
-          (row-variable _ _ _ _ _ _ _ c5.requires.0 c5.requires.1 c5.requires.2 _ refl c.before.if1.true),
+          (row_variable _ _ _ _ _ _ _ c5.requires.0 c5.requires.1 c5.requires.2 _ refl c.before.if1.true),
     )
 
 returns : tie.Need-returns
@@ -57,8 +57,8 @@ returns c =
     let c2 = c.before.before in
     let c6 = c2.before.before.before.before in
     rw (
-      ← row-variable _ _ _ _ _ _ _ c6.requires.0 c6.requires.1 c6.requires.2 _ refl c2.if1.true,
-      ← c.before.four-in.ensures.0,
+      ← row_variable _ _ _ _ _ _ _ c6.requires.0 c6.requires.1 c6.requires.2 _ refl c2.if1.true,
+      ← c.before.four_in_lem.ensures.0,
       ← c.next_start.ensures,
     )
 

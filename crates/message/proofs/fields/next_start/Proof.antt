@@ -2,7 +2,7 @@
 use mathlib.Core.Path.{◌≡◌, refl, sym, ap, ◌∙◌}
 use native.Mathlib.Omega.{arith}
 use borrow.Author.Rules.{rules}
-use Rattle.message.proofs.Rows.{Seeking, row-there, row_small, row-few, seeking-room, seeking-found, seeking-fits, seeking-next, seeking-end}
+use Rattle.message.proofs.Rows.{Seeking, row-there, row_small, row-few, seeking_room, seeking_found, seeking_fits, seeking_next, seeking_end}
 use Rattle.message.proofs.fields.next_start.Statement.{statement}
 use Rattle.message.proofs.fields.next_start.Tie as tie
 
@@ -32,17 +32,17 @@ cast-k c =
     omega (arith, row_small _ _ _ _ _ _ _ c3.loop.invariant.row c2.loop-test.true c1.word_in.ensures.0)
 
 four-in-requires : tie.Need-four-in-requires invariant-loop decreases-loop
-four-in-requires c κs = seeking-room _ _ _ _ _ _ _ _ _ _ _ _ _ c.before.before.before.before.loop.invariant
+four-in-requires c κs = seeking_room _ _ _ _ _ _ _ _ _ _ _ _ _ c.before.before.before.before.loop.invariant
     c.before.before.before.loop-test.true c.before.before.word_in.ensures.0 refl c.if1.true
 
 returns : tie.Need-returns invariant-loop decreases-loop
-returns c = c.four-in.ensures.0 ∙ seeking-found _ _ _ _ _ _ _ _ _ _ _ _ _ c.before.before.before.before.before.loop.invariant
+returns c = c.four_in_lem.ensures.0 ∙ seeking_found _ _ _ _ _ _ _ _ _ _ _ _ _ c.before.before.before.before.before.loop.invariant
     c.before.before.before.before.loop-test.true c.before.before.before.word_in.ensures.0 refl c.before.if1.true
 
 add-p : tie.Need-overflow-add-p invariant-loop decreases-loop
 add-p c = omega (
   arith,
-  seeking-fits _ _ _ _ _ _ _ _ _ _ _ _ _ c.before.before.before.before.loop.invariant
+  seeking_fits _ _ _ _ _ _ _ _ _ _ _ _ _ c.before.before.before.before.loop.invariant
       c.before.before.before.loop-test.true c.before.before.word_in.ensures.0 refl c.if1.false,
 )
 
@@ -58,11 +58,11 @@ loop-less : tie.Need-loop-smaller invariant-loop decreases-loop
 loop-less c = omega arith
 
 loop-again : tie.Need-loop-preserved invariant-loop decreases-loop
-loop-again c = seeking-next _ _ _ _ _ _ _ _ _ _ _ _ _ c.before.before.before.before.loop.invariant c.before.before.before.loop-test.true
+loop-again c = seeking_next _ _ _ _ _ _ _ _ _ _ _ _ _ c.before.before.before.before.loop.invariant c.before.before.before.loop-test.true
     c.before.before.word_in.ensures.0 refl c.if1.false
 
 returns-2 : tie.Need-returns-2 invariant-loop decreases-loop
-returns-2 c = seeking-end _ _ _ _ _ _ _ _ _ _ _ c.before.loop.invariant c.loop-test.false
+returns-2 c = seeking_end _ _ _ _ _ _ _ _ _ _ _ c.before.loop.invariant c.loop-test.false
 
 pub next-start-spec : {M : Type 1} → statement M
 next-start-spec =

@@ -6,9 +6,9 @@ use borrow.Author.Rules.{rules}
 use Prim.Native.Nat.{◌+◌, ◌-◌, ◌*◌}
 use lib.ListN.{length-take, length-drop}
 use Rattle.message.specs.Read.{one, and_then}
-use Rattle.message.proofs.Rows.{node-legal, Lies, row-there, row_below, row-few, row_small, row_under, row-legal, under-below}
-use Rattle.message.proofs.Bodies.{Reading, reading-new, reading_small, reading-span, reading-item, reading-next, reading-stop, reading-end}
-use Rattle.message.proofs.Bodies.{plain_fits, plain-next, free-next, within-says}
+use Rattle.message.proofs.Rows.{node_legal, Lies, row-there, row_below, row-few, row_small, row_under, row-legal, under-below}
+use Rattle.message.proofs.Bodies.{Reading, reading-new, reading_small, reading_span, reading-item, reading-next, reading_stop, reading-end}
+use Rattle.message.proofs.Bodies.{plain_fits, plain-next, free_next, within-says}
 use Rattle.message.proofs.Bodies.{item-small, small-more, leaf-told}
 use Rattle.message.proofs.Bodies.{bare-read, wrong-read, body_below, body-read}
 use Prim.Native.Nat.{ℕ, ◌<◌}
@@ -121,7 +121,7 @@ field-check-lies t at =
     let start = loop.before.before.before.before in
     let rest : loop.loop.left - 1 + 1 - 1 ≡ loop.loop.left - 1 = omega arith in
     let span = rw rest at at.locate.ensures in
-    reading-span loop.loop.invariant test.loop-test.true word.word_in.ensures.0 span
+    reading_span loop.loop.invariant test.loop-test.true word.word_in.ensures.0 span
 
 field-check-own-record-requires : (t : ℕ) → field-check-lts.Need-own-record-requires (field-check-calls t) (field-check-at t) field-check.Post
     field-check-Inv-loop field-check-μ-loop
@@ -266,7 +266,7 @@ field-check-loop-again-2 t c =
     let free = within-says _ _ _ (sym within.is_Within.ensures ∙ then.if2.true) in
     let look = at.before.before.before in
     rw c.one-more2.ensures
-    (free-next loop.loop.invariant test.loop-test.true word.word_in.ensures.0 span look.look_in.ensures free.0 free.1 start.requires.1.1)
+    (free_next loop.loop.invariant test.loop-test.true word.word_in.ensures.0 span look.look_in.ensures free.0 free.1 start.requires.1.1)
 
 field-check-sub-leaf-check : (t : ℕ) → field-check-lts.Need-overflow-sub-leaf-check (field-check-calls t) (field-check-at t) field-check.Post
     field-check-Inv-loop field-check-μ-loop
@@ -322,7 +322,7 @@ field-check-returns t c =
     let rest : loop.loop.left - 1 + 1 - 1 ≡ loop.loop.left - 1 = omega arith in
     let span = rw rest at at.locate.ensures in
     let says = leaf-told _ _ _ at.before.before.before.look_in.ensures small.if3.true _ _ _ told.x.given.1 said.leaf-check.ensures in
-    reading-stop loop.loop.invariant test.loop-test.true word.word_in.ensures.0 span _ _ _ (says _)
+    reading_stop loop.loop.invariant test.loop-test.true word.word_in.ensures.0 span _ _ _ (says _)
 
 field-check-loop-less-3 : (t : ℕ) → field-check-lts.Need-loop-smaller-3 (field-check-calls t) (field-check-at t) field-check.Post
     field-check-Inv-loop field-check-μ-loop
@@ -424,7 +424,7 @@ field-check-returns-2 t c =
     let rest : loop.loop.left - 1 + 1 - 1 ≡ loop.loop.left - 1 = omega arith in
     let span = rw rest at at.locate.ensures in
     let says = sym told.x2.given.1 ∙ said.item-check.ensures in
-    reading-stop loop.loop.invariant test.loop-test.true word.word_in.ensures.0 span _ _ _ says
+    reading_stop loop.loop.invariant test.loop-test.true word.word_in.ensures.0 span _ _ _ says
 
 field-check-returns-3 : (t : ℕ) → field-check-lts.Need-returns-3 (field-check-calls t) (field-check-at t) field-check.Post
     field-check-Inv-loop field-check-μ-loop
@@ -464,12 +464,12 @@ item-check-returns-2 t c =
 item-check-add-first : (t : ℕ) → item-check-lts.Need-overflow-add-first (item-check-calls t) (item-check-at t) item-check.Post
 item-check-add-first t c =
     let look = c.before.before.before.before.before in
-    omega (arith, (node-legal _ _ _ _ look.look_in.ensures look.before.before.before.requires.1.0).near)
+    omega (arith, (node_legal _ _ _ _ look.look_in.ensures look.before.before.before.requires.1.0).near)
 
 item-check-select-requires : (t : ℕ) → item-check-lts.Need-select-requires (item-check-calls t) (item-check-at t) item-check.Post
 item-check-select-requires t c κs =
     let look = c.before.before.before.before.before in
-    omega (arith, (node-legal _ _ _ _ look.look_in.ensures look.before.before.before.requires.1.0).near)
+    omega (arith, (node_legal _ _ _ _ look.look_in.ensures look.before.before.before.requires.1.0).near)
 
 item-check-enum-told : (t : ℕ) → item-check-lts.Need-enum-told (item-check-calls t) (item-check-at t) item-check.Post
 item-check-enum-told t c = search rules

@@ -3,21 +3,21 @@ use mathlib.Core.Path.{◌≡◌, refl, sym, ap, ◌∙◌}
 use native.Mathlib.Omega.{arith}
 use borrow.Author.Rules.{rules}
 use Rattle.message.specs.Steps.{Alike}
-use Rattle.message.proofs.Rows.{node-legal, under-legal}
+use Rattle.message.proofs.Rows.{node_legal, under-legal}
 use Rattle.message.proofs.Repeats.{element-below, element-word, element-row, element-small, third-there, vector-narrow}
-use Rattle.message.proofs.Alike.{row-found, vector-alike, vector_on, vector-stop, list-alike, list_on, list-stop}
+use Rattle.message.proofs.Alike.{row-found, vector-alike, vector_on, vector_stop, list-alike, list_on, list_stop}
 use Rattle.message.proofs.items.elements_inside.Statement.{statement}
 use Rattle.message.proofs.items.elements_inside.Tie as tie
 
 add-first : tie.Need-overflow-add-first
 add-first c =
     let p = c.before.before.before.requires in
-    omega (arith, (node-legal _ _ _ _ p.2 p.0).near)
+    omega (arith, (node_legal _ _ _ _ p.2 p.0).near)
 
 add-word-in : tie.Need-overflow-add-word-in
 add-word-in c =
     let p = c.before.before.before.before.requires in
-    omega (arith, (node-legal _ _ _ _ p.2 p.0).near)
+    omega (arith, (node_legal _ _ _ _ p.2 p.0).near)
 
 word-in-requires : tie.Need-word-in-requires
 word-in-requires c κs =
@@ -69,7 +69,7 @@ returns-2 c =
     let nine = told.before in
     let third = nine.before.before in
     let p = third.before.before.before.before.before.requires in
-    vector-stop _ _ _ _ p.2 p.0 p.3 nine.if1.true _ third.word_in.ensures.0 _ _
+    vector_stop _ _ _ _ p.2 p.0 p.3 nine.if1.true _ third.word_in.ensures.0 _ _
     (sym c.before.told.given.1 ∙ told.vector-told.ensures)
 
 mul-elements-of : tie.Need-overflow-mul-elements-of
@@ -126,7 +126,7 @@ returns-4 c =
     let other = said.before.before in
     let third = other.before.before in
     let p = third.before.before.before.before.before.requires in
-    list-stop _ _ _ _ p.2 p.0 p.3 other.if1.false _ third.word_in.ensures.0 _ refl _ _ (sym c1.c2.given.1 ∙ said.elements-of.ensures)
+    list_stop _ _ _ _ p.2 p.0 p.3 other.if1.false _ third.word_in.ensures.0 _ refl _ _ (sym c1.c2.given.1 ∙ said.elements-of.ensures)
 
 pub elements-inside-spec : {M : Type 1} → statement M
 elements-inside-spec =

@@ -3,8 +3,8 @@ use mathlib.Core.Path.{◌≡◌, refl, sym, ap, ◌∙◌}
 use native.Mathlib.Omega.{arith}
 use borrow.Author.Rules.{rules}
 use Rattle.decode.proofs.Register.{layout-ranges}
-use Rattle.message.proofs.Rows.{node-legal, container-tree}
-use Rattle.message.proofs.Bodies.{container-row, container-on, container-stop}
+use Rattle.message.proofs.Rows.{node_legal, container_tree}
+use Rattle.message.proofs.Bodies.{container-row, container-on, container_stop}
 use Rattle.message.proofs.items.inside_of.Statement.{statement}
 use Rattle.message.proofs.items.inside_of.Tie as tie
 
@@ -19,13 +19,13 @@ returns c = c.elements-inside.ensures
 add-first : tie.Need-overflow-add-first
 add-first c =
     let p = c.before.before.before.before.before.requires in
-    omega (arith, (node-legal _ _ _ _ p.2 p.0).near)
+    omega (arith, (node_legal _ _ _ _ p.2 p.0).near)
 
 container-told-requires : tie.Need-container-told-requires
 container-told-requires c κs =
     let six = c.before in
     let p = six.before.before.before.before.requires in
-    (p.0, container-row _ _ _ _ p.2 p.0 six.if1.false, p.1, container-tree _ _ _ p.2 six.if1.false)
+    (p.0, container-row _ _ _ _ p.2 p.0 six.if1.false, p.1, container_tree _ _ _ p.2 six.if1.false)
 
 enum_told : tie.Need-enum-told
 enum_told c = search rules
@@ -50,7 +50,7 @@ returns-3 c =
     let told = c.before.before.before in
     let six = told.before.before in
     let p = six.before.before.before.before.requires in
-    λ s. container-stop _ _ _ _ p.2 p.0 six.if1.false _ s _ (sym c.before.told.given.1 ∙ told.container-told.ensures)
+    λ s. container_stop _ _ _ _ p.2 p.0 six.if1.false _ s _ (sym c.before.told.given.1 ∙ told.container-told.ensures)
 
 pub inside-of-spec : {M : Type 1} → statement M
 inside-of-spec =

@@ -1,7 +1,7 @@
 -- By the kind. Assumes nothing.
 use borrow.Author.Tests.{ne_eqb}
-use Rattle.message.specs.Read.{readItem}
-use Rattle.layout.specs.Tree.{leafOf}
+use Rattle.message.specs.Read.{read_item}
+use Rattle.layout.specs.Tree.{leaf_of}
 use borrow.Author.Rules.{rules}
 use Rattle.message.proofs.items.leaf_check.Statement.{statement}
 use Rattle.message.proofs.items.leaf_check.Tie as tie
@@ -10,42 +10,42 @@ exact-check-requires : tie.Need-exact-check-requires
 exact-check-requires c κs = search rules
 
 returns : tie.Need-returns
-unfolding leafOf readItem
+unfolding leaf_of read_item
 returns c = λ t s. rw c.before.if1.true (c.exact-check.ensures t s)
 
 boolean-check-requires : tie.Need-boolean-check-requires
 boolean-check-requires c κs = search rules
 
 returns-2 : tie.Need-returns-2
-unfolding leafOf
+unfolding leaf_of
 returns-2 c = λ t s. rw c.before.if2.true (c.boolean-check.ensures t s)
 
 exact-check-requires-2 : tie.Need-exact-check-requires-2
 exact-check-requires-2 c κs = search rules
 
 returns-3 : tie.Need-returns-3
-unfolding leafOf readItem
+unfolding leaf_of read_item
 returns-3 c = λ t s. rw c.before.if3.true (c.exact-check2.ensures t s)
 
 free-check-requires : tie.Need-free-check-requires
 free-check-requires c κs = search rules
 
 returns-4 : tie.Need-returns-4
-unfolding leafOf
+unfolding leaf_of
 returns-4 c = λ t s. rw c.before.if4.true (c.free-check.ensures t s)
 
 vector-check-requires : tie.Need-vector-check-requires
 vector-check-requires c κs = search rules
 
 returns-5 : tie.Need-returns-5
-unfolding leafOf
+unfolding leaf_of
 returns-5 c = λ t s. rw c.before.if5.true (c.vector-check.ensures t s)
 
 list-check-requires : tie.Need-list-check-requires
 list-check-requires c κs = search rules
 
 returns-6 : tie.Need-returns-6
-unfolding leafOf
+unfolding leaf_of
 returns-6 c =
     let c2 = c.before.before in
     let c3 = c2.before in

@@ -1,5 +1,5 @@
 -- As the bits go. Assumes nothing.
-use Rattle.message.specs.Read.{readItem}
+use Rattle.message.specs.Read.{read_item}
 use borrow.Author.Rules.{rules}
 use Rattle.message.proofs.items.list_check.Statement.{statement}
 use Rattle.message.proofs.items.list_check.Tie as tie
@@ -17,14 +17,14 @@ enum-known-bits-2 : tie.Need-enum-known-bits-2
 enum-known-bits-2 c = search rules
 
 returns : tie.Need-returns
-unfolding readItem
+unfolding read_item
 returns c =
     let c2 = c.before.before in
     let c4 = c2.before.before in
     λ t s. rw (← c4.bitlist-body.ensures, c2.bits.given.1, ← c.raw-bytes.ensures)
 
 returns-2 : tie.Need-returns-2
-unfolding readItem
+unfolding read_item
 returns-2 c =
     let c3 = c.before.before.before in
     λ t s. rw (← c3.bitlist-body.ensures, c.before.bits2.given.1)

@@ -5,10 +5,10 @@ use borrow.Author.Rules.{rules}
 use Prim.Native.Nat.{◌+◌, ◌*◌}
 use mathlib.Core.List.{[]}
 use lib.ListN.{length-take, length-drop}
-use Rattle.standard.proofs.Store.{stored-then, stored-none, room-then}
-use Rattle.message.proofs.Rows.{node-legal, Lies, span-lies, row-there, row-legal, row_below, row_under, under-below}
+use Rattle.standard.proofs.Store.{stored_then, stored-none, room_then}
+use Rattle.message.proofs.Rows.{node_legal, Lies, span_lies, row-there, row-legal, row_below, row_under, under-below}
 use Rattle.message.proofs.Bodies.{body_below}
-use Rattle.message.proofs.Entries.{Storing, storing-accepted, storing-room, storing-next, storing-end, stored-length, room-long, union-bare, union-body, union-never, body-accepted}
+use Rattle.message.proofs.Entries.{Storing, storing_accepted, storing_room, storing_next, storing_end, stored-length, room-long, union-bare, union-body, union-never, body-accepted}
 use Rattle.message.proofs.Entries.{leaf-stored, accepted-start}
 use Prim.Native.Nat.{ℕ, ◌<◌}
 use borrow.Fn.Kinds.{In}
@@ -95,7 +95,7 @@ list-fields-lies t c =
     let c1 = c.before in
     let c2 = c1.before in
     let c3 = c2.before in
-    span-lies _ _ _ _ _ _ _ _ _ c3.loop.invariant.row c2.loop-test.true c1.word_in.ensures.0 c3.loop.invariant.ranges _ c.locate.ensures
+    span_lies _ _ _ _ _ _ _ _ _ c3.loop.invariant.row c2.loop-test.true c1.word_in.ensures.0 c3.loop.invariant.ranges _ c.locate.ensures
 
 list-fields-loop-holds : (t : ℕ) → list-fields-lts.Need-loop-init (list-fields-calls t) (list-fields-at t) list-fields.Post
     list-fields-Inv-loop list-fields-μ-loop
@@ -173,7 +173,7 @@ list-fields-put-entry-requires t c κs =
     let c7 = c6.before in
     let c8 = c7.before in
     let c12 = c8.before.before.before.before in (
-      room-long _ _ _ _ _ (storing-room c8.loop.invariant c7.loop-test.true c6.word_in.ensures.0 _ c5.locate.ensures),
+      room-long _ _ _ _ _ (storing_room c8.loop.invariant c7.loop-test.true c6.word_in.ensures.0 _ c5.locate.ensures),
       omega (arith, list-fields-lies t c5, c12.requires.1.1),
     )
 
@@ -184,7 +184,7 @@ list-fields-add-at t c =
     let c10 = c9.before in
     let c11 = c10.before in
     let c15 = c11.before.before.before.before in
-    let room = room-long _ _ _ _ _ (storing-room c11.loop.invariant c10.loop-test.true c9.word_in.ensures.0 _ c8.locate.ensures) in
+    let room = room-long _ _ _ _ _ (storing_room c11.loop.invariant c10.loop-test.true c9.word_in.ensures.0 _ c8.locate.ensures) in
     omega (arith, room, stored-length _ _ _ _ _ c11.loop.invariant.stored, c15.well-formed)
 
 list-fields-loop-less : (t : ℕ) → list-fields-lts.Need-loop-smaller (list-fields-calls t) (list-fields-at t) list-fields.Post
@@ -201,7 +201,7 @@ list-fields-loop-again t c =
     let c9 = c8.before in
     let c10 = c9.before in
     let c11 = c10.before in
-    storing-next c11.loop.invariant c10.loop-test.true c9.word_in.ensures.0 _ c8.locate.ensures _ _
+    storing_next c11.loop.invariant c10.loop-test.true c9.word_in.ensures.0 _ c8.locate.ensures _ _
     (leaf-stored _ _ _ c7.look_in.ensures c5.if1.true _ _ _ _ _ _ c2.put-entry.ensures)
 
 list-fields-sub-list-item : (t : ℕ) → list-fields-lts.Need-overflow-sub-list-item (list-fields-calls t) (list-fields-at t) list-fields.Post
@@ -236,8 +236,8 @@ list-fields-list-item-requires t c κs =
       (
         under,
         omega (arith, list-fields-lies t c5, c12.requires.1.1),
-        storing-accepted c8.loop.invariant c7.loop-test.true c6.word_in.ensures.0 _ c5.locate.ensures,
-        storing-room c8.loop.invariant c7.loop-test.true c6.word_in.ensures.0 _ c5.locate.ensures,
+        storing_accepted c8.loop.invariant c7.loop-test.true c6.word_in.ensures.0 _ c5.locate.ensures,
+        storing_room c8.loop.invariant c7.loop-test.true c6.word_in.ensures.0 _ c5.locate.ensures,
       ),
     )
 
@@ -253,7 +253,7 @@ list-fields-loop-again-2 t c =
     let c9 = c8.before in
     let c10 = c9.before in
     let c11 = c10.before in
-    storing-next c11.loop.invariant c10.loop-test.true c9.word_in.ensures.0 _ c8.locate.ensures _ _
+    storing_next c11.loop.invariant c10.loop-test.true c9.word_in.ensures.0 _ c8.locate.ensures _ _
     c2.list-item.ensures
 
 list-fields-same-length : (t : ℕ) → list-fields-lts.Need-same-length (list-fields-calls t) (list-fields-at t) list-fields.Post
@@ -265,7 +265,7 @@ list-fields-same-length t c =
 list-fields-returns : (t : ℕ) → list-fields-lts.Need-returns (list-fields-calls t) (list-fields-at t) list-fields.Post list-fields-Inv-loop list-fields-μ-loop
 list-fields-returns t c =
     let c1 = c.before in
-    storing-end c1.loop.invariant c.loop-test.false
+    storing_end c1.loop.invariant c.loop-test.false
 
 list-item-put-entry-requires : (t : ℕ) → list-item-lts.Need-put-entry-requires (list-item-calls t) (list-item-at t) list-item.Post
 list-item-put-entry-requires t c κs =
@@ -286,13 +286,13 @@ list-item-add-select : (t : ℕ) → list-item-lts.Need-overflow-add-select (lis
 list-item-add-select t c =
     let c3 = c.before.before.before in
     let c11 = c3.before.before.before.before.before.before.before.before in
-    omega (arith, (node-legal _ _ _ _ c3.look_in.ensures c11.requires.1.0).near)
+    omega (arith, (node_legal _ _ _ _ c3.look_in.ensures c11.requires.1.0).near)
 
 list-item-select-requires : (t : ℕ) → list-item-lts.Need-select-requires (list-item-calls t) (list-item-at t) list-item.Post
 list-item-select-requires t c κs =
     let c3 = c.before.before.before in
     let c11 = c3.before.before.before.before.before.before.before.before in
-    omega (arith, (node-legal _ _ _ _ c3.look_in.ensures c11.requires.1.0).near)
+    omega (arith, (node_legal _ _ _ _ c3.look_in.ensures c11.requires.1.0).near)
 
 list-item-enum-told : (t : ℕ) → list-item-lts.Need-enum-told (list-item-calls t) (list-item-at t) list-item.Post
 list-item-enum-told t c = search rules
@@ -348,7 +348,7 @@ list-item-list-item-requires t c κs =
         under-below _ _ _ _ (omega (arith, z)) c17.requires.1.0,
         simp (length-take, length-drop) (omega (arith, c17.requires.1.1, z)),
         body-accepted _ _ _ _ c9.look_in.ensures c17.requires.1.0 _ _ c17.requires.1.2 c7.if1.true _ (sym c3.c.given.1 ∙ c5.select.ensures),
-        room-then _ _ _ _ _ _ _ c17.requires.1.3 (union-body _ _ _ _ c9.look_in.ensures c17.requires.1.0 _ _ c17.requires.1.2 c7.if1.true _
+        room_then _ _ _ _ _ _ _ c17.requires.1.3 (union-body _ _ _ _ c9.look_in.ensures c17.requires.1.0 _ _ c17.requires.1.2 c7.if1.true _
             (sym c3.c.given.1 ∙ c5.select.ensures)) c12.put-entry.ensures,
       ),
     )
@@ -373,7 +373,7 @@ list-item-list-fields-requires t c κs =
         c12.requires.1.1,
         c1.series-in.ensures.ranges,
         c1.series-in.ensures.accepted _,
-        room-then _ _ _ _ _ _ _ c12.requires.1.3 (c1.series-in.ensures.listed _) c7.put-entry.ensures,
+        room_then _ _ _ _ _ _ _ c12.requires.1.3 (c1.series-in.ensures.listed _) c7.put-entry.ensures,
       ),
     )
 
@@ -407,7 +407,7 @@ list-item-returns-2 t c =
     let c12 = c10.before.before in
     let c15 = c12.before.before.before in
     let c20 = c15.before.before.before.before.before in
-    stored-then _ _ _ _ _ _ _ _ _ c15.put-entry.ensures c2.list-item.ensures (union-body _ _ _ _ c12.look_in.ensures c20.requires.1.0 _ _
+    stored_then _ _ _ _ _ _ _ _ _ c15.put-entry.ensures c2.list-item.ensures (union-body _ _ _ _ c12.look_in.ensures c20.requires.1.0 _ _
     c20.requires.1.2 c10.if1.true _ (sym c6.c.given.1 ∙ c8.select.ensures))
 
 list-item-same-length-3 : (t : ℕ) → list-item-lts.Need-same-length-3 (list-item-calls t) (list-item-at t) list-item.Post
@@ -434,7 +434,7 @@ list-item-returns-4 t c =
     let c2 = c.before.before in
     let c4 = c2.before.before in
     let c10 = c4.before.before.before.before.before.before in
-    stored-then _ _ _ _ _ _ _ _ _ c10.put-entry.ensures c2.list-fields.ensures (c4.series-in.ensures.listed _)
+    stored_then _ _ _ _ _ _ _ _ _ c10.put-entry.ensures c2.list-fields.ensures (c4.series-in.ensures.listed _)
 
 pub +list-fields-list-item-spec : {M : Type 1} → statement M
 +list-fields-list-item-spec = close μ-list-fields μ-list-item (λ t. list-fields-lts.spec (list-fields-calls t)

@@ -5,14 +5,14 @@ use borrow.Author.Rules.{rules}
 use Prim.Native.Nat.{◌+◌, ◌*◌}
 use mathlib.Core.List.{[]}
 use lib.ListN.{length-take, length-drop}
-use Rattle.message.specs.Unfold.{wordsFields, bytesFields}
+use Rattle.message.specs.Unfold.{words_fields, bytes_fields}
 use Rattle.message.specs.Steps.{row_of}
 use Rattle.message.specs.Unfolding.{Filling}
-use Rattle.message.proofs.Rows.{node-legal, Lies, span-lies, row-there, row-legal, row_below, row_under, row-few, row_small, under-below}
+use Rattle.message.proofs.Rows.{node_legal, Lies, span_lies, row-there, row-legal, row_below, row_under, row-few, row_small, under-below}
 use Rattle.message.proofs.Bodies.{body_below}
 use Rattle.message.proofs.UnfoldLeaves.{stored-length}
-use Rattle.message.proofs.Unfolds.{filled_none, filled-then, rooms-then, words-filled, filling-accepts, filling-rooms, filling-next, filling-end, filling-last}
-use Rattle.message.proofs.Unfolds.{own-fits, own_room, own-next, no_more, leaf-variable, leaf-accepts, leaf-rooms, leaf-filled, union-room, union-long, bare-filled, never, body-words, body_bytes, body-accepts}
+use Rattle.message.proofs.Unfolds.{filled_none, filled_then, rooms_then, words-filled, filling_accepts, filling_rooms, filling_next, filling_end, filling_last}
+use Rattle.message.proofs.Unfolds.{own-fits, own_room, own-next, no_more, leaf_variable, leaf_accepts, leaf-rooms, leaf-filled, union-room, union-long, bare-filled, never, body-words, body_bytes, body_accepts}
 use Prim.Native.Nat.{ℕ, ◌<◌}
 use borrow.Fn.Kinds.{In}
 use borrow.Fn.PlainCycle.{Measures, is, falls, and}
@@ -61,7 +61,7 @@ unfold-item-below t =
 
 abbrev unfold-fields-Inv-loop : unfold-fields-lts.invariant-loop
 unfold-fields-Inv-loop contents₀ bodies₀ lens layout t a0 step n b at₀ a₀ left₀ p₀ contents bodies at a left p =
-    Filling lens layout t step b (wordsFields (row_of layout t a0 step n) b 0) (bytesFields (row_of layout t a0 step n) b 0)
+    Filling lens layout t step b (words_fields (row_of layout t a0 step n) b 0) (bytes_fields (row_of layout t a0 step n) b 0)
     contents₀ bodies₀ at₀ contents bodies at a left p
 
 abbrev unfold-fields-μ-loop : unfold-fields-lts.decreases-loop
@@ -109,7 +109,7 @@ unfold-fields-lies t c =
     let c3 = c.before.before.before in
     let c4 = c3.before in
     let c5 = c4.before in
-    span-lies _ _ _ _ _ _ _ _ _ c5.loop.invariant.row c4.loop-test.true c3.word_in.ensures.0 c5.loop.invariant.ranges _ c.locate.ensures
+    span_lies _ _ _ _ _ _ _ _ _ c5.loop.invariant.row c4.loop-test.true c3.word_in.ensures.0 c5.loop.invariant.ranges _ c.locate.ensures
 
 unfold-fields-loop-holds : (t : ℕ) → unfold-fields-lts.Need-loop-init (unfold-fields-calls t) (unfold-fields-at t) unfold-fields.Post
     unfold-fields-Inv-loop unfold-fields-μ-loop
@@ -271,13 +271,13 @@ unfold-fields-unfold-leaf-requires t c κs =
     let c11 = c10.before in
     let c16 = c11.before.before.before.before.before in
     let under = row_under _ _ _ _ _ _ _ c11.loop.invariant.row c10.loop-test.true c9.word_in.ensures.0 in
-    let accepts = filling-accepts c11.loop.invariant _ c10.loop-test.true c9.word_in.ensures.0 _ c6.locate.ensures in (
-      leaf-variable _ _ _ _ c5.look_in.ensures under _ accepts c3.if2.true (no_more _ c7.if1.false),
-      (node-legal _ _ _ _ c5.look_in.ensures under).small,
+    let accepts = filling_accepts c11.loop.invariant _ c10.loop-test.true c9.word_in.ensures.0 _ c6.locate.ensures in (
+      leaf_variable _ _ _ _ c5.look_in.ensures under _ accepts c3.if2.true (no_more _ c7.if1.false),
+      (node_legal _ _ _ _ c5.look_in.ensures under).small,
       omega (arith, unfold-fields-lies t c6, c16.requires.1.1),
-      leaf-accepts _ _ _ _ c5.look_in.ensures under _ accepts c3.if2.true,
+      leaf_accepts _ _ _ _ c5.look_in.ensures under _ accepts c3.if2.true,
       leaf-rooms _ _ _ _ c5.look_in.ensures under _ accepts c3.if2.true _ _ _
-          (filling-rooms c11.loop.invariant _ c10.loop-test.true c9.word_in.ensures.0 _ c6.locate.ensures),
+          (filling_rooms c11.loop.invariant _ c10.loop-test.true c9.word_in.ensures.0 _ c6.locate.ensures),
     )
 
 unfold-fields-sub-unfold-item : (t : ℕ) → unfold-fields-lts.Need-overflow-sub-unfold-item (unfold-fields-calls t) (unfold-fields-at t) unfold-fields.Post
@@ -311,8 +311,8 @@ unfold-fields-unfold-item-requires t c κs =
       (
         row_under _ _ _ _ _ _ _ c11.loop.invariant.row c10.loop-test.true c9.word_in.ensures.0,
         omega (arith, unfold-fields-lies t c6, c16.requires.1.1),
-        filling-accepts c11.loop.invariant _ c10.loop-test.true c9.word_in.ensures.0 _ c6.locate.ensures,
-        filling-rooms c11.loop.invariant _ c10.loop-test.true c9.word_in.ensures.0 _ c6.locate.ensures,
+        filling_accepts c11.loop.invariant _ c10.loop-test.true c9.word_in.ensures.0 _ c6.locate.ensures,
+        filling_rooms c11.loop.invariant _ c10.loop-test.true c9.word_in.ensures.0 _ c6.locate.ensures,
       ),
     )
 
@@ -331,8 +331,8 @@ unfold-fields-loop-again-2 t c =
     let c15 = c14.before in
     let c16 = c15.before in
     let under = row_under _ _ _ _ _ _ _ c16.loop.invariant.row c15.loop-test.true c14.word_in.ensures.0 in
-    let accepts = filling-accepts c16.loop.invariant _ c15.loop-test.true c14.word_in.ensures.0 _ c11.locate.ensures in
-    filling-next c16.loop.invariant _ c15.loop-test.true c14.word_in.ensures.0 _ c11.locate.ensures _ _ _
+    let accepts = filling_accepts c16.loop.invariant _ c15.loop-test.true c14.word_in.ensures.0 _ c11.locate.ensures in
+    filling_next c16.loop.invariant _ c15.loop-test.true c14.word_in.ensures.0 _ c11.locate.ensures _ _ _
     (leaf-filled _ _ _ _ c10.look_in.ensures under _ accepts c8.if2.true _ _ _ _ _ _ c4.unfold-leaf.ensures)
 
 unfold-fields-loop-less-3 : (t : ℕ) → unfold-fields-lts.Need-loop-smaller-3 (unfold-fields-calls t) (unfold-fields-at t) unfold-fields.Post
@@ -347,7 +347,7 @@ unfold-fields-loop-again-3 t c =
     let c14 = c11.before.before.before in
     let c15 = c14.before in
     let c16 = c15.before in
-    filling-next c16.loop.invariant _ c15.loop-test.true c14.word_in.ensures.0 _ c11.locate.ensures _ _ _ c4.unfold-item.ensures
+    filling_next c16.loop.invariant _ c15.loop-test.true c14.word_in.ensures.0 _ c11.locate.ensures _ _ _ c4.unfold-item.ensures
 
 unfold-fields-same-length : (t : ℕ) → unfold-fields-lts.Need-same-length (unfold-fields-calls t) (unfold-fields-at t) unfold-fields.Post
     unfold-fields-Inv-loop unfold-fields-μ-loop
@@ -365,7 +365,7 @@ unfold-fields-returns : (t : ℕ) → unfold-fields-lts.Need-returns (unfold-fie
     unfold-fields-Inv-loop unfold-fields-μ-loop
 unfold-fields-returns t c =
     let c1 = c.before in
-    filling-end c1.loop.invariant c.loop-test.false
+    filling_end c1.loop.invariant c.loop-test.false
 
 unfold-item-look-in-requires : (t : ℕ) → unfold-item-lts.Need-look-in-requires (unfold-item-calls t) (unfold-item-at t) unfold-item.Post
 unfold-item-look-in-requires t c κs =
@@ -376,13 +376,13 @@ unfold-item-add-select : (t : ℕ) → unfold-item-lts.Need-overflow-add-select 
 unfold-item-add-select t c =
     let c3 = c.before.before.before in
     let c8 = c3.before.before.before.before.before in
-    omega (arith, (node-legal _ _ _ _ c3.look_in.ensures c8.requires.1.0).near)
+    omega (arith, (node_legal _ _ _ _ c3.look_in.ensures c8.requires.1.0).near)
 
 unfold-item-select-requires : (t : ℕ) → unfold-item-lts.Need-select-requires (unfold-item-calls t) (unfold-item-at t) unfold-item.Post
 unfold-item-select-requires t c κs =
     let c3 = c.before.before.before in
     let c8 = c3.before.before.before.before.before in
-    omega (arith, (node-legal _ _ _ _ c3.look_in.ensures c8.requires.1.0).near)
+    omega (arith, (node_legal _ _ _ _ c3.look_in.ensures c8.requires.1.0).near)
 
 unfold-item-enum-told : (t : ℕ) → unfold-item-lts.Need-enum-told (unfold-item-calls t) (unfold-item-at t) unfold-item.Post
 unfold-item-enum-told t c = search rules
@@ -442,8 +442,8 @@ unfold-item-unfold-item-requires t c κs =
       (
         under-below _ _ _ _ (omega (arith, z)) c19.requires.1.0,
         simp (length-take, length-drop) (omega (arith, c19.requires.1.1, z)),
-        body-accepts _ _ _ _ c14.look_in.ensures c19.requires.1.0 _ c19.requires.1.2 c12.if1.true _ (sym c8.c.given.1 ∙ c10.select.ensures),
-        rooms-then _ _ _ _ _ _ _ _ _ _ _ _ c19.requires.1.3
+        body_accepts _ _ _ _ c14.look_in.ensures c19.requires.1.0 _ c19.requires.1.2 c12.if1.true _ (sym c8.c.given.1 ∙ c10.select.ensures),
+        rooms_then _ _ _ _ _ _ _ _ _ _ _ _ c19.requires.1.3
             (body-words _ _ _ _ c14.look_in.ensures c19.requires.1.0 _ c19.requires.1.2 c12.if1.true _ (sym c8.c.given.1 ∙ c10.select.ensures))
             (body_bytes _ _ _ _ c14.look_in.ensures c19.requires.1.0 _ c19.requires.1.2 c12.if1.true _ (sym c8.c.given.1 ∙ c10.select.ensures))
             (words-filled _ _ _ _ _ _ c5.put-selector2.ensures.0 c5.put-selector2.ensures.1),
@@ -504,7 +504,7 @@ unfold-item-returns-2 t c =
     let c17 = c15.before.before in
     let c19 = c17.before.before in
     let c24 = c19.before.before.before.before.before in
-    filled-then _ _ _ _ _ _ _ _ _ _ _ _ _ _ _ (words-filled _ _ _ _ _ _ c10.put-selector2.ensures.0 c10.put-selector2.ensures.1)
+    filled_then _ _ _ _ _ _ _ _ _ _ _ _ _ _ _ (words-filled _ _ _ _ _ _ c10.put-selector2.ensures.0 c10.put-selector2.ensures.1)
     c4.unfold-item.ensures
     (body-words _ _ _ _ c19.look_in.ensures c24.requires.1.0 _ c24.requires.1.2 c17.if1.true _ (sym c13.c.given.1 ∙ c15.select.ensures))
     (body_bytes _ _ _ _ c19.look_in.ensures c24.requires.1.0 _ c24.requires.1.2 c17.if1.true _ (sym c13.c.given.1 ∙ c15.select.ensures))
@@ -533,7 +533,7 @@ unfold-item-returns-4 : (t : ℕ) → unfold-item-lts.Need-returns-4 (unfold-ite
 unfold-item-returns-4 t c =
     let c4 = c.before.before.before.before in
     let c12 = c4.before.before.before.before.before.before.before.before in
-    filling-last c12.begin.ensures _ _ _ c4.unfold-fields.ensures
+    filling_last c12.begin.ensures _ _ _ c4.unfold-fields.ensures
 
 pub +unfold-fields-unfold-item-spec : {M : Type 1} → statement M
 +unfold-fields-unfold-item-spec = close μ-unfold-fields μ-unfold-item (λ t. unfold-fields-lts.spec (unfold-fields-calls t)

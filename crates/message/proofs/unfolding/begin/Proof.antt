@@ -1,7 +1,7 @@
 -- What is of fixed size is copied, a leaf is stored, and what is made of others begins with its count. Assumes nothing.
-use Rattle.message.proofs.Rows.{node-legal}
+use Rattle.message.proofs.Rows.{node_legal}
 use Rattle.message.proofs.UnfoldLeaves.{stored-length, bytes-room, bytes-filled}
-use Rattle.message.proofs.Unfolds.{no_more, item-form, all-stored, leaf-variable, leaf-accepts, leaf-rooms, leaf-filled, count_room, parts-rooms, parts-left, filling-last, list-below, fixed-list}
+use Rattle.message.proofs.Unfolds.{no_more, item-form, all-stored, leaf_variable, leaf_accepts, leaf-rooms, leaf-filled, count_room, parts-rooms, parts-left, filling_last, list-below, fixed-list}
 use borrow.Author.Rules.{rules}
 use Rattle.message.proofs.unfolding.begin.Statement.{statement}
 use Rattle.message.proofs.unfolding.begin.Tie as tie
@@ -40,10 +40,10 @@ unfold-leaf-requires c κs =
     let c4 = c2.before.before in
     let c10 = c4.before.before.before.before.before.before in
     let none = no_more _ c4.if1.false in (
-      leaf-variable _ _ _ _ c10.requires.2 c10.requires.0 _ c10.requires.4 c2.if2.true none,
-      (node-legal _ _ _ _ c10.requires.2 c10.requires.0).small,
+      leaf_variable _ _ _ _ c10.requires.2 c10.requires.0 _ c10.requires.4 c2.if2.true none,
+      (node_legal _ _ _ _ c10.requires.2 c10.requires.0).small,
       c10.requires.1,
-      leaf-accepts _ _ _ _ c10.requires.2 c10.requires.0 _ c10.requires.4 c2.if2.true,
+      leaf_accepts _ _ _ _ c10.requires.2 c10.requires.0 _ c10.requires.4 c2.if2.true,
       leaf-rooms _ _ _ _ c10.requires.2 c10.requires.0 _ c10.requires.4 c2.if2.true _ _ _ c10.requires.5,
     )
 
@@ -121,7 +121,7 @@ returns-3 c =
     let c20 = c12.before.before.before.before.before.before.before.before in
     let q = fixed-list _ _ _ c6.fixed-elements.ensures c5.if3.true in
     all-stored _ _ _ c20.requires.0 _ _ _ _ _ _ _ _ _ _ c.nothing-left3.ensures c20.requires.5
-    (filling-last
+    (filling_last
     (parts-left c11.series-in.ensures c12.if2.false c20.requires.5 _ _ c9.put_count.ensures.0 c9.put_count.ensures.1) _ _ _
     (bytes-filled _ _ _ (c11.series-in.ensures.copied q.0 q.1) _ _ _ _ _ c3.put-bytes2.ensures.0 c3.put-bytes2.ensures.1))
 

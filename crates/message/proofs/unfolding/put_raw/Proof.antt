@@ -3,7 +3,7 @@ use mathlib.Core.Path.{◌∙◌}
 use native.Mathlib.Omega.{arith}
 use lib.ListN.{length-take}
 use Rattle.standard.proofs.Bytes.{bytes-known}
-use Rattle.standard.proofs.Store.{stored-then}
+use Rattle.standard.proofs.Store.{stored_then}
 use Rattle.message.proofs.UnfoldLeaves.{stored-length, raw-room, raw-place, raw-odd, raw-single, raw-long, raw-short, last-from}
 use Rattle.message.proofs.unfolding.put_raw.Statement.{statement}
 use Rattle.message.proofs.unfolding.put_raw.Tie as tie
@@ -47,7 +47,7 @@ returns c =
     let c7 = c4.before.before.before in
     let c11 = c7.before.before.before.before in
     let c13 = c11.before.before in
-    stored-then _ _ _ _ _ _ _ _ _ c7.copy-into.ensures c2.put_last.ensures
+    stored_then _ _ _ _ _ _ _ _ _ c7.copy-into.ensures c2.put_last.ensures
     (raw-long _ _ (bytes-known _ (λ i. (c11.shared-slice-known.given i).fits)) c13.requires.0 (raw-odd _ c4.if1.true))
 
 put-last-requires-2 : tie.Need-put-last-requires-2
@@ -74,7 +74,7 @@ returns-2 c =
     let c8 = c4.before.before.before.before in
     let c12 = c8.before.before.before.before in
     let c14 = c12.before.before in
-    stored-then _ _ _ _ _ _ _ _ _ c8.copy-into.ensures c2.put-last2.ensures
+    stored_then _ _ _ _ _ _ _ _ _ c8.copy-into.ensures c2.put-last2.ensures
     (raw-long _ _ (bytes-known _ (λ i. (c12.shared-slice-known.given i).fits)) c14.requires.0 (raw-single _ c4.if2.true))
 
 same-length-3 : tie.Need-same-length-3

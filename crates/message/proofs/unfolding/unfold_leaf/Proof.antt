@@ -2,7 +2,7 @@
 use mathlib.Core.Path.{sym, ◌∙◌}
 use native.Mathlib.Omega.{arith}
 use Rattle.standard.proofs.Bytes.{bytes-known}
-use Rattle.message.proofs.UnfoldLeaves.{stored-length, marked-at, variable-bits, free-rooms, free-filled, bits-rooms, bits-filled, bits-never}
+use Rattle.message.proofs.UnfoldLeaves.{stored-length, marked-at, variable_bits, free_rooms, free_filled, bits-rooms, bits-filled, bits-never}
 use borrow.Author.Rules.{rules}
 use Rattle.message.proofs.unfolding.unfold_leaf.Statement.{statement}
 use Rattle.message.proofs.unfolding.unfold_leaf.Tie as tie
@@ -11,7 +11,7 @@ unfold-free-requires : tie.Need-unfold-free-requires
 unfold-free-requires c κs =
     let c2 = c.before.before in
     let c7 = c2.before.before.before.before.before in
-    (c7.requires.2, free-rooms _ _ _ _ _ _ c2.if1.true c7.requires.4)
+    (c7.requires.2, free_rooms _ _ _ _ _ _ c2.if1.true c7.requires.4)
 
 same_length : tie.Need-same-length
 same_length c =
@@ -27,7 +27,7 @@ returns : tie.Need-returns
 returns c =
     let c4 = c.before.before.before.before in
     let c7 = c4.before.before.before in
-    free-filled _ _ _ _ _ _ c7.if1.true _ _ _ c4.unfold-free.ensures
+    free_filled _ _ _ _ _ _ c7.if1.true _ _ _ c4.unfold-free.ensures
 
 bitlist-body-requires : tie.Need-bitlist-body-requires
 bitlist-body-requires c κs = search rules
@@ -44,7 +44,7 @@ unfold-bits-requires c κs =
     let c11 = c8.before.before.before in
     let q = marked-at c11.args.b.now c11.args.n.second _ (bytes-known _ (λ i. (c8.shared-slice-known.given i).fits))
     (sym (sym c3.bits.given.1 ∙ c5.bitlist-body.ensures)) in
-    (omega (arith, q.1, c11.requires.1), q.0, bits-rooms _ _ _ _ _ _ (variable-bits _ _ c11.requires.0 c6.if1.false) _ (sym c3.bits.given.1 ∙ c5.bitlist-body.ensures) c11.requires.4)
+    (omega (arith, q.1, c11.requires.1), q.0, bits-rooms _ _ _ _ _ _ (variable_bits _ _ c11.requires.0 c6.if1.false) _ (sym c3.bits.given.1 ∙ c5.bitlist-body.ensures) c11.requires.4)
 
 enum_told : tie.Need-enum-told
 enum_told c = search rules
@@ -66,14 +66,14 @@ returns-2 c =
     let c10 = c8.before.before in
     let c11 = c10.before in
     let c16 = c11.before.before.before.before.before in
-    bits-filled _ _ _ _ _ _ (variable-bits _ _ c16.requires.0 c11.if1.false) _ (sym c8.bits.given.1 ∙ c10.bitlist-body.ensures) _ _ _ c4.unfold-bits.ensures
+    bits-filled _ _ _ _ _ _ (variable_bits _ _ c16.requires.0 c11.if1.false) _ (sym c8.bits.given.1 ∙ c10.bitlist-body.ensures) _ _ _ c4.unfold-bits.ensures
 
 returns-3 : tie.Need-returns-3
 returns-3 c =
     let c2 = c.before.before in
     let c3 = c2.before in
     let c8 = c3.before.before.before.before.before in
-    bits-never _ _ _ (variable-bits _ _ c8.requires.0 c3.if1.false) _ (sym c.enum_told.given.1 ∙ c2.bitlist-body.ensures) c8.requires.3
+    bits-never _ _ _ (variable_bits _ _ c8.requires.0 c3.if1.false) _ (sym c.enum_told.given.1 ∙ c2.bitlist-body.ensures) c8.requires.3
 
 pub unfold-leaf-spec : {M : Type 1} → statement M
 unfold-leaf-spec =

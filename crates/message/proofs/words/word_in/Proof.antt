@@ -16,7 +16,7 @@ four-in-requires c κs = search rules
 
 returns : tie.Need-returns
 unfolding count
-returns c = (c.four-in.ensures.0 ∙ word-there _ _ c.before.before.requires, c.four-in.ensures.1)
+returns c = (c.four_in_lem.ensures.0 ∙ word-there _ _ c.before.before.requires, c.four_in_lem.ensures.1)
 
 pub word-in-spec : {M : Type 1} → statement M
 word-in-spec = tie.close (tie.spec mul-four-in four-in-requires returns)

@@ -1,13 +1,13 @@
 -- Nothing, some or all of the four bytes have room. Assumes nothing.
 use mathlib.Core.Path.{sym}
-use Rattle.standard.proofs.Store.{sets-out}
+use Rattle.standard.proofs.Store.{sets_out}
 use Rattle.standard.specs.Bytes.{le}
 use borrow.Author.Rules.{rules}
 use Rattle.standard.proofs.words.put_four.Statement.{statement}
 use Rattle.standard.proofs.words.put_four.Tie as tie
 
 returns : tie.Need-returns
-returns c = sym (sets-out (le 4 c.before.before.args.x) _ _ c.if1.true)
+returns c = sym (sets_out (le 4 c.before.before.args.x) _ _ c.if1.true)
 
 sub-if2 : tie.Need-overflow-sub-if2
 sub-if2 c = search rules

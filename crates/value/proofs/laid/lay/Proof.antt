@@ -1,14 +1,14 @@
 -- By the kind, and for a list by its count. Assumes nothing.
 use native.Mathlib.Omega.{arith}
 use borrow.Author.Rules.{rules}
-use Rattle.layout.proofs.Facts.{legal-node}
+use Rattle.layout.proofs.Facts.{legal_node}
 use Rattle.value.proofs.Unions.{laid-union}
-use Rattle.value.proofs.Repeats.{laid-container, laid-vector, laid-missing, laid-over, laid-list}
+use Rattle.value.proofs.Repeats.{laid-container, laid-vector, laid_missing, laid-over, laid-list}
 use Rattle.value.proofs.laid.lay.Statement.{statement}
 use Rattle.value.proofs.laid.lay.Tie as tie
 
 add-third : tie.Need-overflow-add-third
-add-third c = omega (arith, (legal-node _ _ _ c.before.before.before.requires.2 c.before.before.before.requires.0).near)
+add-third c = omega (arith, (legal_node _ _ _ c.before.before.before.requires.2 c.before.before.before.requires.0).near)
 
 returns : tie.Need-returns
 returns c =
@@ -18,7 +18,7 @@ returns c =
 select-requires : tie.Need-select-requires
 select-requires c κs =
     let c7 = c.before.before.before.before.before.before.before in
-    let z = legal-node _ _ _ c7.requires.2 c7.requires.0 in
+    let z = legal_node _ _ _ c7.requires.2 c7.requires.0 in
     (omega (arith, z.near), z.most c.if2.true)
 
 returns-2 : tie.Need-returns-2
@@ -29,12 +29,12 @@ returns-2 c =
 word-in-requires : tie.Need-word-in-requires
 word-in-requires c κs =
     let c7 = c.before.before.before.before.before.before.before in
-    (legal-node _ _ _ c7.requires.2 c7.requires.0).third (omega (arith, c7.requires.3, c.before.before.if1.false, c.if2.false))
+    (legal_node _ _ _ c7.requires.2 c7.requires.0).third (omega (arith, c7.requires.3, c.before.before.if1.false, c.if2.false))
 
 add-element : tie.Need-overflow-add-element
 add-element c =
     let c9 = c.before.before.before.before.before.before.before.before.before in
-    omega (arith, (legal-node _ _ _ c9.requires.2 c9.requires.0).near)
+    omega (arith, (legal_node _ _ _ c9.requires.2 c9.requires.0).near)
 
 returns-3 : tie.Need-returns-3
 returns-3 c =
@@ -47,7 +47,7 @@ returns-4 : tie.Need-returns-4
 returns-4 c =
     let c4 = c.before.before.before.before in
     let c12 = c4.before.before.before.before.before.before.before.before in
-    laid-missing _ _ c12.requires.0 c12.requires.1 _ c12.requires.2 _ _
+    laid_missing _ _ c12.requires.0 c12.requires.1 _ c12.requires.2 _ _
     (omega (arith, c12.requires.3, c4.before.before.before.if1.false, c4.before.if2.false)) _ c4.word_in.ensures.0 c.before.if3.false
     c.if4.true
 

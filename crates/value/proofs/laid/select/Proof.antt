@@ -4,7 +4,7 @@ use native.Mathlib.Omega.{arith}
 use lib.ListN.{get_or}
 use borrow.Author.Tests.{lt-ltb, le-ltb}
 use Rattle.value.specs.Steps.{choose}
-use Rattle.value.proofs.Selectors.{selector-word, no-refusal, no-option}
+use Rattle.value.proofs.Selectors.{selector-word, no_refusal, no-option}
 use borrow.Author.Rules.{rules}
 use Rattle.value.proofs.laid.select.Statement.{statement}
 use Rattle.value.proofs.laid.select.Tie as tie
@@ -53,7 +53,7 @@ returns-3 c =
 returns-4 : tie.Need-returns-4
 returns-4 c =
     let c2 = c.before.before in
-    no-refusal _ _ c2.before.if2.false (sym c.enum_told.given.1 ∙ c2.new.ensures)
+    no_refusal _ _ c2.before.if2.false (sym c.enum_told.given.1 ∙ c2.new.ensures)
 
 pub select-spec : {M : Type 1} → statement M
 select-spec =

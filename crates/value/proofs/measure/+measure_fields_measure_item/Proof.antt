@@ -8,11 +8,11 @@ use borrow.Author.Tests.{leb-true, not-true, not-false}
 use lib.ListN.{length, get_or}
 use Rattle.layout.specs.Tree.{tree_of}
 use Rattle.message.proofs.Rows.{row-there, row-legal, row_below, row_under, row_small, row-few, under-below}
-use Rattle.value.specs.Walk.{walkItem}
-use Rattle.value.specs.Write.{writeItem}
+use Rattle.value.specs.Walk.{walk_item}
+use Rattle.value.specs.Write.{write_item_lem}
 use Rattle.value.specs.Steps.{measured}
-use Rattle.value.proofs.Rows.{Measuring, measuring-none, measuring-next, measuring-stop, measuring-end}
-use Rattle.value.proofs.Plain.{below-measured, plain-field, measuring-plain, measuring-short}
+use Rattle.value.proofs.Rows.{Measuring, measuring_none, measuring_next, measuring_stop, measuring_end}
+use Rattle.value.proofs.Plain.{below-measured, plain-field, measuring_plain, measuring_short}
 use Rattle.value.proofs.Made.{laid-row, laid-below, bare-there, body-there, row-measured, plain-measured, bare-measured, body-measured, wrong-measured}
 use Prim.Native.Nat.{ℕ, ◌<◌}
 use borrow.Fn.Kinds.{In}
@@ -21,7 +21,7 @@ use Rattle.value.proofs.measure.measure_fields.Reads as fields
 use Rattle.value.proofs.measure.measure_fields.Kinds as fields-kinds
 use Rattle.value.proofs.measure.+measure_fields_measure_item.Lts-measure_fields as fields-lts
 use Rattle.value.proofs.measure.measure_item.Reads as item
-use Rattle.value.proofs.measure.measure_item.Kinds as item-kinds
+use Rattle.value.proofs.measure.measure_item.Kinds as item_kinds
 use Rattle.value.proofs.measure.+measure_fields_measure_item.Lts-measure_item as item-lts
 use Rattle.value.proofs.laid.lay.Reads as lay-reads
 use Rattle.value.proofs.measure.add.Reads as add_reads
@@ -40,7 +40,7 @@ use Rattle.value.proofs.measure.+measure_fields_measure_item.Tie.{close}
 abbrev μ-fields : Measures 4 fields-kinds.ps ℕ
 μ-fields κs a = 2 * a.1.1.0
 
-abbrev μ-item : Measures 4 item-kinds.ps ℕ
+abbrev μ-item : Measures 4 item_kinds.ps ℕ
 μ-item κs a = 2 * a.1.1.0 + 1
 
 abbrev fields_at : ℕ → In 4 fields-kinds.ps
@@ -49,11 +49,11 @@ fields_at t = and 4 fields-kinds.ps (is 4 fields-kinds.ps μ-fields t) fields.Pr
 abbrev fields-below : ℕ → In 4 fields-kinds.ps
 fields-below t = and 4 fields-kinds.ps (falls 4 fields-kinds.ps ◌<◌ μ-fields t) fields.Pre
 
-abbrev item-at : ℕ → In 4 item-kinds.ps
-item-at t = and 4 item-kinds.ps (is 4 item-kinds.ps μ-item t) item.Pre
+abbrev item-at : ℕ → In 4 item_kinds.ps
+item-at t = and 4 item_kinds.ps (is 4 item_kinds.ps μ-item t) item.Pre
 
-abbrev item-below : ℕ → In 4 item-kinds.ps
-item-below t = and 4 item-kinds.ps (falls 4 item-kinds.ps ◌<◌ μ-item t) item.Pre
+abbrev item-below : ℕ → In 4 item_kinds.ps
+item-below t = and 4 item_kinds.ps (falls 4 item_kinds.ps ◌<◌ μ-item t) item.Pre
 
 abbrev fields-inv : fields-lts.invariant-loop
 fields-inv lens layout t a0 step n contents bodies i0 j0 sum₀ a₀ left₀ i₀ j₀ sum a left i j =
@@ -110,8 +110,8 @@ fields_told : (t : ℕ) → (c : fields-lts.Joined3 (fields-calls t) (fields_at 
     let c8 = c6.before.before in
     let args = c8.before.before.before.before.args in
     let tree = tree_of args.layout.now c6.word_in.result in
-    c.if3.r ≡ measured (walkItem tree args.contents.now args.bodies.now c8.loop.i c8.loop.j)
-    (length (writeItem tree args.contents.now args.bodies.now c8.loop.i c8.loop.j))
+    c.if3.r ≡ measured (walk_item tree args.contents.now args.bodies.now c8.loop.i c8.loop.j)
+    (length (write_item_lem tree args.contents.now args.bodies.now c8.loop.i c8.loop.j))
 fields_told t c =
     ⊎_elim
     (λ h. h.2 ∙ below-measured _ _ _ c.before.before.before.before.before.look_in.ensures h.0.taken _ _ _ _ _ h.1.ensures)
@@ -119,7 +119,7 @@ fields_told t c =
     c.if3.branch
 
 fields-loop-holds : (t : ℕ) → fields-lts.Need-loop-init (fields-calls t) (fields_at t) fields.Post fields-inv fields-μ
-fields-loop-holds t c = measuring-none _ _ _ _ _ _ _ _ _ _ c.before.before.before.requires.1
+fields-loop-holds t c = measuring_none _ _ _ _ _ _ _ _ _ _ c.before.before.before.requires.1
 
 fields-word-in-requires : (t : ℕ) → fields-lts.Need-word-in-requires (fields-calls t) (fields_at t) fields.Post fields-inv fields-μ
 fields-word-in-requires t c κs = row-there _ _ _ _ _ _ c.before.loop.invariant.row c.loop-test.true
@@ -156,7 +156,7 @@ fields-has-requires t c κs = search rules
 fields-returns : (t : ℕ) → fields-lts.Need-returns (fields-calls t) (fields_at t) fields.Post fields-inv fields-μ
 fields-returns t c =
     let c5 = c.before.before.before.before.before in
-    measuring-short _ _ _ _ _ _ _ _ _ _ _ _ _ _ _ _ c5.before.before.before.loop.invariant c5.before.before.loop-test.true
+    measuring_short _ _ _ _ _ _ _ _ _ _ _ _ _ _ _ _ c5.before.before.before.loop.invariant c5.before.before.loop-test.true
     c5.before.word_in.ensures.0 _ refl
     (plain-field _ _ _ _ _ _ _ c5.before.before.before.loop.invariant.row c5.before.before.loop-test.true c5.before.word_in.ensures.0 _ refl _
     c5.look_in.ensures (sym c.before.before.before.is_plain.ensures ∙ c.before.before.if1.true)) (sym c.before.has.ensures ∙ not-true
@@ -181,7 +181,7 @@ fields-loop-again t c =
     let c4 = c.before.before.before.before in
     let c8 = c4.before.before.before.before in
     rw c.add.ensures
-    (measuring-plain _ _ _ _ _ _ _ _ _ _ _ _ _ _ _ _ c8.before.loop.invariant c8.loop-test.true c4.before.before.before.word_in.ensures.0 _ refl
+    (measuring_plain _ _ _ _ _ _ _ _ _ _ _ _ _ _ _ _ c8.before.loop.invariant c8.loop-test.true c4.before.before.before.word_in.ensures.0 _ refl
     (plain-field _ _ _ _ _ _ _ c8.before.loop.invariant.row c8.loop-test.true c4.before.before.before.word_in.ensures.0 _ refl _
     c4.before.before.look_in.ensures (sym c4.is_plain.ensures ∙ c.before.before.before.if1.true)) (sym c.before.before.has.ensures ∙
     not-false c.before.before.has.result c.before.if2.false))
@@ -214,7 +214,7 @@ fields-loop-again-2 t c =
     let c5 = c.before.before.before.before.before in
     let c11 = c5.before.before.before.before.before.before in
     rw c.add2.ensures
-    (measuring-next _ _ _ _ _ _ _ _ _ _ _ _ _ _ _ _ c11.before.before.loop.invariant c11.before.loop-test.true c11.word_in.ensures.0 _
+    (measuring_next _ _ _ _ _ _ _ _ _ _ _ _ _ _ _ _ c11.before.before.loop.invariant c11.before.loop-test.true c11.word_in.ensures.0 _
     (sym c.before.before.before.r.given.1 ∙ fields_told t (c5)) _ refl _ c.before.with-offset.ensures)
 
 fields-enum-known-r-2 : (t : ℕ) → fields-lts.Need-enum-known-r-2 (fields-calls t) (fields_at t) fields.Post fields-inv fields-μ
@@ -223,11 +223,11 @@ fields-enum-known-r-2 t c = search rules
 fields-returns-2 : (t : ℕ) → fields-lts.Need-returns-2 (fields-calls t) (fields_at t) fields.Post fields-inv fields-μ
 fields-returns-2 t c =
     let c9 = c.before.before.before.before.before.before.before.before.before in
-    measuring-stop _ _ _ _ _ _ _ _ _ _ _ _ _ _ _ _ c9.before.before.loop.invariant c9.before.loop-test.true c9.word_in.ensures.0 _
+    measuring_stop _ _ _ _ _ _ _ _ _ _ _ _ _ _ _ _ c9.before.before.loop.invariant c9.before.loop-test.true c9.word_in.ensures.0 _
     (sym c.before.r2.given.1 ∙ fields_told t c.before.before.before)
 
 fields-returns-3 : (t : ℕ) → fields-lts.Need-returns-3 (fields-calls t) (fields_at t) fields.Post fields-inv fields-μ
-fields-returns-3 t c = measuring-end _ _ _ _ _ _ _ _ _ _ _ _ _ _ _ c.before.loop.invariant c.loop-test.false
+fields-returns-3 t c = measuring_end _ _ _ _ _ _ _ _ _ _ _ _ _ _ _ c.before.loop.invariant c.loop-test.false
 
 item-look-in-requires : (t : ℕ) → item-lts.Need-look-in-requires (item-calls t) (item-at t) item.Post
 item-look-in-requires t c κs = c.before.before.before.requires.1.legal

@@ -6,7 +6,7 @@ use mathlib.Core.Path.{sym, ◌∙◌}
 use native.Mathlib.Omega.{arith}
 use Prim.Native.Nat.{◌+◌}
 use borrow.Author.Tests.{leb-true, lt-ltb, le-ltb}
-use Rattle.bitfield.proofs.Bodies.{small-shifted, shifted-small}
+use Rattle.bitfield.proofs.Bodies.{small_shifted, shifted_small}
 use borrow.Author.Rules.{rules}
 use Rattle.value.proofs.measure.measure_bits.Statement.{statement}
 use Rattle.value.proofs.measure.measure_bits.Tie as tie
@@ -71,7 +71,7 @@ returns-2 c =
       ← c4.has.ensures,
       not-false c4.has.result c3.if1.false,
       lt-ltb _ _
-          (small-shifted _ _ c.before.if2.true),
+          (small_shifted _ _ c.before.if2.true),
       c.capped.ensures,
     )
 
@@ -80,7 +80,7 @@ returns-3 c =
     let c2 = c.before.before in
     let c3 = c2.before in
     let c4 = c3.before in
-    rw (← c4.raw-bytes.ensures, ← c3.has.ensures, not-false c3.has.result c2.if1.false, le-ltb _ _ (shifted-small _ _ c.if2.false))
+    rw (← c4.raw-bytes.ensures, ← c3.has.ensures, not-false c3.has.result c2.if1.false, le-ltb _ _ (shifted_small _ _ c.if2.false))
 
 pub measure-bits-spec : {M : Type 1} → statement M
 measure-bits-spec =

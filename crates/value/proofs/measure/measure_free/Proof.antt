@@ -1,13 +1,13 @@
 -- By the contents word, then by the body. Assumes nothing.
 use native.Mathlib.Omega.{arith}
 use borrow.Author.Tests.{lt-ltb, le-ltb, le-leb, lt-leb}
-use Rattle.value.specs.Walk.{walkItem}
+use Rattle.value.specs.Walk.{walk_item}
 use borrow.Author.Rules.{rules}
 use Rattle.value.proofs.measure.measure_free.Statement.{statement}
 use Rattle.value.proofs.measure.measure_free.Tie as tie
 
 returns : tie.Need-returns
-unfolding walkItem
+unfolding walk_item
 returns c = rw (le-ltb _ _ c.if1.true)
 
 mul-n : tie.Need-overflow-mul-n
@@ -22,7 +22,7 @@ cast-n c =
     omega (arith, c.shared-slice-known3.given c4.args.i)
 
 returns-2 : tie.Need-returns-2
-unfolding walkItem
+unfolding walk_item
 returns-2 c =
     let c2 = c.before.before in
     rw (lt-ltb _ _ c2.if1.false, lt-leb _ _ c.if2.true)
@@ -34,7 +34,7 @@ measure-exact-requires : tie.Need-measure-exact-requires
 measure-exact-requires c κs = search rules
 
 returns-3 : tie.Need-returns-3
-unfolding walkItem
+unfolding walk_item
 returns-3 c =
     let c3 = c.before.before.before in
     rw (lt-ltb _ _ c3.if1.false, le-leb _ _ c.before.if2.false) c.measure-exact.ensures

@@ -1,8 +1,8 @@
 -- By the kind. Assumes nothing.
 use mathlib.Core.Path.{◌∙◌}
 use borrow.Author.Tests.{ne_eqb}
-use Rattle.layout.specs.Tree.{leafOf}
-use Rattle.value.proofs.Walks.{leaf-number, leaf-boolean, leaf-fixed, leaf-free, leaf-vector, leaf-list}
+use Rattle.layout.specs.Tree.{leaf_of}
+use Rattle.value.proofs.Walks.{leaf-number, leaf-boolean, leaf-fixed, leaf_free, leaf-vector, leaf-list}
 use borrow.Author.Rules.{rules}
 use Rattle.value.proofs.measure.measure_leaf.Statement.{statement}
 use Rattle.value.proofs.measure.measure_leaf.Tie as tie
@@ -11,29 +11,29 @@ measure-exact-requires : tie.Need-measure-exact-requires
 measure-exact-requires c κs = search rules
 
 returns : tie.Need-returns
-unfolding leafOf
+unfolding leaf_of
 returns c = rw c.before.if1.true (c.measure-exact.ensures ∙ leaf-number _ _ _ _ _)
 
 measure-boolean-requires : tie.Need-measure-boolean-requires
 measure-boolean-requires c κs = search rules
 
 returns-2 : tie.Need-returns-2
-unfolding leafOf
+unfolding leaf_of
 returns-2 c = rw c.before.if2.true (c.measure-boolean.ensures ∙ leaf-boolean _ _ _ _)
 
 measure-exact-requires-2 : tie.Need-measure-exact-requires-2
 measure-exact-requires-2 c κs = search rules
 
 returns-3 : tie.Need-returns-3
-unfolding leafOf
+unfolding leaf_of
 returns-3 c = rw c.before.if3.true (c.measure-exact2.ensures ∙ leaf-fixed _ _ _ _ _)
 
 measure-free-requires : tie.Need-measure-free-requires
 measure-free-requires c κs = search rules
 
 returns-4 : tie.Need-returns-4
-unfolding leafOf
-returns-4 c = rw c.before.if4.true (c.measure-free.ensures ∙ leaf-free _ _ _ _ _)
+unfolding leaf_of
+returns-4 c = rw c.before.if4.true (c.measure-free.ensures ∙ leaf_free _ _ _ _ _)
 
 raw-bytes-requires : tie.Need-raw-bytes-requires
 raw-bytes-requires c κs = search rules
@@ -42,7 +42,7 @@ measure-bits-requires : tie.Need-measure-bits-requires
 measure-bits-requires c κs = search rules
 
 returns-5 : tie.Need-returns-5
-unfolding leafOf
+unfolding leaf_of
 returns-5 c =
     let c2 = c.before.before in
     rw c2.if5.true (rw c.before.raw-bytes.ensures at c.measure-bits.ensures ∙ leaf-vector _ _ _ _ _)
@@ -51,7 +51,7 @@ measure-list-requires : tie.Need-measure-list-requires
 measure-list-requires c κs = search rules
 
 returns-6 : tie.Need-returns-6
-unfolding leafOf
+unfolding leaf_of
 returns-6 c =
     let c2 = c.before.before in
     let c3 = c2.before in

@@ -8,14 +8,14 @@ use lib.ListN.{length}
 use Rattle.standard.specs.Parts.{join}
 use Rattle.message.specs.Steps.{row_of}
 use Rattle.message.proofs.Rows.{row-there, row-legal, row_below, row_under, row_small, row-few, under-below}
-use Rattle.value.specs.Walk.{walkFields}
-use Rattle.value.specs.Write.{partsFrom}
-use Rattle.value.proofs.Leaves.{part-need, part-done}
+use Rattle.value.specs.Walk.{walk_fields}
+use Rattle.value.specs.Write.{parts_from}
+use Rattle.value.proofs.Leaves.{part_need, part-done}
 use Rattle.value.proofs.Fills.{Writing, item-own, writing-none, writing-upto, writing-there, writing-fixed}
-use Rattle.value.proofs.Fills.{writing-offset, writing-room, writing-next, writing-end, fields_fit}
+use Rattle.value.proofs.Fills.{writing_offset, writing-room, writing-next, writing-end, fields_fit}
 use Rattle.value.proofs.Plain.{below-asked, below_put}
-use Rattle.value.proofs.Made.{own-small, laid-below, laid-row, row-ready, row_done, row-all}
-use Rattle.value.proofs.Made.{bare-need, bare-done, body-need, body-ready, body-done, wrong-never}
+use Rattle.value.proofs.Made.{own-small, laid-below, laid-row, row_ready, row_done, row-all}
+use Rattle.value.proofs.Made.{bare_need, bare-done, body_need, body_ready, body-done, wrong-never}
 use Prim.Native.Nat.{ℕ, ◌<◌}
 use borrow.Fn.Kinds.{In}
 use borrow.Fn.PlainCycle.{Measures, is, falls, and}
@@ -23,7 +23,7 @@ use Rattle.value.proofs.store.write_fields.Reads as fields
 use Rattle.value.proofs.store.write_fields.Kinds as fields-kinds
 use Rattle.value.proofs.store.+write_fields_write_item.Lts-write_fields as fields-lts
 use Rattle.value.proofs.store.write_item.Reads as item
-use Rattle.value.proofs.store.write_item.Kinds as item-kinds
+use Rattle.value.proofs.store.write_item.Kinds as item_kinds
 use Rattle.value.proofs.store.+write_fields_write_item.Lts-write_item as item-lts
 use Rattle.standard.proofs.words.put_four.Reads as put-four-reads
 use Rattle.value.proofs.laid.lay.Reads as lay-reads
@@ -40,7 +40,7 @@ use Rattle.value.proofs.store.+write_fields_write_item.Tie.{close}
 abbrev μ-fields : Measures 5 fields-kinds.ps ℕ
 μ-fields κs a = 2 * a.1.1.1.1.0
 
-abbrev μ-item : Measures 5 item-kinds.ps ℕ
+abbrev μ-item : Measures 5 item_kinds.ps ℕ
 μ-item κs a = 2 * a.1.1.1.1.0 + 1
 
 abbrev fields_at : ℕ → In 5 fields-kinds.ps
@@ -49,16 +49,16 @@ fields_at t = and 5 fields-kinds.ps (is 5 fields-kinds.ps μ-fields t) fields.Pr
 abbrev fields-below : ℕ → In 5 fields-kinds.ps
 fields-below t = and 5 fields-kinds.ps (falls 5 fields-kinds.ps ◌<◌ μ-fields t) fields.Pre
 
-abbrev item-at : ℕ → In 5 item-kinds.ps
-item-at t = and 5 item-kinds.ps (is 5 item-kinds.ps μ-item t) item.Pre
+abbrev item-at : ℕ → In 5 item_kinds.ps
+item-at t = and 5 item_kinds.ps (is 5 item_kinds.ps μ-item t) item.Pre
 
-abbrev item-below : ℕ → In 5 item-kinds.ps
-item-below t = and 5 item-kinds.ps (falls 5 item-kinds.ps ◌<◌ μ-item t) item.Pre
+abbrev item-below : ℕ → In 5 item_kinds.ps
+item-below t = and 5 item_kinds.ps (falls 5 item_kinds.ps ◌<◌ μ-item t) item.Pre
 
 abbrev fields-inv : fields-lts.invariant-loop
 fields-inv out₀ start lens layout t a0 step n contents bodies i0 j0 own p₀ q₀ a₀ left₀ i₀ j₀ out p q a left i j =
-    Writing lens layout t step contents bodies start own (start + length (join (partsFrom (row_of layout t a0 step n) contents bodies i0 j0)))
-    (walkFields (row_of layout t a0 step n) contents bodies i0 j0) (sets out₀ start (join (partsFrom (row_of layout t a0 step n) contents bodies i0 j0))) out₀
+    Writing lens layout t step contents bodies start own (start + length (join (parts_from (row_of layout t a0 step n) contents bodies i0 j0)))
+    (walk_fields (row_of layout t a0 step n) contents bodies i0 j0) (sets out₀ start (join (parts_from (row_of layout t a0 step n) contents bodies i0 j0))) out₀
     out p q a left i j
 
 abbrev fields-μ : fields-lts.decreases-loop
@@ -157,7 +157,7 @@ fields-sub-off : (t : ℕ) → fields-lts.Need-overflow-sub-off (fields-calls t)
 fields-sub-off t c =
     let c4 = c.before.before.before.before in
     omega
-    (arith, (writing-offset c4.loop.invariant c.before.before.before.loop-test.true c.before.before.word_in.ensures.0 refl c.if1.false).0)
+    (arith, (writing_offset c4.loop.invariant c.before.before.before.loop-test.true c.before.before.word_in.ensures.0 refl c.if1.false).0)
 
 fields-put-four-requires : (t : ℕ) → fields-lts.Need-put-four-requires (fields-calls t) (fields_at t) fields.Post fields-inv fields-μ
 fields-put-four-requires t c κs = search rules
@@ -169,7 +169,7 @@ fields-add-p t c =
     let c14 = c8.before.before.before.before.before.before in
     omega (
       arith,
-      (writing-offset c8.loop.invariant c4.before.before.before.loop-test.true c4.before.before.word_in.ensures.0 refl c4.if1.false).1,
+      (writing_offset c8.loop.invariant c4.before.before.before.loop-test.true c4.before.before.word_in.ensures.0 refl c4.if1.false).1,
       c8.loop.invariant.long,
       c14.well-formed,
     )
@@ -250,7 +250,7 @@ item-cast-own t c =
 item-put-part-requires : (t : ℕ) → item-lts.Need-put-part-requires (item-calls t) (item-at t) item.Post
 item-put-part-requires t c κs =
     let c7 = c.before.before.before.before.before.before.before in
-    part-need (item-own _ _ _ _ _ _ _ c7.requires.1.0 c7.requires.1.1 c.before.if1.true) c7.requires.1.2
+    part_need (item-own _ _ _ _ _ _ _ c7.requires.1.0 c7.requires.1.1 c.before.if1.true) c7.requires.1.2
 
 item-same-length : (t : ℕ) → item-lts.Need-same-length (item-calls t) (item-at t) item.Post
 item-same-length t c = search rules
@@ -298,7 +298,7 @@ item-put-part-requires-2 : (t : ℕ) → item-lts.Need-put-part-requires-2 (item
 item-put-part-requires-2 t c κs =
     let c4 = c.before.before.before.before in
     let c16 = c4.before.before.before.before.before.before.before.before.before.before.before.before in
-    part-need
+    part_need
     (row-all _ _ _ _ _ c4.before.before.lay.ensures _ _ _ _ _ _ c4.made.given.1 _ c16.requires.1.0 c16.requires.1.1 _ c.before.if3.true
     c.before.before.copied-bytes.ensures) c16.requires.1.2
 
@@ -319,7 +319,7 @@ item-write-fields-requires t c κs =
     let c4 = c.before.before.before.before in
     let c16 = c4.before.before.before.before.before.before.before.before.before.before.before.before in (
       omega (arith, c16.requires.0),
-      row-ready _ _ _ _ _ _ _ _ _ c4.before.before.lay.ensures _ _ _ _ c4.made.given.1 _ c16.requires.1.0 _
+      row_ready _ _ _ _ _ _ _ _ _ c4.before.before.lay.ensures _ _ _ _ c4.made.given.1 _ c16.requires.1.0 _
           c.before.before.copied-bytes.ensures c.before.if3.false c16.requires.1.1 c16.requires.1.2,
     )
 
@@ -329,7 +329,7 @@ item-enum-told t c = search rules
 item-put-selector-requires : (t : ℕ) → item-lts.Need-put-selector-requires (item-calls t) (item-at t) item.Post
 item-put-selector-requires t c κs =
     let c13 = c.before.before.before.before.before.before.before.before.before.before.before.before.before in
-    bare-need _ _ _ _ _ _ _ _ _ c.before.before.before.lay.ensures c.before.enum_told.given.1 c13.requires.1.2
+    bare_need _ _ _ _ _ _ _ _ _ c.before.before.before.lay.ensures c.before.enum_told.given.1 c13.requires.1.2
 
 item-enum-known-made-2 : (t : ℕ) → item-lts.Need-enum-known-made-2 (item-calls t) (item-at t) item.Post
 item-enum-known-made-2 t c = search rules
@@ -338,14 +338,14 @@ item-put-selector-requires-2 : (t : ℕ) → item-lts.Need-put-selector-requires
 item-put-selector-requires-2 t c κs =
     let c4 = c.before.before.before.before in
     let c14 = c4.before.before.before.before.before.before.before.before.before.before in
-    body-need _ _ _ _ _ _ _ _ _ c4.lay.ensures _ c.before.before.made2.given.1 c14.requires.1.2
+    body_need _ _ _ _ _ _ _ _ _ c4.lay.ensures _ c.before.before.made2.given.1 c14.requires.1.2
 
 item-write-item-requires : (t : ℕ) → item-lts.Need-write-item-requires (item-calls t) (item-at t) item.Post
 item-write-item-requires t c κs =
     let c6 = c.before.before.before.before.before.before in
     let c18 = c6.before.before.before.before.before.before.before.before.before.before.before.before in
     let below = laid-below _ _ _ _ _ c6.before.before.lay.ensures _ c6.made2.given.1 in
-    let ready = body-ready _ _ _ _ _ _ _ _ _ c6.before.before.lay.ensures _ c6.made2.given.1 _ _
+    let ready = body_ready _ _ _ _ _ _ _ _ _ c6.before.before.lay.ensures _ c6.made2.given.1 _ _
     c.before.before.before.put-selector2.ensures c18.requires.1.1 c18.requires.1.2 in
     (omega (arith, c18.requires.0, below), (under-below _ _ _ _ (omega (arith, below)) c18.requires.1.0, ready.0, ready.1))
 

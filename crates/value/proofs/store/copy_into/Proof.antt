@@ -2,7 +2,7 @@
 use native.Mathlib.Omega.{arith}
 use Prim.Native.Nat.{◌-◌}
 use lib.ListN.{length}
-use Rattle.standard.proofs.Store.{Copying, copying-none, copying-more, copying-all}
+use Rattle.standard.proofs.Store.{Copying, copying_none, copying_more, copying_all}
 use Rattle.value.proofs.store.copy_into.Statement.{statement}
 use Rattle.value.proofs.store.copy_into.Tie as tie
 
@@ -13,7 +13,7 @@ abbrev decreases-loop : tie.decreases-loop
 decreases-loop out₀ at src i₀ out i = length src - i
 
 loop-holds : tie.Need-loop-init invariant-loop decreases-loop
-loop-holds c = copying-none _ _ _
+loop-holds c = copying_none _ _ _
 
 shared-slice-read-out : tie.Need-shared-slice-read-out invariant-loop decreases-loop
 shared-slice-read-out c = omega arith
@@ -33,13 +33,13 @@ loop-less c = omega arith
 loop-again : tie.Need-loop-preserved invariant-loop decreases-loop
 loop-again c =
     let c2 = c.before.before in
-    copying-more _ _ _ _ _ c2.loop.invariant c.before.loop-test.true
+    copying_more _ _ _ _ _ c2.loop.invariant c.before.loop-test.true
 
 same_length : tie.Need-same-length invariant-loop decreases-loop
 same_length c = c.before.loop.invariant.long
 
 returns : tie.Need-returns invariant-loop decreases-loop
-returns c = copying-all _ _ _ _ _ c.before.loop.invariant c.loop-test.false
+returns c = copying_all _ _ _ _ _ c.before.loop.invariant c.loop-test.false
 
 pub copy-into-spec : {M : Type 1} → statement M
 copy-into-spec =

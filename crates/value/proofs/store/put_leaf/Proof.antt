@@ -1,7 +1,7 @@
 -- By the kind. Assumes nothing.
 use native.Mathlib.Omega.{arith}
 use borrow.Author.Rules.{rules}
-use Rattle.value.proofs.Leaves.{kind-free, kind-bits, kind-word, part-need, part-done, list-need, list_done}
+use Rattle.value.proofs.Leaves.{kind_free, kind-bits, kind-word, part_need, part-done, list_need_lem, list_done}
 use Rattle.value.proofs.store.put_leaf.Statement.{statement}
 use Rattle.value.proofs.store.put_leaf.Tie as tie
 
@@ -29,7 +29,7 @@ add-next c =
 put-part-requires : tie.Need-put-part-requires
 put-part-requires c κs =
     let p = c.before.before.before.before.before.before.before.requires in
-    part-need (kind-free _ _ _ _ _ p.1 c.before.if1.true).0 p.2
+    part_need (kind_free _ _ _ _ _ p.1 c.before.if1.true).0 p.2
 
 same_length : tie.Need-same-length
 same_length c = search rules
@@ -39,12 +39,12 @@ returns c =
     let c2 = c.before.before in
     let c4 = c2.before.before in
     let p = c4.before.before.before.before.before.before.requires in
-    part-done (kind-free _ _ _ _ _ p.1 c4.if1.true).0 c2.put-part.ensures
+    part-done (kind_free _ _ _ _ _ p.1 c4.if1.true).0 c2.put-part.ensures
 
 put-list-requires : tie.Need-put-list-requires
 put-list-requires c κs =
     let p = c.before.before.before.before.before.before.before.requires in
-    list-need (kind-bits _ _ _ _ _ p.1 p.0 c.before.if1.false).0 p.2
+    list_need_lem (kind-bits _ _ _ _ _ p.1 p.0 c.before.if1.false).0 p.2
 
 same-length-2 : tie.Need-same-length-2
 same-length-2 c = search rules

@@ -1,5 +1,5 @@
 -- The full bytes, then the byte with the mark. Assumes nothing.
-use Rattle.value.proofs.Fills.{mark-need, list-stored}
+use Rattle.value.proofs.Fills.{mark_need, list-stored}
 use borrow.Author.Rules.{rules}
 use Rattle.value.proofs.store.put_list.Statement.{statement}
 use Rattle.value.proofs.store.put_list.Tie as tie
@@ -22,7 +22,7 @@ copy-into-requires c κs = search rules
 mark-byte-requires : tie.Need-mark-byte-requires
 mark-byte-requires c κs =
     let c7 = c.before.before.before.before.before.before.before in
-    mark-need c7.args.bodies.now c7.args.j c7.args.k c7.requires.0 c7.requires.1
+    mark_need c7.args.bodies.now c7.args.j c7.args.k c7.requires.0 c7.requires.1
 
 add-place : tie.Need-overflow-add-place
 add-place c = search rules

@@ -1,7 +1,7 @@
 -- Where `item_told` accepts, the range is one of the bytes' own. Assumes nothing.
 use mathlib.Core.Path.{sym, ◌∙◌}
 use native.Mathlib.Omega.{arith}
-use Rattle.decode.proofs.Items.{item-fine}
+use Rattle.decode.proofs.Items.{item_fine}
 use borrow.Author.Rules.{rules}
 use Rattle.decode.proofs.decoder.SszDecoder.item.Statement.{statement}
 use Rattle.decode.proofs.decoder.SszDecoder.item.Tie as tie
@@ -16,43 +16,43 @@ mul-start : tie.Need-overflow-mul-start
 mul-start c =
     let c2 = c.before.before in
     let c4 = c2.before.before in
-    omega (arith, item-fine _ _ _ (sym c4.item-told.ensures ∙ c2.enum_told.given.1))
+    omega (arith, item_fine _ _ _ (sym c4.item-told.ensures ∙ c2.enum_told.given.1))
 
 array-read-start : tie.Need-array-read-start
 array-read-start c =
     let c2 = c.before.before in
     let c4 = c2.before.before in
-    omega (arith, item-fine _ _ _ (sym c4.item-told.ensures ∙ c2.enum_told.given.1))
+    omega (arith, item_fine _ _ _ (sym c4.item-told.ensures ∙ c2.enum_told.given.1))
 
 mul-end : tie.Need-overflow-mul-end
 mul-end c =
     let c2 = c.before.before in
     let c4 = c2.before.before in
-    omega (arith, item-fine _ _ _ (sym c4.item-told.ensures ∙ c2.enum_told.given.1))
+    omega (arith, item_fine _ _ _ (sym c4.item-told.ensures ∙ c2.enum_told.given.1))
 
 array-read-end : tie.Need-array-read-end
 array-read-end c =
     let c2 = c.before.before in
     let c4 = c2.before.before in
-    omega (arith, item-fine _ _ _ (sym c4.item-told.ensures ∙ c2.enum_told.given.1))
+    omega (arith, item_fine _ _ _ (sym c4.item-told.ensures ∙ c2.enum_told.given.1))
 
 sub-result : tie.Need-overflow-sub-result
 sub-result c =
     let c2 = c.before.before in
     let c4 = c2.before.before in
-    omega (arith, item-fine _ _ _ (sym c4.item-told.ensures ∙ c2.enum_told.given.1))
+    omega (arith, item_fine _ _ _ (sym c4.item-told.ensures ∙ c2.enum_told.given.1))
 
 part-result-start : tie.Need-slice-bounds-result-start
 part-result-start c =
     let c2 = c.before.before in
     let c4 = c2.before.before in
-    omega (arith, item-fine _ _ _ (sym c4.item-told.ensures ∙ c2.enum_told.given.1))
+    omega (arith, item_fine _ _ _ (sym c4.item-told.ensures ∙ c2.enum_told.given.1))
 
 part-result-end : tie.Need-slice-bounds-result-end
 part-result-end c =
     let c2 = c.before.before in
     let c4 = c2.before.before in
-    omega (arith, item-fine _ _ _ (sym c4.item-told.ensures ∙ c2.enum_told.given.1))
+    omega (arith, item_fine _ _ _ (sym c4.item-told.ensures ∙ c2.enum_told.given.1))
 
 enum-told-2 : tie.Need-enum-told-2
 enum-told-2 c = search rules

@@ -1,7 +1,7 @@
 -- The definition goes by the same tests; in a state that is reached, registering is a step. Assumes nothing.
 use mathlib.Core.Path.{◌∙◌}
 use borrow.Author.Tests.{lt-ltb, le-ltb}
-use Rattle.decode.proofs.Walk.{come-step, come-pos}
+use Rattle.decode.proofs.Walk.{come_step, come_pos}
 use borrow.Author.Rules.{rules}
 use Rattle.decode.proofs.decoder.SszDecoderBuilder.admit.Statement.{statement}
 use Rattle.decode.proofs.decoder.SszDecoderBuilder.admit.Tie as tie
@@ -36,8 +36,8 @@ put-requires c κs =
     let small = c6.if1.false in
     let few = c4.if2.false in
     let registered = c3.register-head.ensures in
-    let stepped = come-step _ _ _ _ _ come small registered ∙ c.before.s.given.1 in
-    (few, come-pos _ _ _ _ _ come stepped)
+    let stepped = come_step _ _ _ _ _ come small registered ∙ c.before.s.given.1 in
+    (few, come_pos _ _ _ _ _ come stepped)
 
 enum-known-s-2 : tie.Need-enum-known-s-2
 enum-known-s-2 c = search rules
@@ -56,7 +56,7 @@ returns-3 c =
     let small = c7.if1.false in
     let few = c5.if2.false in
     let registered = c4.register-head.ensures in
-    let stepped = come-step _ _ _ _ _ come small registered ∙ c2.s.given.1 in
+    let stepped = come_step _ _ _ _ _ come small registered ∙ c2.s.given.1 in
     rw (le-ltb _ _ small, lt-ltb _ _ few, stepped, c.put.ensures)
 
 returns-4 : tie.Need-returns-4
@@ -70,7 +70,7 @@ returns-4 c =
     let small = c7.if1.false in
     let few = c5.if2.false in
     let registered = c4.register-head.ensures in
-    let stepped = come-step _ _ _ _ _ come small registered ∙ c2.s2.given.1 in
+    let stepped = come_step _ _ _ _ _ come small registered ∙ c2.s2.given.1 in
     rw (le-ltb _ _ small, lt-ltb _ _ few, stepped) c.refused3.ensures
 
 pub admit-spec : {M : Type 1} → statement M

@@ -1,6 +1,6 @@
 -- By what the test of the state says. Assumes nothing.
 use mathlib.Core.Path.{sym, ◌∙◌}
-use Rattle.decode.specs.Reader.{buildItems}
+use Rattle.decode.specs.Reader.{build_items}
 use Rattle.decode.proofs.Walk.{recalled-says}
 use borrow.Author.Rules.{rules}
 use Rattle.decode.proofs.decoder.SszDecoderBuilder.build.Statement.{statement}
@@ -24,14 +24,14 @@ not-built-requires : tie.Need-not-built-requires
 not-built-requires c κs = search rules
 
 returns : tie.Need-returns
-unfolding buildItems
+unfolding build_items
 returns c =
     let c2 = c.before.before in
     let c4 = c2.before.before in
     rw (sym c4.recall.ensures ∙ c2.s.given.1) c.close.ensures
 
 returns-2 : tie.Need-returns-2
-unfolding buildItems
+unfolding build_items
 returns-2 c =
     let c3 = c.before.before.before in
     rw (sym c3.recall.ensures ∙ c.before.enum_told.given.1) c.not-built.ensures

@@ -1,7 +1,7 @@
 -- By what the test of the state says. Assumes nothing.
 use mathlib.Core.Path.{sym, ◌∙◌}
-use Rattle.decode.specs.Held.{registerItem}
-use Rattle.decode.proofs.Walk.{recalled-come}
+use Rattle.decode.specs.Held.{register_item}
+use Rattle.decode.proofs.Walk.{recalled_come}
 use borrow.Author.Rules.{rules}
 use Rattle.decode.proofs.decoder.SszDecoderBuilder.register.Statement.{statement}
 use Rattle.decode.proofs.decoder.SszDecoderBuilder.register.Tie as tie
@@ -15,7 +15,7 @@ enum-known-s c = search rules
 admit-requires : tie.Need-admit-requires
 admit-requires c κs =
     let c3 = c.before.before.before in
-    recalled-come _ _ _ (sym c3.recall.ensures ∙ c.before.s.given.1)
+    recalled_come _ _ _ (sym c3.recall.ensures ∙ c.before.s.given.1)
 
 enum_told : tie.Need-enum-told
 enum_told c = search rules
@@ -24,14 +24,14 @@ refused-requires : tie.Need-refused-requires
 refused-requires c κs = search rules
 
 returns : tie.Need-returns
-unfolding registerItem
+unfolding register_item
 returns c =
     let c2 = c.before.before in
     let c4 = c2.before.before in
     rw (sym c4.recall.ensures ∙ c2.s.given.1) c.admit.ensures
 
 returns-2 : tie.Need-returns-2
-unfolding registerItem
+unfolding register_item
 returns-2 c =
     let c3 = c.before.before.before in
     rw (sym c3.recall.ensures ∙ c.before.enum_told.given.1) c.refused.ensures

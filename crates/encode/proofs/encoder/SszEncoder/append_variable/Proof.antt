@@ -3,24 +3,24 @@ use mathlib.Core.Path.{refl, sym, ◌∙◌}
 use Prim.Native.Nat.{◌+◌}
 use native.Mathlib.Omega.{arith}
 use borrow.Author.Tests.{le-leb, lt-leb, leb-true, not-true, not-false}
-use Rattle.encode.specs.Encoder.{appendVariable}
+use Rattle.encode.specs.Encoder.{append_variable_lem}
 use borrow.Author.Rules.{rules}
 use Rattle.encode.proofs.encoder.SszEncoder.append_variable.Statement.{statement}
 use Rattle.encode.proofs.encoder.SszEncoder.append_variable.Tie as tie
 
 returns : tie.Need-returns
-unfolding appendVariable
+unfolding append_variable_lem
 returns c = rw (lt-leb _ _ c.if1.true) (refl, (refl, refl))
 
 returns-2 : tie.Need-returns-2
-unfolding appendVariable
+unfolding append_variable_lem
 returns-2 c = rw (le-leb _ _ c.before.if1.false, lt-leb _ _ c.if2.true) (refl, (refl, refl))
 
 is-offset-requires : tie.Need-is-offset-requires
 is-offset-requires c κs = search rules
 
 returns-3 : tie.Need-returns-3
-unfolding appendVariable
+unfolding append_variable_lem
 returns-3 c =
     let c2 = c.before.before in
     let c3 = c2.before in
@@ -31,7 +31,7 @@ add-front : tie.Need-overflow-add-front
 add-front c = search rules
 
 returns-4 : tie.Need-returns-4
-unfolding appendVariable
+unfolding append_variable_lem
 returns-4 c =
     let c2 = c.before.before in
     let c3 = c2.before in
@@ -45,7 +45,7 @@ add_back : tie.Need-overflow-add-back
 add_back c = search rules
 
 returns-5 : tie.Need-returns-5
-unfolding appendVariable
+unfolding append_variable_lem
 returns-5 c =
     let c2 = c.before.before in
     let c3 = c2.before in
@@ -79,7 +79,7 @@ same-length-2 : tie.Need-same-length-2
 same-length-2 c = search rules
 
 returns-6 : tie.Need-returns-6
-unfolding appendVariable
+unfolding append_variable_lem
 returns-6 c =
     let c2 = c.before.before in
     let c6 = c2.before.before.before.before in
