@@ -1,4 +1,6 @@
 // Bitfields: bit lists and bit vectors, held by value and as bodies of a message, as bitfield.rs of ethereum_ssz 0.10.4 has them.
+#![tactic(auto)]
+
 pub mod body;
 mod calls;
 mod fields;
@@ -10,7 +12,7 @@ mod vector;
 use standard::{Refusal, Told};
 
 // A bit list of at most n bits: the first len of its bytes' bits. Any state can be handed in: every call tests it first.
-#[derive(Drop)]
+#[derive(Clone, Copy)]
 pub struct BitList {
     pub bytes: [u8; 256],
     pub len: usize,
@@ -18,7 +20,7 @@ pub struct BitList {
 }
 
 // A bit vector of n bits. Any state can be handed in: every call tests it first.
-#[derive(Drop)]
+#[derive(Clone, Copy)]
 pub struct BitVector {
     pub bytes: [u8; 256],
     pub len: usize,
@@ -26,34 +28,34 @@ pub struct BitVector {
 }
 
 // A field beside what is said of it: the new one, or on a refusal the old one, or an empty one where there is no old one.
-#[derive(Drop)]
+#[derive(Clone, Copy)]
 pub struct ListResult {
     pub field: BitList,
     pub told: Told,
 }
 
-#[derive(Drop)]
+#[derive(Clone, Copy)]
 pub struct VectorResult {
     pub field: BitVector,
     pub told: Told,
 }
 
 // What a bit is, or whether something holds of all bits.
-#[derive(Drop)]
+#[derive(Clone, Copy)]
 pub enum BitResult {
     Is(bool),
     Refused(Refusal),
 }
 
 // A number of bits, or of bytes.
-#[derive(Drop)]
+#[derive(Clone, Copy)]
 pub enum CountResult {
     Count(usize),
     Refused(Refusal),
 }
 
 // Where the highest set bit is, if any is set.
-#[derive(Drop)]
+#[derive(Clone, Copy)]
 pub enum HighestBit {
     At(usize),
     Nothing,
@@ -61,28 +63,28 @@ pub enum HighestBit {
 }
 
 // How many bits a bit list's body has.
-#[derive(Drop)]
+#[derive(Clone, Copy)]
 pub enum BodyBits {
     Bits(usize),
     Refused(Refusal),
 }
 
 // The highest set bit of bits that are well formed.
-#[derive(Drop)]
+#[derive(Clone, Copy)]
 pub enum Top {
     At(usize),
     Nothing,
 }
 
 // Bits in 256 bytes, and how many they are: a list's or a vector's.
-#[derive(Drop)]
+#[derive(Clone, Copy)]
 pub(crate) struct Field {
     pub(crate) bytes: [u8; 256],
     pub(crate) len: usize,
 }
 
 // What a call made, beside what is said of it; no bits on a refusal.
-#[derive(Drop)]
+#[derive(Clone, Copy)]
 pub(crate) struct Outcome {
     pub(crate) field: Field,
     pub(crate) told: Told,

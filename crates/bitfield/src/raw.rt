@@ -11,7 +11,7 @@ ghost use Rattle.bitfield.specs.Facts.{Put, Word};
 use super::body::bytes_for;
 
 // What is done with two bytes; the last one looks at the first byte alone.
-#[derive(Drop)]
+#[derive(Clone, Copy)]
 pub(crate) enum Op {
     And,
     Or,

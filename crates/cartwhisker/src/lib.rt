@@ -1,4 +1,6 @@
 // The message check and the listing with C calling rules, for a host in another language. Each call gives one number of its answer.
+#![tactic(auto)]
+
 ghost use Rattle.std.specs.Prelude.{◌≡◌};
 ghost use Rattle.cartwhisker.specs.Calls.{which_of_lem, check_number, list_number, list_buffer};
 

@@ -2,6 +2,8 @@
 //
 // A record is a word for its operation, a word for the number of its parts, then each part as a word for its length and so
 // many bytes. A word is four bytes and a number eight, little-endian.
+#![tactic(auto)]
+
 ghost use Rattle.std.specs.Prelude.{◌≡◌, ◌+◌, ◌≤◌, length};
 ghost use Rattle.standard.specs.Bytes.{num_at};
 ghost use Rattle.cases.specs.Records.{end_of, next_of, body_of, part_of, record_end_lem, number_at, number_of};
@@ -16,14 +18,14 @@ pub const ANY: usize = 18446744073709551615;
 pub const HEAD: usize = 40;
 
 // How far what begins at a place reaches; nothing where it is not all there.
-#[derive(Drop)]
+#[derive(Clone, Copy)]
 pub enum Extent {
     Whole(usize),
     Cut,
 }
 
 // How a record came out.
-#[derive(Drop)]
+#[derive(Clone, Copy)]
 pub enum Verdict {
     Same,
     Differs,

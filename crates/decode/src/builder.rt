@@ -7,7 +7,7 @@ use standard::words::four_at;
 use standard::{Head, Maybe, Refusal, Told};
 
 // How far registration has come.
-#[derive(Drop)]
+#[derive(Clone, Copy)]
 pub struct Progress {
     pub pos: usize,
     pub first: Maybe,
@@ -15,7 +15,7 @@ pub struct Progress {
 }
 
 // What a registration gives: how far it has come, or a refusal.
-#[derive(Drop)]
+#[derive(Clone, Copy)]
 pub enum Step {
     Next(Progress),
     Refused(Refusal),

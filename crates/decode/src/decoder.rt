@@ -15,7 +15,7 @@ pub const MAX_ITEMS: usize = 64;
 pub const OPEN_END: usize = 18446744073709551615;
 
 // How many items are registered, where the next one's head is, and where each item starts and ends; unused entries are zero.
-#[derive(Drop)]
+#[derive(Clone, Copy)]
 pub struct SszDecoderBuilder {
     pub count: usize,
     pub pos: usize,
@@ -24,14 +24,14 @@ pub struct SszDecoderBuilder {
 }
 
 // The next state, or the old one beside a refusal: an enum holds no array.
-#[derive(Drop)]
+#[derive(Clone, Copy)]
 pub struct Registered {
     pub state: SszDecoderBuilder,
     pub told: Told,
 }
 
 // Where each item lies in the bytes.
-#[derive(Drop)]
+#[derive(Clone, Copy)]
 pub struct SszDecoder {
     pub count: usize,
     pub starts: [usize; 64],
@@ -39,7 +39,7 @@ pub struct SszDecoder {
 }
 
 // The ranges of all items; none beside a refusal.
-#[derive(Drop)]
+#[derive(Clone, Copy)]
 pub struct Built {
     pub told: Told,
     pub decoder: SszDecoder,

@@ -1,4 +1,6 @@
 // Decoding: offsets and the split of a union's bytes, as decode.rs of ethereum_ssz 0.10.4 has them.
+#![tactic(auto)]
+
 pub mod builder;
 pub mod decoder;
 pub mod union_selector;
@@ -14,7 +16,7 @@ use union_selector::{SelectorResult, UnionSelector};
 pub const BYTES_PER_LENGTH_OFFSET: usize = 4;
 
 // An offset, or why there is none.
-#[derive(Drop)]
+#[derive(Clone, Copy)]
 pub enum OffsetResult {
     Offset(usize),
     Refused(Refusal),

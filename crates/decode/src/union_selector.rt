@@ -7,11 +7,11 @@ use standard::Refusal;
 pub const MAX_UNION_SELECTOR: u8 = 127;
 
 // A number of its own kind: made from 0 to 127 alone, and no type's or field's number.
-#[derive(Drop)]
+#[derive(Clone, Copy)]
 pub struct UnionSelector(u8);
 
 // A selector, or why there is none.
-#[derive(Drop)]
+#[derive(Clone, Copy)]
 pub enum SelectorResult {
     Selector(UnionSelector),
     Refused(Refusal),

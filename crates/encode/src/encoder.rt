@@ -10,7 +10,7 @@ use standard::Refusal;
 use standard::words::put_four;
 
 // The size of the fixed portion, and how many bytes of each buffer are used.
-#[derive(Drop)]
+#[derive(Clone, Copy)]
 pub struct SszEncoder {
     pub offset: usize,
     pub fixed_used: usize,
@@ -18,14 +18,14 @@ pub struct SszEncoder {
 }
 
 // The next state, or why there is none.
-#[derive(Drop)]
+#[derive(Clone, Copy)]
 pub enum Appended {
     Next(SszEncoder),
     Refused(Refusal),
 }
 
 // How many bytes of the fixed buffer are the container's, or why there are none.
-#[derive(Drop)]
+#[derive(Clone, Copy)]
 pub enum Finalized {
     Length(usize),
     Refused(Refusal),

@@ -1,4 +1,6 @@
 // Encoding: the bytes of a length, and the encoder of a container, as encode.rs of ethereum_ssz 0.10.4 has them.
+#![tactic(auto)]
+
 pub mod encoder;
 
 ghost use Rattle.std.specs.Prelude.{◌≡◌};
@@ -11,7 +13,7 @@ pub const BYTES_PER_LENGTH_OFFSET: usize = 4;
 pub const MAX_LENGTH_VALUE: usize = 4294967295;
 
 // The bytes of a length, all zero beside a refusal: an enum holds no array.
-#[derive(Drop)]
+#[derive(Clone, Copy)]
 pub struct Encoded {
     pub told: Told,
     pub bytes: [u8; 4],

@@ -1,4 +1,6 @@
 // The check of a layout table, lent as its little-endian bytes, with the fixed length of each of its types.
+#![tactic(auto)]
+
 ghost use Rattle.std.specs.Prelude.{◌≡◌, ◌+◌, ◌≤◌, ◌<◌, ◌^◌, set, true, false};
 ghost use Rattle.standard.specs.Bytes.{word_at};
 ghost use Rattle.standard.specs.Types.{is_width, width};
@@ -15,7 +17,7 @@ use standard::{Refusal, Told};
 pub const NO_BODY: usize = 4294967295;
 
 // What a table says of a type: the kind, where the body starts, and the word behind the kind.
-#[derive(Drop)]
+#[derive(Clone, Copy)]
 pub struct Node {
     pub kind: usize,
     pub at: usize,
@@ -23,7 +25,7 @@ pub struct Node {
 }
 
 // What the check of a table finds: the first bad word, or how far it is well.
-#[derive(Drop)]
+#[derive(Clone, Copy)]
 pub enum Checked {
     Bad(usize),
     Upto(usize),
@@ -31,7 +33,7 @@ pub enum Checked {
 
 // Where the words of some fields end, or the first bad one; what the fields take of a fixed portion, and how long they are, 0 if one of them is
 // of variable size.
-#[derive(Drop)]
+#[derive(Clone, Copy)]
 struct Sizes {
     end: Checked,
     portion: usize,

@@ -1,4 +1,6 @@
 // Reads the file `layout` and a message on standard input, and prints the listing of the message or what is wrong.
+#![tactic(auto)]
+
 mod print;
 
 ghost use Rattle.std.specs.Prelude.{◌≡◌, length};

@@ -5,7 +5,7 @@ use cases::{number, part};
 use standard::Maybe;
 
 // What the operations work on: two fields of at most n bits, the first one's serialization, and how far to shift.
-#[derive(Drop)]
+#[derive(Clone, Copy)]
 struct Operands {
     first: BitList,
     second: BitList,

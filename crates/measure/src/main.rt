@@ -3,6 +3,8 @@
 // The file `plan` in its folder is one record as docs/CASES.md has them, with that page's number of the operation. Its first part is how
 // many rounds there are. Bit operations: N, two serializations, and how far to shift; the held fields are read from the serializations.
 // Messages: layout and message; what is to be written is unfolded first. No buffer is cleared between rounds.
+#![tactic(auto)]
+
 mod lists;
 mod messages;
 mod sums;

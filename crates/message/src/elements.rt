@@ -11,7 +11,7 @@ use layout::Node;
 use standard::{Refusal, Told};
 
 // How many elements a list has, or what is wrong with it.
-#[derive(Drop)]
+#[derive(Clone, Copy)]
 pub(crate) enum Elements {
     Many(usize),
     Refused(Refusal),

@@ -25,7 +25,7 @@ use standard::words::word_at;
 use standard::{Refusal, Told};
 
 // What a union's selector chooses: an option without body, the type of a body, or a refusal.
-#[derive(Drop)]
+#[derive(Clone, Copy)]
 pub(crate) enum Choice {
     Bare,
     Body(usize),
@@ -58,7 +58,7 @@ fn leaf(words: usize, bytes: usize) -> Answer
 }
 
 // What a leaf says: how many contents words and body bytes it has, or what is wrong. Where it lies its caller knows.
-#[derive(Drop)]
+#[derive(Clone, Copy)]
 enum LeafTold {
     Sizes(usize, usize),
     Refused(Refusal),
@@ -269,7 +269,7 @@ fn is_within(n: Node, len: usize) -> bool
 
 // What there is to read inside an item: a refusal; nothing more, and how many records and contents words the item has; or the words that name
 // its fields or elements: the first, how far apart they stand, how many there are, and the contents words of the item itself.
-#[derive(Drop)]
+#[derive(Clone, Copy)]
 enum Inside {
     Wrong(Refusal),
     Counted(usize, usize),

@@ -1,4 +1,6 @@
 // The check of a message under a layout table, and the listing of its items.
+#![tactic(auto)]
+
 mod elements;
 mod fields;
 mod items;
@@ -20,7 +22,7 @@ use standard::Refusal;
 use unfolding::{Place, unfold_item};
 
 // How much there is of an accepted message: records of its listing, contents words and body bytes of its value form.
-#[derive(Drop)]
+#[derive(Clone, Copy)]
 pub struct Counts {
     pub records: usize,
     pub words: usize,
@@ -28,21 +30,21 @@ pub struct Counts {
 }
 
 // What a check answers: how much there is, or the refusal with its item's type and start.
-#[derive(Drop)]
+#[derive(Clone, Copy)]
 pub enum Answer {
     Accepted(Counts),
     Refused(Refusal, usize, usize),
 }
 
 // What a listing answers: how many records, or the refusal with its item's type and start.
-#[derive(Drop)]
+#[derive(Clone, Copy)]
 pub enum Listed {
     Records(usize),
     Refused(Refusal, usize, usize),
 }
 
 // What an unfolding answers: how many contents words and body bytes were filled, or the refusal with its item's type and start.
-#[derive(Drop)]
+#[derive(Clone, Copy)]
 pub enum Unfolded {
     Sizes(usize, usize),
     Refused(Refusal, usize, usize),

@@ -9,7 +9,7 @@ use crate::elements::many_in;
 use layout::Node;
 
 // So many items: the word first names the type of the first, each next one is named step words behind.
-#[derive(Drop)]
+#[derive(Clone, Copy)]
 pub(crate) struct Series {
     pub first: usize,
     pub step: usize,

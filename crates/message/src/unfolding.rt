@@ -20,14 +20,14 @@ use bitfield::body::bitlist_body;
 use layout::Node;
 
 // How many contents words and body bytes are filled.
-#[derive(Drop)]
+#[derive(Clone, Copy)]
 pub(crate) struct Place {
     pub word: usize,
     pub byte: usize,
 }
 
 // What is stored of an item ends here, and these of its fields or elements are left to be unfolded.
-#[derive(Drop)]
+#[derive(Clone, Copy)]
 struct Opened {
     at: Place,
     left: Series,

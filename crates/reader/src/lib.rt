@@ -1,6 +1,8 @@
 // A reader over the lent bytes, as SszDecoder of decode.rs of ethereum_ssz 0.10.4 is: it holds the bytes, where the items lie in them, and
 // the number of the next item. The source's name stands for the ranges themselves here, in crate `decode`. A function over a struct that
 // holds a slice is proved by a walk of its code by hand, so they are few, and leave the work to `step_after` and `SszDecoder::item`.
+#![tactic(auto)]
+
 ghost use Rattle.std.specs.Prelude.{◌≡◌, length};
 ghost use Rattle.decode.specs.Reader.{item_told_lem, item_of};
 ghost use Rattle.reader.specs.Walked.{step_after_lem, reader_at, told_next, item_next, reader_after};
@@ -8,7 +10,7 @@ ghost use Rattle.reader.specs.Walked.{step_after_lem, reader_at, told_next, item
 use decode::decoder::SszDecoder;
 use standard::Told;
 
-#[derive(Drop)]
+#[derive(Clone, Copy)]
 pub struct SszReader<'a> {
     pub bytes: &'a [u8],
     pub ranges: SszDecoder,
@@ -16,14 +18,14 @@ pub struct SszReader<'a> {
 }
 
 // Whether there is a next item, and the number of the one after it; the same number beside a refusal.
-#[derive(Drop)]
+#[derive(Clone, Copy)]
 pub struct ReaderStep {
     pub told: Told,
     pub next: usize,
 }
 
 // An item, or an empty part beside a refusal, and the reader that comes after it.
-#[derive(Drop)]
+#[derive(Clone, Copy)]
 pub struct Taken<'a> {
     pub told: Told,
     pub item: &'a [u8],

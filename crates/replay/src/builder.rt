@@ -6,7 +6,7 @@ use decode::decoder::{Built, Registered, SszDecoder, SszDecoderBuilder};
 use standard::{Maybe, Refusal, Told};
 
 // How many registrations were accepted, and what came of the builder.
-#[derive(Drop)]
+#[derive(Clone, Copy)]
 pub(crate) struct Ran {
     accepted: usize,
     built: Built,

@@ -9,7 +9,7 @@ use standard::words::four_at;
 use standard::{Maybe, Refusal};
 
 // How many items were accepted, and the whole length or a refusal.
-#[derive(Drop)]
+#[derive(Clone, Copy)]
 pub(crate) enum Encoding {
     Whole(usize, usize),
     Stopped(usize, Refusal),

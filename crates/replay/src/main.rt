@@ -1,4 +1,6 @@
 // Reads the file `cases`, asks the library each question in it, compares the whole answer, and prints.
+#![tactic(auto)]
+
 mod answers;
 mod ask;
 mod bits;

@@ -14,7 +14,7 @@ const LARGEST: usize = 262144;
 const NAMED: usize = 10;
 
 // How many records were asked, how many of them differ, and whether the run ended at a bad one.
-#[derive(Drop)]
+#[derive(Clone, Copy)]
 pub(crate) struct Outcome {
     pub(crate) cases: usize,
     pub(crate) differ: usize,
@@ -22,7 +22,7 @@ pub(crate) struct Outcome {
 }
 
 // What stands at a place: a record that ends there, none that could ever be whole, or one of which bytes are still to be read.
-#[derive(Drop)]
+#[derive(Clone, Copy)]
 pub(crate) enum Found {
     Record(usize),
     Bad,
@@ -30,14 +30,14 @@ pub(crate) enum Found {
 }
 
 // Where a stretch of records stopped, at a bad one or where no whole one is left.
-#[derive(Drop)]
+#[derive(Clone, Copy)]
 pub(crate) struct Stretch {
     at: usize,
     outcome: Outcome,
 }
 
 // What a reading of the file gave: how many bytes there are now, or nothing.
-#[derive(Drop)]
+#[derive(Clone, Copy)]
 pub(crate) enum Filled {
     Bytes(usize),
     Ended,
@@ -45,7 +45,7 @@ pub(crate) enum Filled {
 }
 
 // Between two readings: how many bytes are left to ask.
-#[derive(Drop)]
+#[derive(Clone, Copy)]
 pub(crate) struct State {
     have: usize,
     outcome: Outcome,

@@ -122,7 +122,7 @@ pub(crate) fn builder(b: &[u8]) -> Verdict {
 }
 
 // What came of the one call.
-#[derive(Drop)]
+#[derive(Clone, Copy)]
 pub(crate) enum After {
     Next(SszEncoder),
     Whole(usize),

@@ -2,17 +2,16 @@
 --     copies        n fields of one type
 --     by_copies     what holds of every row of such fields holds of every list of elements
 -- So a law about a row of fields, from a law P about each of its types (`All P`), is a law about elements too.
-use mathlib.Core.Path.{◌≡◌, refl, sym, ap, ap₂, ◌∙◌}
+use mathlib.Core.Path.{◌≡◌, refl, ap}
 use mathlib.Core.List.{List, [], ◌∷◌, ◌++◌}
-use Prim.Native.Nat.{ℕ, zero, suc, ◌+◌, ◌*◌, ◌≤◌, ◌<◌, ◌^◌}
+use Prim.Native.Nat.{ℕ, zero, suc, ◌*◌}
 use native.Mathlib.Omega.{arith}
 use lib.ListN.{length, replicate}
-use Rattle.standard.specs.Types.{Ty, Tys, end, field, head, heads, width, portion, times}
+use Rattle.standard.specs.Types.{Ty, Tys, end, field, head, heads, width, portion}
 use Rattle.standard.specs.Parts.{Part, piece, alike}
 use Rattle.standard.specs.Serialize.{Val, Vals, Each, Ok, OkAll, serialize, parts}
 use Rattle.standard.specs.Pieces.{Piece, field_at, next_fixed, next_variable, pieces, field_pieces, alike_pieces}
 use Rattle.standard.specs.declared.Head.{Head}
-use Rattle.standard.specs.declared.Head.TheVariants.{Fixed, Variable}
 
 -- P of the type of each field
 abbrev pub All : (Ty → Type 0) → Tys → Type 0

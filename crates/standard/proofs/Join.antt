@@ -2,13 +2,13 @@
 -- position on and the backs from an offset on; every law here goes along both rows at once. Assumes nothing.
 use mathlib.Core.Path.{◌≡◌, refl, sym, ap, ◌∙◌}
 use mathlib.Core.List.{List, [], ◌∷◌, ◌++◌, append_assoc}
-use Prim.Native.Nat.{ℕ, zero, suc, ◌+◌, ◌-◌, ◌≤◌, ◌<◌, ◌^◌}
+use Prim.Native.Nat.{ℕ, ◌+◌, ◌-◌, ◌≤◌, ◌<◌, ◌^◌}
 use native.Mathlib.Omega.{arith}
 use lib.ListN.{length, take, drop, length-append, length-take, length-drop, take-append-drop}
 use lib.Seq.{take-add, drop-drop, take_at, drop_at, drop-length}
 use Rattle.standard.specs.Bytes.{Bytes, le, four}
 use Rattle.standard.specs.Types.{width, portion}
-use Rattle.standard.specs.Parts.{Part, piece, fixed_lengths, fronts, backs, join, part_heads, next, span_of, part, split, InRange}
+use Rattle.standard.specs.Parts.{Part, piece, fixed_lengths, fronts, backs, join, part_heads, next, span_of, split, InRange}
 use Rattle.standard.specs.declared.Head.{Head}
 use Rattle.standard.specs.declared.Head.TheVariants.{Fixed, Variable}
 use Rattle.standard.proofs.Bytes.{length-le, le-num_at, num_at-le, num_at-drop}

@@ -6,14 +6,14 @@
 -- a union is a matter of its selector. A law about a row of fields comes from the law about each field, `All`.
 use mathlib.Core.Path.{◌≡◌, refl, sym, ap, ap₂, ◌∙◌}
 use mathlib.Core.Logic.{inl, inr}
-use mathlib.Core.List.{List, [], ◌∷◌, ◌++◌, append-nil}
+use mathlib.Core.List.{List, [], ◌∷◌, append-nil}
 use mathlib.Core.Bool.{Bool, true, false}
 use Prim.Native.Nat.{ℕ, zero, suc, ◌+◌, ◌*◌, ◌/◌, ◌≤◌, ◌<◌, ◌^◌}
 use native.Mathlib.Nat.{mul-le-mul_right, eq_of_mul-eq-mul_right}
 use native.Mathlib.Omega.{arith}
-use lib.ListN.{length, length-append, replicate}
+use lib.ListN.{length, replicate}
 use Rattle.standard.specs.Bytes.{Bytes, le, four, num}
-use Rattle.standard.specs.Bits.{bit, pack, marked}
+use Rattle.standard.specs.Bits.{bit}
 use Rattle.standard.specs.Types.{Ty, Tys, Opts, number, boolean, fixed_bytes, free_bytes, bit_vector, bit_list, container, union, list, vector, end, field, over, bare, body, head, head_all, heads, joined, times, width, portion, is_width, NoFields, Rising, LegalTy, LegalAll, LegalOptions}
 use Rattle.standard.specs.Parts.{Part, piece, alike, fixed_lengths, fronts, backs, join, part_heads, next}
 use Rattle.standard.specs.Serialize.{Val, Vals, Option, Each, Ok, OkAll, OkOption, serialize, parts, selected}

@@ -18,14 +18,14 @@ use lib.Dec.{leb, ltb}
 use Rattle.standard.specs.Choice.{pick, and_also}
 use Rattle.standard.specs.Bytes.{le}
 use Rattle.standard.specs.Types.{Ty, Tys, Opts, number, boolean, fixed_bytes, free_bytes, bit_vector, bit_list, container, union, list, vector, end, field, over, bare, body, head}
-use Rattle.standard.specs.Parts.{Part, piece, alike, fixed_lengths, fronts, backs, join}
+use Rattle.standard.specs.Parts.{Part, piece, fixed_lengths, fronts, backs, join}
 use Rattle.standard.specs.Serialize.{Val, Vals, Option, serialize, parts, selected}
-use Rattle.standard.specs.Pieces.{Kind, offset_word, selector_byte, Piece, standing, field_at, next_fixed, next_variable, pieces, field_pieces, option_pieces, alike_pieces, inside, covers, StandsIn, AllStandIn}
+use Rattle.standard.specs.Pieces.{Kind, offset_word, selector_byte, Piece, standing, field_at, next_fixed, next_variable, pieces, field_pieces, option_pieces, inside, covers, StandsIn, AllStandIn}
 use Rattle.standard.specs.declared.Head.{Head}
 use Rattle.standard.specs.declared.Head.TheVariants.{Fixed, Variable}
 use Rattle.standard.proofs.Bytes.{length-le}
 use Rattle.standard.proofs.Join.{length-fronts, length-join}
-use Rattle.standard.proofs.Elements.{All, copies, all-copies, as_list, by_copies, alike-copies, pieces-copies}
+use Rattle.standard.proofs.Elements.{All, copies, all-copies, by_copies, alike-copies, pieces-copies}
 
 -- Counting positions.
 abbrev spread : ℕ → ℕ → ℕ → ℕ

@@ -6,7 +6,6 @@ use mathlib.Core.List.{List, [], ◌∷◌, ◌++◌}
 use mathlib.Core.Bool.{Bool, true, false}
 use Prim.Native.Nat.{ℕ}
 use native.Mathlib.Omega.{arith}
-use lib.ListN.{length, take, drop}
 use Rattle.standard.specs.Bytes.{le}
 use Rattle.standard.specs.Bits.{bit_num, bits_of, packs, pack, marked}
 use Rattle.standard.specs.Types.{Ty, number, boolean, bit_vector, bit_list, container, union, end, field, over, bare, body, head, joined}

@@ -1,5 +1,4 @@
 -- Document 01, "Numbers given back": each refusal's number and its two numbers a and b, 0 where unnamed. Assumes nothing: these are definitions.
-use Rattle.std.specs.Prelude.{ℕ}
 use Rattle.standard.specs.declared.Numbers.{Numbers}
 use Rattle.standard.specs.declared.Refusal.{Refusal}
 use Rattle.standard.specs.declared.Refusal.TheVariants.{InvalidByteLength, InvalidLengthPrefix, OutOfBoundsByte, OffsetIntoFixedPortion, OffsetSkipsVariableBytes, OffsetsAreDecreasing, OffsetOutOfBounds, UnionSelectorInvalid, OutOfBounds, MissingLengthInformation, ExcessBits, InvalidByteCount, BadBoolean, OverLimit, InvalidListFixedBytesLen, BadLayout, TooLarge, NoRoom, BadState, LimitsDiffer, BadValue, BuilderFull}

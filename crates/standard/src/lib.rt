@@ -1,11 +1,13 @@
 // The words that every crate above shares: how a refusal is named, and whether a type is of fixed or of variable size.
+#![tactic(auto)]
+
 pub mod words;
 
 ghost use Rattle.std.specs.Prelude.{◌≡◌};
 ghost use Rattle.standard.specs.Refusals.{numbers_of_lem};
 
 // What is wrong, by document 01's names. The comment before a case is the refusal's number, and its a and b.
-#[derive(Drop)]
+#[derive(Clone, Copy)]
 pub enum Refusal {
     // 1: length, expected
     InvalidByteLength(usize, usize),
@@ -54,7 +56,7 @@ pub enum Refusal {
 }
 
 // A refusal as the numbers that are given back.
-#[derive(Drop)]
+#[derive(Clone, Copy)]
 pub struct Numbers {
     pub number: usize,
     pub a: usize,
@@ -100,28 +102,28 @@ impl Refusal {
 }
 
 // A call that gives nothing but its refusal.
-#[derive(Drop)]
+#[derive(Clone, Copy)]
 pub enum Told {
     Fine,
     Refused(Refusal),
 }
 
 // A number that may be missing, as the port's stand-in for the source's optional ones.
-#[derive(Drop)]
+#[derive(Clone, Copy)]
 pub enum Maybe {
     Just(usize),
     Nothing,
 }
 
 // What stands for an item in the fixed portion of what holds it: so many bytes of its own, or an offset.
-#[derive(Drop)]
+#[derive(Clone, Copy)]
 pub enum Head {
     Fixed(usize),
     Variable,
 }
 
 // Where a field lies in its container's bytes, and where the next field's head is.
-#[derive(Drop)]
+#[derive(Clone, Copy)]
 pub struct Span {
     pub from: usize,
     pub to: usize,

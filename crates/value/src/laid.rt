@@ -12,7 +12,7 @@ use standard::words::word_at;
 
 // Of a row: the table's word that names the first, how many words apart they are named, how many they are, and the contents word that
 // theirs start with. Of a union: an option without body, the type of a body. Or a refusal.
-#[derive(Drop)]
+#[derive(Clone, Copy)]
 pub(crate) enum Laid {
     Fields(usize, usize, usize, usize),
     Bare,

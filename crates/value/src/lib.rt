@@ -1,4 +1,6 @@
 // The value writer: from the form of a value to the message.
+#![tactic(auto)]
+
 mod laid;
 mod measure;
 mod store;
@@ -15,7 +17,7 @@ use standard::Refusal;
 use store::write_item;
 
 // What a writer answers: how many bytes were written, or the refusal.
-#[derive(Drop)]
+#[derive(Clone, Copy)]
 pub enum Written {
     Length(usize),
     Refused(Refusal),

@@ -19,14 +19,14 @@ use layout::Node;
 use standard::Refusal;
 
 // How far the contents and the bodies are used, and the length of what they say, as far as 2^32.
-#[derive(Drop)]
+#[derive(Clone, Copy)]
 pub(crate) struct Mark {
     pub word: usize,
     pub byte: usize,
     pub len: usize,
 }
 
-#[derive(Drop)]
+#[derive(Clone, Copy)]
 pub(crate) enum Measured {
     Upto(Mark),
     Wrong(Refusal),

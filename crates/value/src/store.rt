@@ -21,7 +21,7 @@ use layout::Node;
 use standard::words::put_four;
 
 // How far the contents and the bodies are used, and where what was written ends.
-#[derive(Drop)]
+#[derive(Clone, Copy)]
 pub(crate) struct Stop {
     pub word: usize,
     pub byte: usize,
