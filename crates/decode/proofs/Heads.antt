@@ -5,7 +5,6 @@ use Prim.Native.Nat.{ℕ, ◌+◌, ◌≤◌, ◌<◌, ◌^◌}
 use native.Mathlib.Omega.{arith}
 use borrow.Author.Tests.{lt-ltb, le-ltb}
 use lib.ListN.{length}
-use Rattle.standard.specs.Parts.{split}
 use Rattle.standard.specs.declared.Head.{Head}
 use Rattle.standard.specs.declared.Told.{Told}
 use Rattle.decode.specs.Builder.{fresh, step, follow, register}

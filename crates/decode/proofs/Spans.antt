@@ -9,7 +9,7 @@ use borrow.Author.Tests.{lt-ltb, le-ltb, ne_eqb}
 use lib.ListN.{length, get_or, take, drop, replicate, get_or-append}
 use lib.Seq.{sets, sets-eq}
 use Rattle.standard.specs.Types.{width}
-use Rattle.standard.specs.Parts.{span_of, part, next, split, InRange}
+use Rattle.standard.specs.Parts.{span_of, next, split, InRange}
 use Rattle.standard.specs.declared.Head.{Head}
 use Rattle.standard.specs.declared.Head.TheVariants.{Fixed, Variable}
 use Rattle.standard.specs.declared.Told.{Told}

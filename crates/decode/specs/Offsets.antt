@@ -1,5 +1,5 @@
 -- Offsets: document 01, "Rules of reading". Assumes nothing: these are definitions.
-use Rattle.std.specs.Prelude.{List, Bool, true, false, not, ℕ, length, eqb, ltb}
+use Rattle.std.specs.Prelude.{List, Bool, false, not, ℕ, length, eqb, ltb}
 use Rattle.standard.specs.Choice.{pick}
 use Rattle.standard.specs.Bytes.{four}
 use Rattle.standard.specs.declared.Maybe.{Maybe}

@@ -44,6 +44,7 @@ fn or_just(known: Maybe, n: usize) -> Maybe
 }
 
 // Registers an item that takes n bytes.
+#[tactic(auto, unfolding(crate::specs::Builder::step))]
 fn register_fixed(x: Progress, n: usize, bytes: &[u8]) -> Step
     requires { (x.pos ≤ length bytes.now) × (length bytes.now < 2 ^ 32) }
     ensures { result ≡ step (Head.Fixed n) bytes.now x }
@@ -65,6 +66,7 @@ fn register_fixed(x: Progress, n: usize, bytes: &[u8]) -> Step
 }
 
 // Registers an item that an offset stands for. The fixed portion is not known yet.
+#[tactic(auto, unfolding(crate::specs::Builder::step))]
 fn register_variable(x: Progress, bytes: &[u8]) -> Step
     requires { (x.pos ≤ length bytes.now) × (length bytes.now < 2 ^ 32) }
     ensures { result ≡ step Head.Variable bytes.now x }
@@ -109,6 +111,7 @@ pub fn register_head(x: Progress, head: Head, bytes: &[u8]) -> Step
 }
 
 // Ends the registration over len bytes.
+#[tactic(auto, unfolding(crate::specs::Builder::build))]
 pub fn finalize(x: Progress, len: usize) -> Told
     ensures { result ≡ build len x }
 {

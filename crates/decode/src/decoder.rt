@@ -60,6 +60,7 @@ fn is_zero_from(a: [usize; 64], from: usize) -> bool
 }
 
 // Registers anew an item that the record tells of.
+#[tactic(auto, unfolding(crate::specs::Held::recall))]
 fn recall_item(x: Progress, start: usize, end: usize, bytes: &[u8]) -> Step
     ensures { result ≡ recall start end bytes.now x }
 {
@@ -203,6 +204,7 @@ impl SszDecoderBuilder {
     }
 
     // How far the registrations over these bytes have come that reach this state; refused if none do.
+    #[tactic(auto, unfolding(crate::specs::Held::recalled))]
     fn recall(self, bytes: &[u8]) -> Step
         ensures { result ≡ recalled self bytes.now }
     {
@@ -246,6 +248,7 @@ impl SszDecoderBuilder {
     }
 
     // Registers an item in a state that is reached: 21, 26, then the rules of reading.
+    #[tactic(auto, using(crate::proofs::Walk::come_step, crate::proofs::Walk::come_pos))]
     fn admit(self, x: Progress, head: Head, bytes: &[u8]) -> Registered
         requires { Come x self bytes.now }
         ensures { result ≡ allowed x head bytes.now self }
@@ -269,6 +272,7 @@ impl SszDecoderBuilder {
         }
     }
 
+    #[tactic(auto, using(crate::proofs::Walk::recalled_come), unfolding(crate::specs::Held::register_item))]
     fn register(self, head: Head, bytes: &[u8]) -> Registered
         ensures { result ≡ register_item head bytes.now self }
     {
@@ -340,6 +344,7 @@ impl SszDecoderBuilder {
     }
 
     // The ranges of all items.
+    #[tactic(auto, unfolding(crate::specs::Reader::build_items))]
     pub fn build(self, bytes: &[u8]) -> Built
         ensures { result ≡ build_items bytes.now self }
     {
@@ -353,6 +358,7 @@ impl SszDecoderBuilder {
 
 impl SszDecoder {
     // Whether bytes of this length have the item: past the last, or where its range is not one of theirs, it is 23.
+    #[tactic(auto, unfolding(crate::specs::Reader::item_told_lem))]
     pub fn item_told(self, index: usize, len: usize) -> Told
         ensures { result ≡ item_told_lem self index len }
     {
@@ -375,6 +381,7 @@ impl SszDecoder {
     }
 
     // The item, as a part of the caller's own bytes; the empty part at their start where `item_told` refuses.
+    #[tactic(auto, using(crate::proofs::Items::item_fine))]
     pub fn item<'a>(self, index: usize, bytes: &'a [u8]) -> &'a [u8]
         ensures { result.now ≡ item_of self index bytes.now }
     {
