@@ -41,6 +41,7 @@ struct Sizes {
 }
 
 // A word that is there: no comparison is needed.
+#[tactic(auto, unfolding(crate::specs::Table::count))]
 fn word_in(layout: &[u8], i: usize) -> usize
     requires { i < count layout.now }
     ensures { (result ≡ word_at layout.now i) × (result < 2 ^ 32) }
@@ -60,6 +61,7 @@ fn start_of(layout: &[u8], t: usize) -> usize
 }
 
 // What the table says of the type t.
+#[tactic(auto, unfolding(crate::specs::Tree::node_of))]
 fn look(layout: &[u8], t: usize) -> Node
     ensures { result ≡ node_of layout.now t }
 {
@@ -105,6 +107,7 @@ fn refs_end(layout: &[u8], t: usize, none: bool, a0: usize, n: usize) -> Checked
 }
 
 // A number of 1 to most at the word behind at.
+#[tactic(auto, unfolding(crate::specs::Table::counted, crate::specs::Table::count))]
 fn count_at(layout: &[u8], at: usize, most: usize) -> Checked
     requires { at ≤ 2 ^ 61 }
     ensures { result ≡ counted layout.now at most }
@@ -125,6 +128,7 @@ fn count_at(layout: &[u8], at: usize, most: usize) -> Checked
 }
 
 // The options of the union t at the word at: their number, and as many references.
+#[tactic(auto, unfolding(crate::specs::Table::many))]
 fn union_end(layout: &[u8], t: usize, at: usize) -> Checked
     requires { at ≤ 2 ^ 61 }
     ensures { result ≡ many layout.now t at true 128 }
@@ -137,6 +141,7 @@ fn union_end(layout: &[u8], t: usize, at: usize) -> Checked
 }
 
 // How much of a fixed portion a type with this length takes.
+#[tactic(auto, unfolding(standard::specs::Types::width))]
 fn width_of(len: usize) -> usize
     ensures { result ≡ width (head_of len) }
 {
@@ -175,6 +180,7 @@ fn leaf_ok(kind: usize, w: usize) -> bool
 }
 
 // The fixed length of a type that is no container and no vector.
+#[tactic(auto, unfolding(crate::specs::Tree::leaf_of, standard::specs::Types::head))]
 fn leaf_len(n: Node) -> usize
     requires { n.second < 2 ^ 32 }
     ensures { result ≡ leaf_len_lem n }
@@ -342,6 +348,7 @@ fn container_end(lens: &mut [u32; 64], layout: &[u8], t: usize, at: usize) -> Ch
 }
 
 // The list t at the word at: its element's type, and any greatest count.
+#[tactic(auto, unfolding(crate::specs::Table::list_end_lem, crate::specs::Table::count))]
 fn list_end(layout: &[u8], t: usize, at: usize) -> Checked
     requires { at ≤ 2 ^ 61 }
     ensures { result ≡ list_end_lem layout.now t at }
@@ -449,6 +456,7 @@ fn types_end(lens: &mut [u32; 64], layout: &[u8], n: usize) -> Checked
 }
 
 // The first tests: whole words, the number of types, and that each has a start word.
+#[tactic(auto, unfolding(crate::specs::Table::types_of, crate::specs::Table::count))]
 fn types_of(layout: &[u8]) -> Checked
     ensures { result ≡ types_of layout.now }
 {
