@@ -69,6 +69,7 @@ impl SszEncoder {
     }
 
     // Appends an item of fixed size: its bytes go into the fixed buffer.
+    #[tactic(auto, unfolding(crate::specs::Encoder::append_fixed_lem))]
     pub fn append_fixed(self, item: &[u8], fixed: &mut [u8], variable: &[u8]) -> Appended
         ensures answer { result ≡ append_fixed_lem self item.now fixed.old variable.now }
         ensures front { fixed.new ≡ appended result fixed.old self.fixed_used item.now }
@@ -94,6 +95,7 @@ impl SszEncoder {
     }
 
     // Appends an item of variable size: its offset goes into the fixed buffer, its bytes into the variable one.
+    #[tactic(auto, unfolding(crate::specs::Encoder::append_variable_lem))]
     pub fn append_variable(self, item: &[u8], fixed: &mut [u8], variable: &mut [u8]) -> Appended
         ensures answer { result ≡ append_variable_lem self item.now fixed.old variable.old }
         ensures front { fixed.new ≡ appended result fixed.old self.fixed_used (le 4 (self.offset + self.variable_used)) }
@@ -148,6 +150,7 @@ impl SszEncoder {
     }
 
     // Moves the variable parts behind the fixed ones.
+    #[tactic(auto, unfolding(crate::specs::Finish::finalize))]
     pub fn finalize(self, fixed: &mut [u8], variable: &[u8]) -> Finalized
         ensures answer { result ≡ finalize self fixed.old variable.now }
         ensures front { fixed.new ≡ finished result fixed.old self.fixed_used (take self.variable_used variable.now) }

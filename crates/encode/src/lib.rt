@@ -19,6 +19,7 @@ pub struct Encoded {
     pub bytes: [u8; 4],
 }
 
+#[tactic(auto, unfolding(standard::specs::Bytes::le))]
 pub fn encode_length(len: usize) -> Encoded
     ensures { result ≡ encode_length_lem len }
 {
