@@ -77,6 +77,7 @@ fn exact_check(w: usize, b: &[u8]) -> LeafTold
 }
 
 // A boolean: one byte, 0 or 1.
+#[tactic(auto, unfolding(crate::specs::Read::read_item))]
 fn boolean_check(b: &[u8]) -> LeafTold
     ensures { (t s : ℕ) → placed result t s ≡ read_item (boolean t) b.now s }
 {
@@ -93,6 +94,7 @@ fn boolean_check(b: &[u8]) -> LeafTold
 }
 
 // Free bytes up to their limit; they are not looked at.
+#[tactic(auto, unfolding(crate::specs::Read::read_item))]
 fn free_check(limit: usize, b: &[u8]) -> LeafTold
     ensures { (t s : ℕ) → placed result t s ≡ read_item (free_bytes t limit) b.now s }
 {
@@ -105,6 +107,7 @@ fn free_check(limit: usize, b: &[u8]) -> LeafTold
 }
 
 // A bit vector of n bits.
+#[tactic(auto, unfolding(crate::specs::Read::read_item))]
 fn vector_check(n: usize, b: &[u8]) -> LeafTold
     ensures { (t s : ℕ) → placed result t s ≡ read_item (bit_vector t n) b.now s }
 {
@@ -116,6 +119,7 @@ fn vector_check(n: usize, b: &[u8]) -> LeafTold
 }
 
 // A bit list of at most limit bits.
+#[tactic(auto, unfolding(crate::specs::Read::read_item))]
 fn list_check(limit: usize, b: &[u8]) -> LeafTold
     ensures { (t s : ℕ) → placed result t s ≡ read_item (bit_list t limit) b.now s }
 {
@@ -127,6 +131,7 @@ fn list_check(limit: usize, b: &[u8]) -> LeafTold
 }
 
 // An item of a type that has no lower types.
+#[tactic(auto, unfolding(crate::specs::Read::read_item, layout::specs::Tree::leaf_of))]
 fn leaf_check(n: Node, b: &[u8]) -> LeafTold
     ensures { (t s : ℕ) → placed result t s ≡ read_item (leaf_of t n) b.now s }
 {
@@ -248,6 +253,7 @@ fn with_selector(r: Answer) -> Answer
 }
 
 // A number or fixed bytes: of their items only the length is asked.
+#[tactic(auto, unfolding(crate::specs::Steps::is_plain))]
 fn is_plain(kind: usize) -> bool
     ensures { result ≡ is_plain kind }
 {
