@@ -13,10 +13,9 @@ use lib.Dec.{eqb, ltb, leb}
 use Rattle.layout.specs.Table.{count, may_name_lem, refs, counted, many, container_end_lem, vector_end_lem}
 use Rattle.standard.specs.Choice.{pick}
 use Rattle.standard.specs.Bytes.{word_at}
-use Rattle.standard.specs.Types.{Ty, Tys, boolean, end, field, head, head_all, heads, joined, width, portion, LegalTy}
+use Rattle.standard.specs.Types.{Tys, boolean, head, head_all, heads, joined, width, portion, LegalTy}
 use Rattle.standard.specs.declared.Head.{Head}
 use Rattle.standard.specs.declared.Head.TheVariants.{Fixed, Variable}
-use Rattle.standard.proofs.Laws.{fixed-some}
 use Rattle.layout.specs.Tree.{node_of, leaf_of, fields, trees, tree_of, len_of, head_of, filled}
 use Rattle.layout.specs.Legal.{LegalNode, Legal}
 use Rattle.layout.specs.Steps.{Known, leaf_len_lem, sizes_of, Lengthened, Ended}

@@ -1,26 +1,24 @@
 -- What an accepted table says: the loops of the check, and that its types are legal. Assumes nothing.
 use mathlib.Core.Path.{◌≡◌, refl, sym, ap, ◌∙◌}
-use mathlib.Core.List.{List, [], ◌∷◌}
+use mathlib.Core.List.{List}
 use mathlib.Core.Bool.{Bool, true, false}
-use Prim.Native.Nat.{ℕ, zero, suc, ◌+◌, ◌-◌, ◌*◌, ◌/◌, ◌%◌, ◌≤◌, ◌<◌, ◌^◌}
+use Prim.Native.Nat.{ℕ, zero, suc, ◌+◌, ◌-◌, ◌*◌, ◌%◌, ◌≤◌, ◌<◌, ◌^◌}
 use native.Mathlib.Nat.{add-zero}
 use native.Mathlib.Omega.{arith}
-use borrow.Author.Tests.{eqb-true, eqb-false, ltb-true, ltb-false, leb-true, lt-ltb, le-ltb, ne_eqb, eq-eqb, le-leb, lt-leb}
+use borrow.Author.Tests.{eqb-true, eqb-false, ltb-true, ltb-false, leb-true, lt-ltb, le-ltb, ne_eqb, eq-eqb}
 use lib.ListN.{length, get_or, replicate}
 use lib.Dec.{eqb, leb, ltb}
 use Rattle.standard.specs.Choice.{pick, and_also, or_else}
 use Rattle.standard.specs.Bytes.{Bytes, word_at}
-use Rattle.standard.specs.Types.{Ty, Tys, boolean, head, heads, width, portion, LegalTy}
-use Rattle.standard.specs.declared.Head.{Head}
+use Rattle.standard.specs.Types.{Ty, boolean, head, heads, width, portion}
 use Rattle.standard.proofs.Bytes.{word_bound}
 use Rattle.layout.specs.Tree.{node_of, fields, trees, tree_of, len_of, head_of, lengths, filled}
 use Rattle.layout.specs.Table.{onward, count, may_name_lem, refs, counted, many, container_end_lem, list_end_lem, vector_end_lem, leaf_word, leaf_end_lem, body_end_lem, types_end_lem, types_of, table_of, lengths_of}
 use Rattle.layout.specs.Legal.{Lower, LowerOrBare, LegalNode, Legal}
 use Rattle.layout.specs.Steps.{Known, Typed, Tabled}
-use Rattle.layout.specs.declared.Node.{Node}
 use Rattle.layout.specs.declared.Checked.{Checked}
 use Rattle.layout.specs.declared.Checked.TheVariants.{Bad, Upto}
-use Rattle.layout.proofs.Facts.{trees-get, each-kind, fields-none, heads-at, lower-here, lower-rest, filled-get, length-filled, head_len, legal-below, legal-more}
+use Rattle.layout.proofs.Facts.{trees-get, each-kind, fields-none, heads-at, lower-here, lower-rest, filled-get, length-filled, head_len, legal-more}
 use Rattle.layout.proofs.Trees.{legal_tree, len_small}
 
 -- A found length, as a head.

@@ -1,22 +1,21 @@
 -- The tree of a legal table: its types are legal types of the standard, and their fixed lengths are below 2^32. Assumes nothing.
 --     node_holds    what holds of each kind of type, where it holds of the types that are named there, holds of a type whose lower types have it
 --     by_lower      what holds of a number where it holds of all lower ones holds of every number: with the above, of every type of a table
-use mathlib.Core.Path.{◌≡◌, refl, sym, ap, ◌∙◌}
-use mathlib.Core.List.{List, [], ◌∷◌}
+use mathlib.Core.Path.{◌≡◌, refl}
+use mathlib.Core.List.{List}
 use mathlib.Core.Bool.{Bool, true, false}
-use Prim.Native.Nat.{ℕ, zero, suc, ◌+◌, ◌-◌, ◌*◌, ◌/◌, ◌≤◌, ◌<◌, ◌^◌}
+use Prim.Native.Nat.{ℕ, zero, suc, ◌+◌, ◌*◌, ◌≤◌, ◌<◌, ◌^◌}
 use native.Mathlib.Nat.{add-zero}
 use native.Mathlib.Omega.{arith}
 use borrow.Author.Tests.{eqb-true, eqb-false, ltb-true, ne_eqb}
 use lib.ListN.{get_or}
-use lib.Dec.{eqb, ltb}
-use Rattle.standard.specs.Choice.{pick, or_else}
+use lib.Dec.{eqb}
+use Rattle.standard.specs.Choice.{pick}
 use Rattle.standard.specs.Bytes.{word_at}
-use Rattle.standard.specs.Types.{Ty, Tys, Opts, number, boolean, fixed_bytes, free_bytes, bit_vector, bit_list, container, union, list, vector, end, field, over, bare, body, head, head_all, heads, joined, times, is_width, width, portion, NoFields, NoOptions, Rising, LegalTy, LegalAll, LegalOptions}
+use Rattle.standard.specs.Types.{Ty, Tys, Opts, number, boolean, fixed_bytes, free_bytes, bit_vector, bit_list, container, union, list, vector, end, field, over, bare, body, head, head_all, heads, joined, times, width, portion, NoFields, NoOptions, Rising, LegalTy, LegalAll, LegalOptions}
 use Rattle.standard.specs.declared.Head.{Head}
 use Rattle.standard.specs.declared.Head.TheVariants.{Fixed, Variable}
 use Rattle.standard.proofs.Elements.{All}
-use Rattle.standard.proofs.Laws.{joined-fixed}
 use Rattle.layout.specs.Tree.{node_of, leaf_of, fields, options, trees, tree_of, len_of}
 use Rattle.layout.specs.Table.{leaf_word}
 use Rattle.layout.specs.Legal.{Lower, LowerOrBare, LegalNode, Legal}

@@ -1,7 +1,6 @@
 -- What the steps of the table check ask and give, one to another. Assumes nothing: these are definitions.
-use Rattle.std.specs.Prelude.{ℕ, ◌+◌, ◌≤◌, ◌<◌, ◌^◌, ◌≡◌, List, ltb}
+use Rattle.std.specs.Prelude.{ℕ, ◌+◌, ◌≤◌, ◌≡◌, List, ltb}
 use Rattle.standard.specs.Choice.{pick}
-use Rattle.standard.specs.Bytes.{word_at}
 use Rattle.standard.specs.Types.{Tys, head, head_all, heads, portion}
 use Rattle.layout.specs.Tree.{leaf_of, tree_of, len_of, filled}
 use Rattle.layout.specs.Table.{types_end_lem, table_of}

@@ -1,5 +1,5 @@
 -- The cycle of calls of `fixed_len`, `work_out` and `fields_len`: the type number falls. The loop keeps `Taking`. Assumes nothing.
-use Rattle.std.proofs.Common.{◌≡◌, refl, ◌∙◌, ◌<◌, arith}
+use Rattle.std.proofs.Common.{refl, ◌∙◌, ◌<◌, arith}
 use borrow.Author.Tests.{lt-ltb}
 use Rattle.layout.specs.Table.{count}
 use Rattle.layout.proofs.Facts.{legal_node, legal-below}
@@ -45,11 +45,11 @@ pub fields_len-loop-left-preserved : goal.fields_len-loop-left-preserved
 fields_len-loop-left-preserved t c =
     let there : c.loop-left.a < count c.args.layout.now = omega arith in
     elim c.if-k-eq0.branch [
-      fields_len-then-k-eq0 w ↦
+      | fields_len-then-k-eq0 w ↦
           rw w.fixed-is (taking_variable _ _ _ _ _ _ _ _ _ _ _ _ c.loop-left.invariant c.loop-left-test.true c.word_in-f.ensures.0 c.requires.1
           there _ c.may_name-ok.ensures c.if-not-ok.false c.requires.0.legal c.fixed_len-k.ensures.gives _ c.width_of-portion.ensures
           _ c.fixed_len-k.ensures.found w.if-k-eq0.true)
-    | fields_len-else-k-eq0 w ↦
+      | fields_len-else-k-eq0 w ↦
           rw w.fixed-is (taking_fixed _ _ _ _ _ _ _ _ _ _ _ _ c.loop-left.invariant c.loop-left-test.true c.word_in-f.ensures.0 c.requires.1
           there _ c.may_name-ok.ensures c.if-not-ok.false c.requires.0.legal c.fixed_len-k.ensures.gives _ c.width_of-portion.ensures
           _ c.fixed_len-k.ensures.found w.if-k-eq0.false)

@@ -1,7 +1,6 @@
 -- The types so far are legal, and what is left of the check gives the whole. Assumes nothing.
 use Rattle.std.proofs.Common.{◌≡◌, sym, ◌∙◌, ◌-◌, arith}
 use Rattle.standard.proofs.Bytes.{bytes-known}
-use Rattle.layout.specs.Table.{count}
 use Rattle.layout.proofs.Tables.{typed-bad, checking_start, checking_bad, checking_next, checking_end}
 use Rattle.layout.proofs.types_end.Goals as goal
 

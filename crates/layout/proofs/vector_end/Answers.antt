@@ -24,8 +24,11 @@ overflow_mul-lens c =
 
 pub overflow_cast-lens : goal.overflow_cast-lens
 overflow_cast-lens c =
-    omega (arith, elements-small _ _ _ _ _ _ _ c.requires.0 c.in-Upto.ensures c.in-Upto-elements.ensures c.word_at-f.ensures.0 _ c.width_of.ensures
-    c.if-n-width_of-gt4294967295.false)
+    omega (
+      arith,
+      elements-small _ _ _ _ _ _ _ c.requires.0 c.in-Upto.ensures c.in-Upto-elements.ensures c.word_at-f.ensures.0 _ c.width_of.ensures
+          c.if-n-width_of-gt4294967295.false,
+    )
 
 pub returns-in-Bad : goal.returns-in-Bad
 unfolding vector_end_lem
