@@ -1,7 +1,7 @@
 -- When an expected answer is the one that was given. Assumes nothing: these are definitions.
 use Rattle.std.specs.Prelude.{ℕ, Bool, true, false, List, eqb, length}
 use Rattle.standard.specs.Bytes.{num_at, word_at}
-use Rattle.standard.specs.Choice.{pick, and_also, or_else}
+use Rattle.standard.specs.Choice.{and_also, or_else}
 use Rattle.standard.specs.Refusals.{numbers_of_lem}
 use Rattle.standard.specs.declared.Refusal.{Refusal}
 use Rattle.cases.specs.Records.{part_of}

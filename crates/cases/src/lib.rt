@@ -160,6 +160,7 @@ fn does_agree(expected: usize, x: usize) -> bool
 }
 
 // Whether the expected head is this one, but for what it leaves open.
+#[tactic(auto, unfolding(crate::specs::Answers::head_matches_lem))]
 pub fn head_matches(
     head: &[u8],
     number: usize,

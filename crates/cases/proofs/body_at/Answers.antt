@@ -1,0 +1,25 @@
+-- A part that is all there ends within the bytes. Assumes nothing.
+use Rattle.std.proofs.Common.{arith}
+use Rattle.cases.specs.Records.{body_of}
+use Rattle.cases.proofs.Laws.{end-within}
+use Rattle.cases.proofs.body_at.Goals as goal
+
+pub overflow_add-from : goal.overflow_add-from
+overflow_add-from c = let w = end-within _ _ _ c.in-Whole.ensures in omega arith
+
+pub slice_bounds-result-count : goal.slice_bounds-result-count
+slice_bounds-result-count c = let w = end-within _ _ _ c.in-Whole.ensures in omega arith
+
+pub slice_bounds-result-start : goal.slice_bounds-result-start
+slice_bounds-result-start c = let w = end-within _ _ _ c.in-Whole.ensures in omega arith
+
+pub slice_bounds-result-end : goal.slice_bounds-result-end
+slice_bounds-result-end c = let w = end-within _ _ _ c.in-Whole.ensures in omega arith
+
+pub returns-in-Whole : goal.returns-in-Whole
+unfolding body_of
+returns-in-Whole c = rw (← c.in-Whole.ensures)
+
+pub returns-in-Cut : goal.returns-in-Cut
+unfolding body_of
+returns-in-Cut c = rw (← c.in-Cut.ensures)
