@@ -1,6 +1,3 @@
--- What the walks share, and how a reader goes on.
-pub mod Land
-pub mod Steps
-pub mod Items
+-- How a reader goes on, and that each answer is the only one.
 pub mod Readers
 pub mod Only

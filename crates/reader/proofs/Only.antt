@@ -1,6 +1,6 @@
 -- The contract of each public function has one answer only, and the parts that it hands out have one content. Of `step_after`, `item_after` and `item_then` it
--- is said of the postconditions themselves, for the same arguments at entry; of the functions over a reader, which are walked by hand, of the equations
--- that they promise. Assumes nothing.
+-- is said of the postconditions themselves, for the same arguments at entry; of `new` and `decode_next`, of the equations that they promise. Assumes
+-- nothing.
 use mathlib.Core.Path.{◌≡◌}
 use Prim.Native.Nat.{ℕ}
 use mathlib.Core.List.{List}

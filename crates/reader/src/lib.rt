@@ -1,6 +1,6 @@
 // A reader over the lent bytes, as SszDecoder of decode.rs of ethereum_ssz 0.10.4 is: it holds the bytes, where the items lie in them, and
-// the number of the next item. The source's name stands for the ranges themselves here, in crate `decode`. A function over a struct that
-// holds a slice is proved by a walk of its code by hand, so they are few, and leave the work to `step_after` and `SszDecoder::item`.
+// the number of the next item. The source's name stands for the ranges themselves here, in crate `decode`. The functions over a reader
+// leave the work to `step_after` and `SszDecoder::item`.
 #![tactic(auto)]
 
 ghost use Rattle.std.specs.Prelude.{◌≡◌, length};
@@ -33,6 +33,7 @@ pub struct Taken<'a> {
 }
 
 // The work, on numbers.
+#[tactic(auto, using(decode::proofs::Items::item_fine))]
 pub fn step_after(ranges: SszDecoder, next: usize, len: usize) -> ReaderStep
     ensures { result ≡ step_after_lem ranges next len }
 {
@@ -80,7 +81,7 @@ pub fn decode_next<'a>(r: SszReader<'a>) -> Taken<'a>
     }
 }
 
-// The item behind so many, by a reader. Its parameters are plain, so whoever calls it needs no walk.
+// The item behind so many, by a reader. Its parameters are plain.
 pub fn item_after<'a>(bytes: &'a [u8], ranges: SszDecoder, skip: usize) -> &'a [u8]
     ensures { result.now ≡ item_of ranges skip bytes.now }
 {
