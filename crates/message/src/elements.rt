@@ -97,6 +97,7 @@ fn offset_elements(limit: usize, b: &[u8]) -> Elements
 }
 
 // How many elements of the fixed length k the list b has, or of variable size where k is 0.
+#[tactic(auto, unfolding(crate::specs::Read::elements))]
 pub(crate) fn elements_of(k: usize, limit: usize, b: &[u8]) -> Elements
     requires { length b.now < 2 ^ 32 }
     ensures { result ≡ elements (head_of k) limit b.now }
@@ -138,6 +139,7 @@ pub(crate) fn many_in(lens: &[u32; 64], layout: &[u8], n: Node, t: usize, b: &[u
 }
 
 // What is found of a vector of n elements of the fixed length k: only its length is asked.
+#[tactic(auto, unfolding(crate::specs::Read::vector_told_lem))]
 pub(crate) fn exact_told(k: usize, n: usize, b: &[u8]) -> Told
     requires { (0 < k) × (n * k < 2 ^ 32) }
     ensures { result ≡ vector_told_lem (head_of k) n b.now }

@@ -186,6 +186,7 @@ fn option_of(layout: &[u8], a: usize, n: usize, selector: UnionSelector, len: us
 }
 
 // What the selector of a union chooses among the n options that the words from a on name.
+#[tactic(auto, unfolding(crate::specs::Steps::choose))]
 pub(crate) fn select(layout: &[u8], a: usize, n: usize, b: &[u8]) -> Choice
     requires { a < 2 ^ 34 }
     ensures { result ≡ choose layout.now a n b.now }

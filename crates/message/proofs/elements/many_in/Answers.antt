@@ -1,0 +1,25 @@
+-- A vector's count stands in the table; a list that was accepted says how many it has. Assumes nothing.
+use Rattle.std.proofs.Common.{◌+◌, arith, eq-eqb}
+use Rattle.standard.specs.Bytes.{word_at}
+use Rattle.message.proofs.Rows.{node_legal}
+use Rattle.message.proofs.Repeats.{element-below, element-head, third-there}
+use Rattle.message.proofs.Manys.{many-elements}
+use Rattle.message.proofs.elements.many_in.Goals as goal
+
+pub overflow_add-n : goal.overflow_add-n
+overflow_add-n c = omega (arith, (node_legal _ _ _ _ c.requires.1 c.requires.0).near)
+
+pub word_in-requires : goal.word_in-requires
+word_in-requires c = third-there _ _ _ _ c.requires.1 c.requires.0 c.requires.2
+
+pub bounds-lens-e : goal.bounds-lens-e
+bounds-lens-e c = omega (arith, element-below _ _ _ _ c.requires.1 c.requires.0 c.requires.2, c.requires.0.few)
+
+pub offset_bounds-lens-e : goal.offset_bounds-lens-e
+offset_bounds-lens-e c = omega (arith, element-below _ _ _ _ c.requires.1 c.requires.0 c.requires.2, c.requires.0.few)
+
+pub returns : goal.returns
+returns c =
+    let said = many-elements _ _ _ _ c.requires.1 c.requires.0 c.requires.2 _ 0 c.requires.3 c.if-n-eq9.false in
+    let limit = word_at c.args.layout.now (c.args.n.at + 2) in
+    c.count_of.ensures limit _ (rw (element-head _ _ _ _ c.requires.1 c.requires.0 c.requires.2) said)

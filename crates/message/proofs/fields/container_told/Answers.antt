@@ -1,0 +1,7 @@
+-- A length that is not 0 and is the bytes' says that the fields are of fixed size and take all of them. Assumes nothing.
+use Rattle.std.proofs.Common.{refl}
+use Rattle.message.proofs.Rows.{container-fixed}
+use Rattle.message.proofs.fields.container_told.Goals as goal
+
+pub returns-then-own-b : goal.returns-then-own-b
+returns-then-own-b c = container-fixed _ _ _ _ _ _ c.requires.0 c.requires.3 refl c.if-own-gt0.true c.if-own-b.true c.requires.2
