@@ -1,25 +1,21 @@
 -- Bodies: what the code finds at the last byte is what the definitions say of all bits. Assumes nothing.
-use mathlib.Core.Path.{◌≡◌, refl, sym, ap, ◌∙◌}
-use mathlib.Core.List.{List, [], ◌∷◌, ◌++◌}
-use mathlib.Core.Bool.{Bool, true, false}
+use mathlib.Core.Path.{◌≡◌, refl}
+use mathlib.Core.List.{List, []}
 use Prim.Native.Nat.{ℕ, zero, suc, ◌+◌, ◌-◌, ◌*◌, ◌/◌, ◌%◌, ◌^◌, ◌<◌, ◌≤◌}
 use native.Mathlib.Nat.{mul-le-mul_left, lt_of_mul-lt-mul_left, div-eq_of_lt, lt_of_not-le, div-lt_iff_lt-mul}
 use native.Mathlib.Omega.{arith}
 use borrow.Author.Tests.{lt-ltb, le-ltb, eq-eqb, ne_eqb}
-use lib.Dec.{eqb, ltb}
 use lib.Pow.{pow_mono, pow-add, pow_pos}
 use lib.ListN.{length, get_or, take, drop, take-append-drop}
 use lib.Seq.{drop-cons, length-take-le, drop-length}
 use Rattle.standard.specs.Bytes.{Bytes, num}
-use Rattle.standard.specs.Choice.{pick}
-use Rattle.standard.specs.declared.Refusal.TheVariants.{OutOfBounds, MissingLengthInformation, ExcessBits, InvalidByteCount}
+use Rattle.standard.specs.declared.Refusal.TheVariants.{MissingLengthInformation, ExcessBits, InvalidByteCount}
 use Rattle.standard.proofs.Bytes.{bytes_take, num-bound}
 use Rattle.standard.proofs.Bits.{num-append, pow_bytes}
-use Rattle.bitfield.specs.Body.{highest, all_bits, list_bits_lem, bit_list_body, within}
+use Rattle.bitfield.specs.Body.{list_bits_lem, bit_list_body, within}
 use Rattle.bitfield.specs.Facts.{Used, TopOf}
-use Rattle.standard.specs.declared.Told.{Told}
 use Rattle.standard.specs.declared.Told.TheVariants.{Fine, Refused as Refusing}
-use Rattle.bitfield.specs.declared.BodyBits.TheVariants.{Bits, Refused}
+use Rattle.bitfield.specs.declared.BodyBits.TheVariants.{Refused}
 use Rattle.bitfield.proofs.Tops.{top_used, top_unused, used_all, top_counted, byte_at}
 
 -- A bit list's body with no set bit

@@ -2,17 +2,17 @@
 use mathlib.Core.Path.{◌≡◌, refl, sym, ap, ◌∙◌}
 use mathlib.Core.List.{List, [], ◌∷◌, ◌++◌}
 use mathlib.Core.Bool.{Bool, true, false, not}
-use Prim.Native.Nat.{ℕ, zero, suc, ◌+◌, ◌-◌, ◌*◌, ◌/◌, ◌%◌, ◌^◌, ◌<◌, ◌≤◌, min, max}
-use native.Mathlib.Nat.{pow-succ', zero-min, min-zero, suc-min-suc, zero-max, max-zero, suc-max-suc, mul_comm}
+use Prim.Native.Nat.{ℕ, zero, suc, ◌+◌, ◌-◌, ◌*◌, ◌%◌, ◌^◌, ◌<◌, ◌≤◌, min, max}
+use native.Mathlib.Nat.{pow-succ', mul_comm}
 use native.Mathlib.Omega.{arith}
 use borrow.Author.Tests.{ne_eqb}
 use lib.Bits.{bit_and, bit_or, and_step, or_step, and_zero_l, and_zero_r, or_zero_l, or_zero_r, and_le_l}
 use lib.Count.{ones, ones_in, ones_step}
 use lib.Dec.{eqb}
-use lib.ListN.{length, get_or, set, take, replicate, length-append, length-take, length-replicate}
+use lib.ListN.{length, get_or, set, length-append, length-take, length-replicate}
 use Rattle.standard.specs.Bits.{bit, bit_num}
 use Rattle.standard.specs.Choice.{and_also, or_else}
-use Rattle.standard.proofs.Bits.{bit-bound, half_bit, bit_num-take, bit_num-bound}
+use Rattle.standard.proofs.Bits.{half_bit, bit_num-take}
 use Rattle.bitfield.specs.Bools.{both, either, without, flipped, no_bits, moved, widened, count, none_set}
 
 odd : (x : Bool) (m : ℕ) → (bit x + 2 * m) % 2 ≡ bit x

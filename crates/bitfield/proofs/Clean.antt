@@ -1,14 +1,14 @@
 -- Nothing set behind the end: only the word that holds the end, and those behind it, matter. Assumes nothing.
-use mathlib.Core.Path.{◌≡◌, refl, sym, ap, ◌∙◌}
+use mathlib.Core.Path.{◌≡◌, refl, sym, ◌∙◌}
 use mathlib.Core.List.{List}
 use mathlib.Core.Bool.{Bool, true, false}
 use Prim.Native.Nat.{ℕ, zero, suc, ◌+◌, ◌*◌, ◌/◌, ◌%◌, ◌^◌, ◌<◌, ◌≤◌}
 use native.Mathlib.Omega.{arith}
-use borrow.Author.Tests.{lt-ltb, le-ltb, le-leb, lt-leb, eq-eqb, ne_eqb, leb-true, ltb-true}
+use borrow.Author.Tests.{lt-ltb, le-ltb, le-leb, ne_eqb, leb-true, ltb-true}
 use lib.Dec.{eqb, leb, ltb}
 use lib.Pow.{pow_mono}
 use lib.ListN.{length, drop}
-use Rattle.standard.specs.Bytes.{Bytes, num}
+use Rattle.standard.specs.Bytes.{num}
 use Rattle.standard.specs.Choice.{and_also}
 use Rattle.standard.proofs.Bytes.{num-bound}
 use Rattle.standard.proofs.Bits.{pow_bytes}

@@ -1,7 +1,7 @@
 -- One turn of each loop over raw bytes, and what is there after the last. Assumes nothing.
 use mathlib.Core.Path.{◌≡◌, refl, sym, ap, ◌∙◌}
 use mathlib.Core.List.{List, [], ◌∷◌, ◌++◌, append_assoc}
-use Prim.Native.Nat.{ℕ, zero, suc, ◌+◌, ◌-◌, ◌*◌, ◌/◌, ◌%◌, ◌^◌, ◌<◌, ◌≤◌, min}
+use Prim.Native.Nat.{ℕ, zero, suc, ◌+◌, ◌-◌, ◌*◌, ◌/◌, ◌%◌, ◌^◌, ◌<◌, ◌≤◌}
 use native.Mathlib.Nat.{pow-succ', mul-le-mul_left, mul-le-mul_right, one-le-pow}
 use native.Mathlib.Numerals.{add-one}
 use native.Mathlib.Omega.{arith}
@@ -12,9 +12,8 @@ use lib.Count.{ones, ones_in, ones_cat}
 use lib.Dec.{eqb}
 use lib.Pow.{pow_pos, pow-add}
 use lib.ListN.{length, get_or, set, take, drop, replicate, take-append-drop, length-drop}
-use lib.Seq.{take-suc, drop-cons, append_snoc, set_at, length-take-le, drop-length, drop-drop}
+use lib.Seq.{take-suc, drop-cons, set_at, length-take-le, drop-length, drop-drop}
 use Rattle.standard.specs.Bytes.{Bytes, le, num, num_at, four}
-use Rattle.standard.proofs.Bytes.{num-bound, bytes_take}
 use Rattle.standard.proofs.Bits.{pow_bytes, num-append}
 use Rattle.bitfield.specs.Raw.{zipped, firsts, Raw}
 use Rattle.bitfield.specs.Facts.{Word}

@@ -1,16 +1,13 @@
 -- Laws about bytes: what is done with each pair of bytes is done with the numbers that the bytes say. Assumes nothing.
 use mathlib.Core.Path.{◌≡◌, refl, sym, ap, ◌∙◌}
-use mathlib.Core.List.{List, [], ◌∷◌, ◌++◌}
-use Prim.Native.Nat.{ℕ, zero, suc, ◌+◌, ◌-◌, ◌*◌, ◌/◌, ◌%◌, ◌^◌, ◌<◌, ◌≤◌, min}
-use native.Mathlib.Nat.{pow-succ', mul-le-mul_left}
+use mathlib.Core.List.{List, ◌++◌}
+use Prim.Native.Nat.{ℕ, zero, suc, ◌+◌, ◌-◌, ◌*◌, ◌/◌, ◌%◌, ◌^◌, ◌<◌, ◌≤◌}
+use native.Mathlib.Nat.{pow-succ'}
 use native.Mathlib.Omega.{arith}
-use lib.Bits.{bit_and, bit_or, and_mod, or_mod, and_shr, or_shr, and_le_l, and_le_r, or_add_and}
-use lib.Pow as Pow
-use lib.ListN.{length, get_or, set, take, drop, replicate}
-use lib.Seq.{take-suc, take_all}
-use Rattle.standard.specs.Bytes.{Bytes, le, num}
-use Rattle.standard.proofs.Bytes.{le-num, num-bound}
-use Rattle.standard.proofs.Bits.{pow_bytes}
+use lib.Bits.{bit_and, and_mod, or_mod, and_shr, or_shr, and_le_l}
+use lib.ListN.{take, replicate}
+use Rattle.standard.specs.Bytes.{le, num}
+use Rattle.standard.proofs.Bytes.{le-num}
 use Rattle.bitfield.specs.declared.raw.Op.TheVariants.{And, Or, AndNot, Not}
 use Rattle.bitfield.specs.Raw.{op_of, zipped, firsts, Raw}
 

@@ -1,12 +1,12 @@
 -- One byte of many, and one bit of a byte, as parts of the number that the bytes say. Assumes nothing.
 use mathlib.Core.Path.{◌≡◌, refl, sym, ap, ◌∙◌}
-use mathlib.Core.List.{List, [], ◌∷◌, ◌++◌}
-use mathlib.Core.Bool.{Bool, true, false}
+use mathlib.Core.List.{List, [], ◌∷◌}
+use mathlib.Core.Bool.{Bool}
 use Prim.Native.Nat.{ℕ, zero, suc, ◌+◌, ◌-◌, ◌*◌, ◌/◌, ◌%◌, ◌^◌, ◌<◌, ◌≤◌, min}
 use native.Mathlib.Nat.{pow-succ', mul-le-mul_right, mod-le, add-zero}
 use native.Mathlib.Omega.{arith}
-use lib.Arith.{digits_div, digits_mod}
-use lib.Bits.{bit_and, bit_or, and_step, and_mask, and_le_l, and_le_r, or_add_and, and_shifted, or_shifted}
+use lib.Arith.{digits_div}
+use lib.Bits.{bit_and, bit_or, and_step, and_mask, and_le_l, or_add_and}
 use lib.Pow.{pow_pos, pow_mono, pow-add, shr-shr, shl_exact}
 use lib.Dec.{eqb}
 use lib.Pow as Pow
@@ -14,7 +14,7 @@ use lib.ListN.{length, get_or, set, take, drop, length-set, take-append-drop}
 use lib.Seq.{drop-cons, length-take-le}
 use Rattle.standard.specs.Bytes.{Bytes, le, num}
 use Rattle.standard.specs.Bits.{bit}
-use Rattle.standard.proofs.Bytes.{le-num, num-bound, bytes_take}
+use Rattle.standard.proofs.Bytes.{num-bound, bytes_take}
 use Rattle.standard.proofs.Bits.{pow_bytes, num-append}
 use Rattle.bitfield.specs.Body.{bytes_for_lem}
 use Rattle.bitfield.specs.Raw.{Raw, mask_of}

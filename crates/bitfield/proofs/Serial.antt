@@ -1,23 +1,22 @@
 -- Held bit fields and the standard: what is written is the serialization of the bits, and exactly those bytes are read, as those bits. Assumes nothing.
-use mathlib.Core.Path.{◌≡◌, refl, sym, ap, ◌∙◌}
+use mathlib.Core.Path.{◌≡◌, refl}
 use mathlib.Core.List.{List, ◌++◌}
 use mathlib.Core.Bool.{Bool}
-use Prim.Native.Nat.{ℕ, zero, suc, ◌≤◌, ◌<◌, max, ◌/◌, ◌+◌}
+use Prim.Native.Nat.{ℕ, ◌≤◌, max}
 use native.Mathlib.Omega.{arith}
 use borrow.Author.Tests.{le-leb}
 use lib.ListN.{length, drop}
-use Rattle.standard.specs.Bits.{pack, marked, packs}
+use Rattle.standard.specs.Bits.{pack, marked}
 use Rattle.standard.specs.Bytes.{Bytes, num}
 use Rattle.standard.specs.Types.{bit_list, bit_vector}
 use Rattle.standard.specs.Serialize.{serialize}
-use Rattle.standard.specs.declared.Refusal.{Refusal}
 use Rattle.standard.proofs.Bits.{bits_of, bits_of-bit_num, num-pack, marked-injective, length-bits_of}
 use Rattle.standard.specs.declared.Told.{Told}
 use Rattle.standard.specs.declared.Told.TheVariants.{Fine, Refused}
 use Rattle.bitfield.specs.declared.BodyBits.{BodyBits}
 use Rattle.bitfield.specs.declared.BodyBits.TheVariants.{Bits, Refused as NoBody}
 use Rattle.bitfield.specs.Body.{bit_list_body, bytes_for_lem}
-use Rattle.bitfield.specs.Held.{limited, raw_bytes_lem, and_then, written}
+use Rattle.bitfield.specs.Held.{limited, raw_bytes_lem}
 use Rattle.bitfield.specs.declared.BitList.{BitList}
 use Rattle.bitfield.specs.declared.BitVector.{BitVector}
 use Rattle.bitfield.specs.Lists as Lists
@@ -25,7 +24,6 @@ use Rattle.bitfield.specs.Lists.{list_answer, no_list, of_body, list_from_bytes,
 use Rattle.bitfield.specs.Vectors as Vectors
 use Rattle.bitfield.specs.Vectors.{vector_answer, no_vector, vector_from_bytes, vector_room, vector_buffer}
 use Rattle.bitfield.proofs.Standard.{list-sound, list-complete, vector-complete}
-use Rattle.bitfield.proofs.Tolds.{limited_fine}
 
 small : (n : ℕ) → n ≤ 2048 → limited n ≡ Fine
 unfolding limited

@@ -3,17 +3,17 @@ use mathlib.Core.Path.{◌≡◌, refl, sym, ap, ◌∙◌}
 use mathlib.Core.Logic.{◌↔◌, ⊎_elim}
 use mathlib.Core.List.{List}
 use mathlib.Core.Bool.{Bool, true, false}
-use Prim.Native.Nat.{ℕ, zero, suc, ◌+◌, ◌-◌, ◌*◌, ◌/◌, ◌%◌, ◌^◌, ◌<◌, ◌≤◌}
+use Prim.Native.Nat.{ℕ, ◌+◌, ◌*◌, ◌/◌, ◌^◌, ◌<◌, ◌≤◌}
 use native.Mathlib.Nat.{pow-succ', eq-zero-or-pos}
 use native.Mathlib.Omega.{arith}
 use borrow.Author.Tests.{eqb-true, leb-true, ltb-true, eq-eqb, ne_eqb, le-leb, lt-ltb}
 use lib.Dec.{eqb, leb, ltb}
 use lib.ListN.{length}
 use Rattle.standard.specs.Bytes.{Bytes, num}
-use Rattle.standard.specs.Bits.{pack, marked, bit_num}
+use Rattle.standard.specs.Bits.{pack, marked}
 use Rattle.standard.specs.Choice.{pick}
 use Rattle.standard.specs.declared.Refusal.{Refusal}
-use Rattle.standard.specs.declared.Refusal.TheVariants.{OutOfBounds, ExcessBits, InvalidByteCount}
+use Rattle.standard.specs.declared.Refusal.TheVariants.{ExcessBits}
 use Rattle.standard.proofs.Bytes.{num-bound}
 use Rattle.standard.proofs.Bits.{bits_of, length-bits_of, bit_num-bound, marked-bits, marked-injective, num-marked, length_marked, pack-bits}
 use Rattle.standard.proofs.Bits.{pack-injective, num-pack, length-pack, pow_bytes}
@@ -21,7 +21,6 @@ use Rattle.bitfield.specs.Body.{highest, all_bits, marked_at, bit_list_body, bit
 use Rattle.bitfield.specs.declared.Top.{Top}
 use Rattle.bitfield.specs.declared.Top.TheVariants.{At, Nothing}
 use Rattle.standard.specs.declared.Told.TheVariants.{Fine, Refused as Refusing}
-use Rattle.bitfield.specs.declared.BodyBits.{BodyBits}
 use Rattle.bitfield.specs.declared.BodyBits.TheVariants.{Bits, Refused}
 use Rattle.bitfield.proofs.Tops.{highest-at, highest-says}
 

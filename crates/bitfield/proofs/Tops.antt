@@ -1,25 +1,21 @@
 -- The highest set bit: of a number between two powers of two, and of bytes by their last one that is not zero. Assumes nothing.
-use mathlib.Core.Path.{◌≡◌, refl, sym, ap, ◌∙◌}
+use mathlib.Core.Path.{◌≡◌, refl, ap, ◌∙◌}
 use mathlib.Core.Logic.{⊎_elim}
 use mathlib.Core.List.{List, [], ◌∷◌, ◌++◌}
-use mathlib.Core.Bool.{Bool, true, false}
-use Prim.Native.Nat.{ℕ, zero, suc, ◌+◌, ◌-◌, ◌*◌, ◌/◌, ◌%◌, ◌^◌, ◌<◌, ◌≤◌}
-use native.Mathlib.Nat.{pow-succ', pow-le-pow_right, eq-zero-or-pos}
+use Prim.Native.Nat.{ℕ, zero, suc, ◌+◌, ◌-◌, ◌*◌, ◌/◌, ◌^◌, ◌<◌, ◌≤◌}
+use native.Mathlib.Nat.{pow-succ', eq-zero-or-pos}
 use native.Mathlib.Numerals.{add-one}
 use native.Mathlib.Omega.{arith}
 use mir.Syntax.{w8}
 use mir.Val.{Fits}
-use lib.Dec.{eqb}
 use lib.Count.{count_leading_zeros, leading_top}
-use lib.Pow.{pow_mono}
-use lib.ListN.{length, get_or, take, drop, length-take, take-append-drop}
+use lib.ListN.{length, get_or, take, drop, take-append-drop}
 use lib.Seq.{drop-length, drop-cons, take-suc, length-take-le}
 use Rattle.standard.specs.Bytes.{Bytes, num}
-use Rattle.standard.proofs.Bytes.{bytes_take, num-bound}
-use Rattle.standard.proofs.Bits.{bits_of, num-append, pow_bytes, top_from, top_to}
-use Rattle.bitfield.specs.Body.{on_top, highest, all_bits}
+use Rattle.standard.proofs.Bytes.{bytes_take}
+use Rattle.standard.proofs.Bits.{bits_of, num-append, top_from, top_to}
+use Rattle.bitfield.specs.Body.{highest, all_bits}
 use Rattle.bitfield.specs.Facts.{Used, TopOf}
-use Rattle.bitfield.specs.declared.Top.{Top}
 use Rattle.bitfield.specs.declared.Top.TheVariants.{At, Nothing}
 
 -- No bit of 0 is set.

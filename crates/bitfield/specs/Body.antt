@@ -1,7 +1,7 @@
 -- Bodies of a message: document 01's "Bits", in its order of tests. Assumes nothing: these are definitions.
-use Rattle.std.specs.Prelude.{List, [], ◌∷◌, Bool, true, false, ℕ, zero, suc, ◌+◌, ◌*◌, ◌/◌, ◌%◌, ◌^◌, length, eqb, leb, ltb}
+use Rattle.std.specs.Prelude.{List, [], ◌∷◌, Bool, true, false, ℕ, ◌+◌, ◌*◌, ◌/◌, ◌^◌, length, eqb, leb, ltb}
 use Rattle.standard.specs.Bytes.{num}
-use Rattle.standard.specs.Choice.{pick, and_also}
+use Rattle.standard.specs.Choice.{pick}
 use Rattle.standard.specs.Bits.{bits_of}
 use Rattle.standard.specs.declared.Refusal.TheVariants.{OutOfBounds, MissingLengthInformation, ExcessBits, InvalidByteCount}
 use Rattle.bitfield.specs.declared.Top.{Top}

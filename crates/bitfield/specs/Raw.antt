@@ -1,5 +1,5 @@
 -- Raw bytes: what the loops make of them. Assumes nothing: these are definitions.
-use Rattle.std.specs.Prelude.{◌≡◌, List, [], ◌∷◌, ◌++◌, Bool, ℕ, zero, suc, ◌+◌, ◌-◌, ◌*◌, ◌/◌, ◌%◌, ◌^◌, leb, ltb, length, take, drop, replicate}
+use Rattle.std.specs.Prelude.{◌≡◌, List, [], ◌∷◌, ◌++◌, Bool, ℕ, zero, suc, ◌+◌, ◌-◌, ◌%◌, ◌^◌, leb, ltb, length, take, replicate}
 use Rattle.std.specs.Int.Bits.{bit_and, bit_or}
 use Rattle.standard.specs.Bytes.{Bytes, num}
 use Rattle.standard.specs.Choice.{and_also}

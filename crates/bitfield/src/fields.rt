@@ -13,6 +13,7 @@ use super::raw::{Op, combine, copy_of, cut, ones_in, put_bit, put_raw, shifted};
 use super::{Field, Top};
 
 // How many bits come out.
+#[tactic(auto, unfolding(crate::specs::Held::op_length))]
 pub(crate) fn op_len(op: Op, la: usize, lb: usize) -> usize
     ensures { result ≡ op_length op la lb }
 {

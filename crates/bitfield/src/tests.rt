@@ -8,6 +8,7 @@ use super::raw::is_clean;
 use standard::{Refusal, Told};
 
 // 14
+#[tactic(auto, unfolding(crate::specs::Held::limited))]
 pub(crate) fn limit_told(n: usize) -> Told
     ensures { result ≡ limited n }
 {
@@ -19,6 +20,7 @@ pub(crate) fn limit_told(n: usize) -> Told
 }
 
 // 9
+#[tactic(auto, unfolding(crate::specs::Held::inside))]
 pub(crate) fn inside_told(told: Told, i: usize, len: usize) -> Told
     ensures { result ≡ and_then told (inside i len) }
 {
@@ -30,6 +32,7 @@ pub(crate) fn inside_told(told: Told, i: usize, len: usize) -> Told
 }
 
 // 9
+#[tactic(auto, unfolding(crate::specs::Held::up_to))]
 pub(crate) fn up_to_told(told: Told, k: usize, most: usize) -> Told
     ensures { result ≡ and_then told (up_to k most) }
 {
@@ -41,6 +44,7 @@ pub(crate) fn up_to_told(told: Told, k: usize, most: usize) -> Told
 }
 
 // 12
+#[tactic(auto, unfolding(crate::specs::Held::not_below))]
 pub(crate) fn not_below_told(m: usize, n: usize) -> Told
     requires { n ≤ 2048 }
     ensures { result ≡ not_below m n }
@@ -53,6 +57,7 @@ pub(crate) fn not_below_told(m: usize, n: usize) -> Told
 }
 
 // 22
+#[tactic(auto, unfolding(crate::specs::Held::room_for))]
 pub(crate) fn room_told(told: Told, need: usize, room: usize) -> Told
     ensures { result ≡ and_then told (room_for need room) }
 {
@@ -64,6 +69,7 @@ pub(crate) fn room_told(told: Told, need: usize, room: usize) -> Told
 }
 
 // 14 after other tests
+#[tactic(auto, unfolding(crate::specs::Held::limited))]
 pub(crate) fn limit_after(told: Told, n: usize) -> Told
     ensures { result ≡ and_then told (limited n) }
 {
@@ -85,6 +91,7 @@ fn and_then(first: Told, next: Told) -> Told
 }
 
 // 23, 14
+#[tactic(auto, unfolding(crate::specs::Held::one_told_lem))]
 pub(crate) fn one_told(good: bool, n: usize) -> Told
     ensures { result ≡ one_told_lem good n }
 {
@@ -96,6 +103,7 @@ pub(crate) fn one_told(good: bool, n: usize) -> Told
 }
 
 // 23, 24, 14
+#[tactic(auto, unfolding(crate::specs::Held::two_told_lem))]
 pub(crate) fn two_told(first: bool, second: bool, n: usize, m: usize) -> Told
     ensures { result ≡ two_told_lem (and_also first second) n m }
 {

@@ -1,0 +1,19 @@
+-- The first tests, and the call on the bytes. Assumes nothing.
+use Rattle.std.proofs.Common.{ℕ, sym, ◌∙◌, rules}
+use Rattle.bitfield.specs.Raw.{Raw}
+use Rattle.bitfield.specs.Lists.{list_told, list_is_zero}
+use Rattle.bitfield.proofs.Tolds.{list-kept}
+use Rattle.bitfield.proofs.Results.{raw-known}
+use Rattle.bitfield.proofs.BitList.is_zero.Goals as goal
+
+pub first_told-requires : goal.first_told-requires
+first_told-requires c = raw-known _ (search rules) (λ (i : ℕ). search rules)
+
+pub zero_told-requires : goal.zero_told-requires
+zero_told-requires c =
+    let raw : Raw c.args.self.bytes = raw-known _ (search rules) (λ (i : ℕ). search rules) in
+    λ told. (list-kept _ c.args.self.len c.args.self.n raw (sym c.first_told.ensures ∙ told)).0
+
+pub returns : goal.returns
+unfolding list_is_zero list_told
+returns c = rw c.first_told.ensures at c.zero_told.ensures

@@ -1,0 +1,16 @@
+-- Case by case; arrays of 256 bytes are all that the operation asks for. Assumes nothing.
+use Rattle.std.proofs.Common.{ℕ, rules, arith}
+use Rattle.bitfield.specs.Vectors.{vector_merge}
+use Rattle.bitfield.proofs.Results.{raw-known}
+use Rattle.bitfield.proofs.vector.merged_vectors.Goals as goal
+
+pub combine-bytes-requires : goal.combine-bytes-requires
+combine-bytes-requires c = (omega arith, raw-known _ (search rules) (λ (i : ℕ). search rules), raw-known _ (search rules) (λ (i : ℕ). search rules))
+
+pub returns-in-Refused : goal.returns-in-Refused
+unfolding vector_merge
+returns-in-Refused c = rw c.in-Refused.is
+
+pub returns-in-Fine : goal.returns-in-Fine
+unfolding vector_merge
+returns-in-Fine c = rw (c.in-Fine.is, c.combine-bytes.ensures, c.op_len-len.ensures)
