@@ -16,8 +16,8 @@ of each file and has room for 4,000 records. On standard output there is a line 
 `refused` with number, a, b, type and start (README.md has the table of refusals), or `too long` for a file of more than
 65,536 bytes, or `cut word` for a layout of no whole number of words.
 
-The program is proved before it is built. The first time that takes about 5 minutes on two cores, more where they are slower
-or busy, and later a second if nothing has changed. Standard error says how far it is.
+The program is proved before it is built. The first time that takes some minutes, and later a second if nothing has changed.
+Standard error says how far it is.
 
 Status: 0 accepted; 1 refused, `too long` or `cut word`; 2 misuse; 3 the program is not proved, not built, or fails.
 TEXT
@@ -37,14 +37,13 @@ progress() {
         if [ "$status" = 0 ]; then
             printf '%s\n' "$line" >> "$1"
             case $line in
-                *' (unchanged since '* | 'rt: ok, '*) ;;
-                'rt: '*) say "${line#rt: }" ;;
+                'rt: chose --jobs '*' for '*) say "proving ${line##* }" ;;
             esac
         elif [ "$status" -gt 128 ]; then
             # Time ran out, maybe in the midst of a line.
             printf '%s' "$line" >> "$1"
             if [ "$wait" = 2 ]; then
-                say "proving the program and the five crates below it: the first time that takes about 5 minutes on two cores"
+                say "proving the program and the five crates below it: the first time that takes some minutes"
                 wait=30
             else
                 say "still proving, for $SECONDS seconds now"
@@ -79,17 +78,18 @@ mkdir "$folder/run"
 head -c 65537 < "$layout" > "$folder/run/layout"
 exec 3< "$message"
 
-cd "$root"
+cd "$root/crates/listing"
 command -v rt > /dev/null || broken "there is no rt, which proves and builds the program, on the path"
+# It is run once on nothing, since that is how it is built.
 status=0
-rt check listing 2>&1 < /dev/null 3<&- | progress "$folder/said" 3<&- || status=$?
+rt run 2>&1 > /dev/null < /dev/null 3<&- | progress "$folder/said" 3<&- || status=$?
 if [ "$status" != 0 ]; then
     # Without the hundreds of lines on what is proved.
     grep -v ': proved$' "$folder/said" >&2 || true
-    broken "the program is not proved: rt check listing ended with status $status"
+    broken "the program is not proved: rt run ended with status $status"
 fi
-program=$root/target/bin/listing
-[ -x "$program" ] || broken "there is no program $program, though it is proved: remove target/stamp/listing and try again"
+program=$root/crates/listing/out/listing
+[ -x "$program" ] || broken "there is no program $program, though it is proved: remove crates/listing/out and try again"
 
 cd "$folder/run"
 "$program" <&3 > "$folder/printed" || broken "the program ended with status $?"

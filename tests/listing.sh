@@ -1,7 +1,7 @@
 #!/usr/bin/env bash
 # Runs the program `listing` for every outcome, each in a folder of its own, and compares what it prints.
 set -u
-program=$(cd "$(dirname "$0")/.." && pwd)/target/bin/listing
+program=$(cd "$(dirname "$0")/.." && pwd)/crates/listing/out/listing
 work=$(mktemp -d)
 trap 'rm -rf "$work"' EXIT
 passed=0
@@ -112,7 +112,7 @@ numbers() {
 }
 
 if [ ! -x "$program" ]; then
-    echo "no program at target/bin/listing"
+    echo "no program at crates/listing/out/listing"
     echo "0 passed, 1 failed"
     exit 1
 fi

@@ -9,8 +9,8 @@ trap 'rm -rf "$work"' EXIT
 passed=0
 failed=0
 
-if [ ! -x "$root/target/bin/listing" ]; then
-    echo "no program at target/bin/listing"
+if [ ! -x "$root/crates/listing/out/listing" ]; then
+    echo "no program at crates/listing/out/listing"
     echo "0 passed, 1 failed"
     exit 1
 fi
@@ -21,12 +21,12 @@ cat > "$work/bin/rt" <<'TEXT'
 #!/usr/bin/env bash
 echo "$PWD $*" >> "$STANDIN/calls"
 sleep "${STANDIN_SECONDS:-0}"
-cat "$STANDIN/says"
+cat "$STANDIN/says" >&2
 exit "${STANDIN_STATUS:-0}"
 TEXT
 chmod +x "$work/bin/rt"
 export STANDIN=$work PATH=$work/bin:$PATH
-printf '%s\n' "rt: listing proved (unchanged since it was last proved)" "rt: ok, 6 crates proved" > "$work/says"
+printf '%s\n' "rt: nothing has changed since the last proved build" > "$work/says"
 
 # try COMMAND..: runs it, and keeps what it prints, its status and how often it called `rt`.
 try() {
@@ -85,7 +85,7 @@ cd "$work/here" || exit 1
 try "$run"
 judge "no arguments" 0 "$listed" 1
 quiet "no arguments"
-holds "rt is called in the repository's folder" [ "$(cat "$work/calls")" = "$root check listing" ]
+holds "rt is called in the program's folder" [ "$(cat "$work/calls")" = "$root/crates/listing run" ]
 ln -s "$run" "$work/here/linked"
 try ./linked
 judge "through a link" 0 "$listed" 1
@@ -168,27 +168,26 @@ for word in --help -h; do
 done
 
 # A proof that fails: told whole, tried once, and no status of a bid.
-printf '%s\n' "src/main.rt: error: something" "rt: listing NOT PROVED (exit 1, 3 s)" > "$work/says"
+printf '%s\n' "src/main.rt: error: something" "logic=not-proved" > "$work/says"
 for number in 1 2 3; do
     STANDIN_STATUS=$number try "$run"
     judge "rt ends with $number" 3 "" 1
     tells "rt ends with $number" "src/main.rt: error: something"
-    tells "rt ends with $number" "rt check listing ended with status $number"
+    tells "rt ends with $number" "rt run ended with status $number"
 done
 
 # A proof that takes some time: told on standard error alone.
-printf '%s\n' "rt: standard proved (unchanged since it was last proved)" "logic=proved" "rt: listing proved (31 s)" \
-    "rt: ok, 6 crates proved" > "$work/says"
+printf '%s\n' "logic=proved" "rt: chose --jobs 2 for listing" "fn listing::main: proved" > "$work/says"
 STANDIN_SECONDS=3 try "$run" layout bid
 judge "a proof of some seconds" 0 "$listed" 1
 tells "a proof of some seconds" "proving the program"
 tells "a proof of some seconds" "minutes"
-tells "a proof of some seconds" "listing proved (31 s)"
-holds "what was proved before is not told" [ "$(wc -l < "$work/errors")" = 2 ]
-printf '%s\n' "rt: listing proved (unchanged since it was last proved)" "rt: ok, 6 crates proved" > "$work/says"
+tells "a proof of some seconds" "proving listing"
+holds "nothing else is told" [ "$(wc -l < "$work/errors")" = 2 ]
+printf '%s\n' "rt: nothing has changed since the last proved build" > "$work/says"
 
 # Neither rt nor a program: a copy of run.sh beside nothing, or beside a program that fails.
-mkdir -p "$work/copy/target/bin" "$work/tools"
+mkdir -p "$work/copy/crates/listing/out" "$work/tools"
 cp "$run" "$work/copy"
 for tool in bash cat dirname head mkdir mktemp realpath rm; do ln -s "$(command -v "$tool")" "$work/tools"; done
 PATH=$work/tools try "$run" layout bid
@@ -198,8 +197,8 @@ try "$work/copy/run.sh" layout bid
 judge "no program" 3 "" 1
 tells "no program" "there is no program"
 for ends in "exit 7" "kill -9 \$\$" "echo accepted" "echo 1 2" "exit 0"; do
-    printf '#!/usr/bin/env bash\n%s\n' "$ends" > "$work/copy/target/bin/listing"
-    chmod +x "$work/copy/target/bin/listing"
+    printf '#!/usr/bin/env bash\n%s\n' "$ends" > "$work/copy/crates/listing/out/listing"
+    chmod +x "$work/copy/crates/listing/out/listing"
     try "$work/copy/run.sh" layout bid
     judge "a program that does: $ends" 3 "$(cat "$work/printed")" 1
     tells "a program that does: $ends" "run.sh: the program"

@@ -6,7 +6,7 @@ use std::process::exit;
 
 const NAMED: &str = "CARTWHISKER_LIB";
 const FILE: &str = "libcartwhisker.a";
-const BUILT: &str = "../../target/staticlib/libcartwhisker.a";
+const BUILT: &str = "../../crates/cartwhisker/out/libcartwhisker.a";
 
 /// The archive that `CARTWHISKER_LIB` names (the file, or the folder that holds it), or else the
 /// one that the repository's own build writes.
@@ -31,7 +31,7 @@ fn archive(here: &Path) -> Result<PathBuf, String> {
 fn unbuilt(file: &Path) -> String {
     format!(
         "the archive is not built: there is no file {}. \
-         Run `rt staticlib cartwhisker` in the repository's root, \
+         Run `rt lib` in the repository's crates/cartwhisker, \
          or let {NAMED} name a libcartwhisker.a that is built already.",
         file.display()
     )

@@ -28,7 +28,7 @@ For a tool that counts instructions (./instructions):
       calls it N times and measures nothing
   bench plan CASE unfold|write N FILE
   bench plan-bits CASE N FILE
-      the plan by which target/bin/measure does the same";
+      the plan by which crates/measure/out/measure does the same";
 
 /// How many times as fast.
 fn times(ratio: f64) -> String {

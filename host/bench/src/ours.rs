@@ -10,7 +10,7 @@ use std::path::{Path, PathBuf};
 use std::process::Command;
 use std::time::{Duration, Instant};
 
-const PROGRAM: &str = concat!(env!("CARGO_MANIFEST_DIR"), "/../../target/bin/measure");
+const PROGRAM: &str = concat!(env!("CARGO_MANIFEST_DIR"), "/../../crates/measure/out/measure");
 
 /// What a round of the operation adds to the sum.
 pub struct Adds {
@@ -80,7 +80,7 @@ impl Plan {
         let mut command = Command::new(PROGRAM);
         command.current_dir(&folder.0);
         let start = Instant::now();
-        let output = command.output().expect("target/bin/measure runs");
+        let output = command.output().expect("crates/measure/out/measure runs");
         let time = start.elapsed();
         let said = String::from_utf8_lossy(&output.stdout);
         assert_eq!(said.trim(), self.adds.sum(rounds).to_string(), "operation {}", self.operation);
