@@ -35,7 +35,7 @@ use Rattle.message.specs.declared.items.Choice.{Choice}
 use Rattle.message.proofs.Answers.{right_accepted, then_both, built-both}
 use Rattle.message.proofs.Theorem.{read-start}
 use Rattle.message.proofs.Records.{length-entry, listed-length}
-use Rattle.message.proofs.Rows.{row-none, row_first, row_next, container_tree, span_ok}
+use Rattle.message.proofs.Rows.{Lies, row-none, row_first, row_next, container_tree, span_ok, span_lies}
 use Rattle.message.proofs.Bodies.{fields_read, container-read, bare-says, body-says, body_below, body-read, wrong-read}
 
 -- Acceptance does not depend on where the item starts.
@@ -84,6 +84,9 @@ module _ {lens l : List ℕ} {t a₀ step n : ℕ} {b : List ℕ} {s : ℕ} {o�
   storing_both : IsAccepted (read_item (tree_of l f) (part b w) (s + w.from)) × IsAccepted (read_fields (row_of l t (a + step) step (left - 1)) b w.next s)
   storing_both = then_both (read_item (tree_of l f) (part b w) (s + w.from)) (read_fields (row_of l t (a + step) step (left - 1)) b w.next s)
       (rw (fields_read lens l t a step left f b p g.row z e w q s) at g.accepted)
+
+  pub storing_lies : Lies b w
+  storing_lies = span_lies lens l t a step left f b p g.row z e g.ranges w q
 
   pub storing_accepted : IsAccepted (read_item (tree_of l f) (part b w) (s + w.from))
   storing_accepted = storing_both.0

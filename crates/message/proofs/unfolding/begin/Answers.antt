@@ -1,7 +1,8 @@
 -- What is of fixed size is copied, a leaf is stored, and what is made of others begins with its count. Assumes nothing.
 use Rattle.message.proofs.Rows.{node_legal}
 use Rattle.message.proofs.UnfoldLeaves.{bytes-room, bytes-filled}
-use Rattle.message.proofs.Unfolds.{no_more, item-form, all-stored, leaf_variable, leaf_accepts, leaf-rooms, leaf-filled, parts-left, filling_last, list-below, fixed-list}
+use Rattle.message.proofs.Unfolds.{no_more, item-form, all-stored, leaf_variable, leaf_accepts, leaf-rooms, leaf-filled}
+use Rattle.message.proofs.Unfolds.{parts-left, filling_last, list-below, fixed-list}
 use Rattle.message.proofs.unfolding.begin.Goals as goal
 
 pub put_bytes-end-requires : goal.put_bytes-end-requires
