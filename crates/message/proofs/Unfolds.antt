@@ -31,7 +31,7 @@ use Rattle.message.specs.declared.parts.Series.{Series}
 use Rattle.message.specs.declared.unfolding.Place.{Place}
 use Rattle.message.specs.declared.unfolding.Opened.{Opened}
 use Rattle.message.proofs.Answers.{pick-left, then_both}
-use Rattle.message.proofs.Rows.{under-below, under-head, row-none, row_first, row_next, row-fixed, first_fits, span_ok}
+use Rattle.message.proofs.Rows.{Lies, under-below, under-head, row-none, row_first, row_next, row-fixed, first_fits, span_ok, span_lies}
 use Rattle.message.proofs.Bodies.{fields_read, bare-says, body-says, body_below}
 use Rattle.message.proofs.Entries.{accepted-start, union-never, body-accepted}
 use Rattle.message.proofs.Repeats.{element-below}
@@ -95,6 +95,9 @@ module _ {lens l : List ℕ} {t step : ℕ} {b x y o₀ p₀ : List ℕ} {at₀ 
           IsAccepted (read_fields (row_of l t (a + step) step (left - 1)) b w.next 0)
       filling_both = then_both (read_item (tree_of l f) (part b w) (0 + w.from)) (read_fields (row_of l t (a + step) step (left - 1)) b w.next 0)
           (rw (fields_read lens l t a step left f b q g.row z e w i 0) at g.accepted.accepted)
+
+      pub filling_lies : Lies b w
+      filling_lies = span_lies lens l t a step left f b q g.row z e g.ranges w i
 
       pub filling_accepts : Accepts (tree_of l f) (part b w)
       filling_accepts = accepts_at (tree_of l f) (part b w) (0 + w.from) filling_both.0
