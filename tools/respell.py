@@ -56,6 +56,9 @@ def camel(name):
 
 def new_name(name, known):
     parts = [snake(p) if re.match(r"^[a-z]", p) else p for p in name.split("-")]
+    # Laws on a call, named after it by plain words
+    if parts[-1] in ("only", "kinds", "reads", "leaves") and len(parts) > 2:
+        return "_".join(parts)
     out = parts[0]
     whole = parts[0]
     for p in parts[1:]:

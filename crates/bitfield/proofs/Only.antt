@@ -15,51 +15,51 @@ use Rattle.bitfield.proofs.BitList.resize.Kinds as list_resize_kinds
 use Rattle.bitfield.proofs.BitList.resize.Reads as list_resize-reads
 use Rattle.bitfield.proofs.BitList.clone_zeroed.Kinds as list_clone_zeroed_kinds
 use Rattle.bitfield.proofs.BitList.clone_zeroed.Reads as list_clone_zeroed-reads
-use Rattle.bitfield.proofs.BitList.from_bytes.Kinds as list-from-bytes_kinds
+use Rattle.bitfield.proofs.BitList.from_bytes.Kinds as list_from_bytes_kinds
 use Rattle.bitfield.proofs.BitList.from_bytes.Reads as list-from-bytes-reads
 use Rattle.bitfield.proofs.BitList.intersection.Kinds as list_intersection_kinds
 use Rattle.bitfield.proofs.BitList.intersection.Reads as list_intersection-reads
-use Rattle.bitfield.proofs.BitList.union.Kinds as list-union_kinds
+use Rattle.bitfield.proofs.BitList.union.Kinds as list_union_kinds
 use Rattle.bitfield.proofs.BitList.union.Reads as list-union-reads
 use Rattle.bitfield.proofs.BitList.difference.Kinds as list_difference_kinds
 use Rattle.bitfield.proofs.BitList.difference.Reads as list_difference-reads
 use Rattle.bitfield.proofs.BitList.is_subset.Kinds as list_is_subset_kinds
 use Rattle.bitfield.proofs.BitList.is_subset.Reads as list_is_subset-reads
-use Rattle.bitfield.proofs.BitList.set.Kinds as list-set_kinds
+use Rattle.bitfield.proofs.BitList.set.Kinds as list_set_kinds
 use Rattle.bitfield.proofs.BitList.set.Reads as list-set-reads
-use Rattle.bitfield.proofs.BitList.get.Kinds as list-get_kinds
+use Rattle.bitfield.proofs.BitList.get.Kinds as list_get_kinds
 use Rattle.bitfield.proofs.BitList.get.Reads as list-get-reads
-use Rattle.bitfield.proofs.BitList.highest_set_bit.Kinds as list-highest-set-bit_kinds
+use Rattle.bitfield.proofs.BitList.highest_set_bit.Kinds as list_highest_set_bit_kinds
 use Rattle.bitfield.proofs.BitList.highest_set_bit.Reads as list-highest-set-bit-reads
 use Rattle.bitfield.proofs.BitList.is_zero.Kinds as list_is_zero_kinds
 use Rattle.bitfield.proofs.BitList.is_zero.Reads as list_is_zero-reads
-use Rattle.bitfield.proofs.BitList.num_set_bits.Kinds as list-num-set-bits_kinds
+use Rattle.bitfield.proofs.BitList.num_set_bits.Kinds as list_num_set_bits_kinds
 use Rattle.bitfield.proofs.BitList.num_set_bits.Reads as list-num-set-bits-reads
 use Rattle.bitfield.proofs.BitList.not.Kinds as list_not_kinds
 use Rattle.bitfield.proofs.BitList.not.Reads as list_not-reads
 use Rattle.bitfield.proofs.BitList.shift_up.Kinds as list_shift_up_kinds
 use Rattle.bitfield.proofs.BitList.shift_up.Reads as list_shift_up-reads
-use Rattle.bitfield.proofs.BitVector.new.Kinds as vector-new_kinds
+use Rattle.bitfield.proofs.BitVector.new.Kinds as vector_new_kinds
 use Rattle.bitfield.proofs.BitVector.new.Reads as vector-new-reads
-use Rattle.bitfield.proofs.BitVector.from_bytes.Kinds as vector-from-bytes_kinds
+use Rattle.bitfield.proofs.BitVector.from_bytes.Kinds as vector_from_bytes_kinds
 use Rattle.bitfield.proofs.BitVector.from_bytes.Reads as vector-from-bytes-reads
 use Rattle.bitfield.proofs.BitVector.intersection.Kinds as vector_intersection_kinds
 use Rattle.bitfield.proofs.BitVector.intersection.Reads as vector_intersection-reads
-use Rattle.bitfield.proofs.BitVector.union.Kinds as vector-union_kinds
+use Rattle.bitfield.proofs.BitVector.union.Kinds as vector_union_kinds
 use Rattle.bitfield.proofs.BitVector.union.Reads as vector-union-reads
 use Rattle.bitfield.proofs.BitVector.difference.Kinds as vector_difference_kinds
 use Rattle.bitfield.proofs.BitVector.difference.Reads as vector_difference-reads
 use Rattle.bitfield.proofs.BitVector.is_subset.Kinds as vector_is_subset_kinds
 use Rattle.bitfield.proofs.BitVector.is_subset.Reads as vector_is_subset-reads
-use Rattle.bitfield.proofs.BitVector.set.Kinds as vector-set_kinds
+use Rattle.bitfield.proofs.BitVector.set.Kinds as vector_set_kinds
 use Rattle.bitfield.proofs.BitVector.set.Reads as vector-set-reads
-use Rattle.bitfield.proofs.BitVector.get.Kinds as vector-get_kinds
+use Rattle.bitfield.proofs.BitVector.get.Kinds as vector_get_kinds
 use Rattle.bitfield.proofs.BitVector.get.Reads as vector-get-reads
-use Rattle.bitfield.proofs.BitVector.highest_set_bit.Kinds as vector-highest-set-bit_kinds
+use Rattle.bitfield.proofs.BitVector.highest_set_bit.Kinds as vector_highest_set_bit_kinds
 use Rattle.bitfield.proofs.BitVector.highest_set_bit.Reads as vector-highest-set-bit-reads
 use Rattle.bitfield.proofs.BitVector.is_zero.Kinds as vector_is_zero_kinds
 use Rattle.bitfield.proofs.BitVector.is_zero.Reads as vector_is_zero-reads
-use Rattle.bitfield.proofs.BitVector.num_set_bits.Kinds as vector-num-set-bits_kinds
+use Rattle.bitfield.proofs.BitVector.num_set_bits.Kinds as vector_num_set_bits_kinds
 use Rattle.bitfield.proofs.BitVector.num_set_bits.Reads as vector-num-set-bits-reads
 use Rattle.bitfield.proofs.BitVector.not.Kinds as vector_not_kinds
 use Rattle.bitfield.proofs.BitVector.not.Reads as vector_not-reads
@@ -85,14 +85,14 @@ list_resize_only κs a x y e f p q = only_answer _ x y p q
 pub list_clone_zeroed_only : Only list_clone_zeroed_kinds.ps list_clone_zeroed_kinds.r list_clone_zeroed-reads.Post
 list_clone_zeroed_only κs a x y e f p q = only_answer _ x y p q
 
-pub list-from-bytes_only : Only list-from-bytes_kinds.ps list-from-bytes_kinds.r list-from-bytes-reads.Post
-list-from-bytes_only κs a x y e f p q = only_answer _ x y p q
+pub list_from_bytes_only : Only list_from_bytes_kinds.ps list_from_bytes_kinds.r list-from-bytes-reads.Post
+list_from_bytes_only κs a x y e f p q = only_answer _ x y p q
 
 pub list_intersection_only : Only list_intersection_kinds.ps list_intersection_kinds.r list_intersection-reads.Post
 list_intersection_only κs a x y e f p q = only_answer _ x y p q
 
-pub list-union_only : Only list-union_kinds.ps list-union_kinds.r list-union-reads.Post
-list-union_only κs a x y e f p q = only_answer _ x y p q
+pub list_union_only : Only list_union_kinds.ps list_union_kinds.r list-union-reads.Post
+list_union_only κs a x y e f p q = only_answer _ x y p q
 
 pub list_difference_only : Only list_difference_kinds.ps list_difference_kinds.r list_difference-reads.Post
 list_difference_only κs a x y e f p q = only_answer _ x y p q
@@ -100,20 +100,20 @@ list_difference_only κs a x y e f p q = only_answer _ x y p q
 pub list_is_subset_only : Only list_is_subset_kinds.ps list_is_subset_kinds.r list_is_subset-reads.Post
 list_is_subset_only κs a x y e f p q = only_answer _ x y p q
 
-pub list-set_only : Only list-set_kinds.ps list-set_kinds.r list-set-reads.Post
-list-set_only κs a x y e f p q = only_answer _ x y p q
+pub list_set_only : Only list_set_kinds.ps list_set_kinds.r list-set-reads.Post
+list_set_only κs a x y e f p q = only_answer _ x y p q
 
-pub list-get_only : Only list-get_kinds.ps list-get_kinds.r list-get-reads.Post
-list-get_only κs a x y e f p q = only_answer _ x y p q
+pub list_get_only : Only list_get_kinds.ps list_get_kinds.r list-get-reads.Post
+list_get_only κs a x y e f p q = only_answer _ x y p q
 
-pub list-highest-set-bit_only : Only list-highest-set-bit_kinds.ps list-highest-set-bit_kinds.r list-highest-set-bit-reads.Post
-list-highest-set-bit_only κs a x y e f p q = only_answer _ x y p q
+pub list_highest_set_bit_only : Only list_highest_set_bit_kinds.ps list_highest_set_bit_kinds.r list-highest-set-bit-reads.Post
+list_highest_set_bit_only κs a x y e f p q = only_answer _ x y p q
 
 pub list_is_zero_only : Only list_is_zero_kinds.ps list_is_zero_kinds.r list_is_zero-reads.Post
 list_is_zero_only κs a x y e f p q = only_answer _ x y p q
 
-pub list-num-set-bits_only : Only list-num-set-bits_kinds.ps list-num-set-bits_kinds.r list-num-set-bits-reads.Post
-list-num-set-bits_only κs a x y e f p q = only_answer _ x y p q
+pub list_num_set_bits_only : Only list_num_set_bits_kinds.ps list_num_set_bits_kinds.r list-num-set-bits-reads.Post
+list_num_set_bits_only κs a x y e f p q = only_answer _ x y p q
 
 pub list_not_only : Only list_not_kinds.ps list_not_kinds.r list_not-reads.Post
 list_not_only κs a x y e f p q = only_answer _ x y p q
@@ -121,17 +121,17 @@ list_not_only κs a x y e f p q = only_answer _ x y p q
 pub list_shift_up_only : Only list_shift_up_kinds.ps list_shift_up_kinds.r list_shift_up-reads.Post
 list_shift_up_only κs a x y e f p q = only_answer _ x y p q
 
-pub vector-new_only : Only vector-new_kinds.ps vector-new_kinds.r vector-new-reads.Post
-vector-new_only κs a x y e f p q = only_answer _ x y p q
+pub vector_new_only : Only vector_new_kinds.ps vector_new_kinds.r vector-new-reads.Post
+vector_new_only κs a x y e f p q = only_answer _ x y p q
 
-pub vector-from-bytes_only : Only vector-from-bytes_kinds.ps vector-from-bytes_kinds.r vector-from-bytes-reads.Post
-vector-from-bytes_only κs a x y e f p q = only_answer _ x y p q
+pub vector_from_bytes_only : Only vector_from_bytes_kinds.ps vector_from_bytes_kinds.r vector-from-bytes-reads.Post
+vector_from_bytes_only κs a x y e f p q = only_answer _ x y p q
 
 pub vector_intersection_only : Only vector_intersection_kinds.ps vector_intersection_kinds.r vector_intersection-reads.Post
 vector_intersection_only κs a x y e f p q = only_answer _ x y p q
 
-pub vector-union_only : Only vector-union_kinds.ps vector-union_kinds.r vector-union-reads.Post
-vector-union_only κs a x y e f p q = only_answer _ x y p q
+pub vector_union_only : Only vector_union_kinds.ps vector_union_kinds.r vector-union-reads.Post
+vector_union_only κs a x y e f p q = only_answer _ x y p q
 
 pub vector_difference_only : Only vector_difference_kinds.ps vector_difference_kinds.r vector_difference-reads.Post
 vector_difference_only κs a x y e f p q = only_answer _ x y p q
@@ -139,20 +139,20 @@ vector_difference_only κs a x y e f p q = only_answer _ x y p q
 pub vector_is_subset_only : Only vector_is_subset_kinds.ps vector_is_subset_kinds.r vector_is_subset-reads.Post
 vector_is_subset_only κs a x y e f p q = only_answer _ x y p q
 
-pub vector-set_only : Only vector-set_kinds.ps vector-set_kinds.r vector-set-reads.Post
-vector-set_only κs a x y e f p q = only_answer _ x y p q
+pub vector_set_only : Only vector_set_kinds.ps vector_set_kinds.r vector-set-reads.Post
+vector_set_only κs a x y e f p q = only_answer _ x y p q
 
-pub vector-get_only : Only vector-get_kinds.ps vector-get_kinds.r vector-get-reads.Post
-vector-get_only κs a x y e f p q = only_answer _ x y p q
+pub vector_get_only : Only vector_get_kinds.ps vector_get_kinds.r vector-get-reads.Post
+vector_get_only κs a x y e f p q = only_answer _ x y p q
 
-pub vector-highest-set-bit_only : Only vector-highest-set-bit_kinds.ps vector-highest-set-bit_kinds.r vector-highest-set-bit-reads.Post
-vector-highest-set-bit_only κs a x y e f p q = only_answer _ x y p q
+pub vector_highest_set_bit_only : Only vector_highest_set_bit_kinds.ps vector_highest_set_bit_kinds.r vector-highest-set-bit-reads.Post
+vector_highest_set_bit_only κs a x y e f p q = only_answer _ x y p q
 
 pub vector_is_zero_only : Only vector_is_zero_kinds.ps vector_is_zero_kinds.r vector_is_zero-reads.Post
 vector_is_zero_only κs a x y e f p q = only_answer _ x y p q
 
-pub vector-num-set-bits_only : Only vector-num-set-bits_kinds.ps vector-num-set-bits_kinds.r vector-num-set-bits-reads.Post
-vector-num-set-bits_only κs a x y e f p q = only_answer _ x y p q
+pub vector_num_set_bits_only : Only vector_num_set_bits_kinds.ps vector_num_set_bits_kinds.r vector-num-set-bits-reads.Post
+vector_num_set_bits_only κs a x y e f p q = only_answer _ x y p q
 
 pub vector_not_only : Only vector_not_kinds.ps vector_not_kinds.r vector_not-reads.Post
 vector_not_only κs a x y e f p q = only_answer _ x y p q

@@ -59,10 +59,10 @@ from-body (Refused x) body l n e = let w : ◌≡◌ {A = ℕ} 0 1 = cc in absur
 from-body Fine (NoBody x) l n e = let w : ◌≡◌ {A = ℕ} 0 1 = cc in absurd (omega arith)
 from-body Fine (Bits k) l n e = (k, refl)
 
-pub list-read_only : (t : ℕ) (l : List ℕ) (n : ℕ) → Bytes l → (list_from_bytes l n).told ≡ Fine
+pub list_read_only : (t : ℕ) (l : List ℕ) (n : ℕ) → Bytes l → (list_from_bytes l n).told ≡ Fine
     → (bs : List Bool) × (serialize (bit_list t n) bs ≡ l) × (length bs ≤ n)
 unfolding list_from_bytes serialize
-list-read_only t l n b e =
+list_read_only t l n b e =
     let k = from-body (limited n) (bit_list_body l n) l n e in
     let s = list-sound l n k.0 b k.1 in
     (bits_of k.0 (num l), s.0, rw (length-bits_of k.0 (num l)) s.1)

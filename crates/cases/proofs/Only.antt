@@ -5,11 +5,11 @@ use contract.Lifetimes.{Lfts}
 use denote.Triple.Clauses.{AtExit}
 use borrow.Fn.Kinds.{Dens, res_t, ended_of}
 use Rattle.standard.proofs.Only.{Only, only_answer}
-use Rattle.cases.proofs.part_end.Kinds as part-end_kinds
+use Rattle.cases.proofs.part_end.Kinds as part_end_kinds
 use Rattle.cases.proofs.part_end.Reads as part-end-reads
-use Rattle.cases.proofs.record_end.Kinds as record-end_kinds
+use Rattle.cases.proofs.record_end.Kinds as record_end_kinds
 use Rattle.cases.proofs.record_end.Reads as record-end-reads
-use Rattle.cases.proofs.number_at.Kinds as number-at_kinds
+use Rattle.cases.proofs.number_at.Kinds as number_at_kinds
 use Rattle.cases.proofs.number_at.Reads as number-at-reads
 use Rattle.cases.proofs.number.Kinds as number_kinds
 use Rattle.cases.proofs.number.Reads as number-reads
@@ -26,14 +26,14 @@ use Rattle.cases.proofs.told.Reads as told-reads
 use Rattle.cases.proofs.part.Kinds as part_kinds
 use Rattle.cases.proofs.part.Reads as part-reads
 
-pub part-end_only : Only part-end_kinds.ps part-end_kinds.r part-end-reads.Post
-part-end_only κs a x y e f p q = only_answer _ x y p q
+pub part_end_only : Only part_end_kinds.ps part_end_kinds.r part-end-reads.Post
+part_end_only κs a x y e f p q = only_answer _ x y p q
 
-pub record-end_only : Only record-end_kinds.ps record-end_kinds.r record-end-reads.Post
-record-end_only κs a x y e f p q = only_answer _ x y p q
+pub record_end_only : Only record_end_kinds.ps record_end_kinds.r record-end-reads.Post
+record_end_only κs a x y e f p q = only_answer _ x y p q
 
-pub number-at_only : Only number-at_kinds.ps number-at_kinds.r number-at-reads.Post
-number-at_only κs a x y e f p q = only_answer _ x y p q
+pub number_at_only : Only number_at_kinds.ps number_at_kinds.r number-at-reads.Post
+number_at_only κs a x y e f p q = only_answer _ x y p q
 
 pub number_only : Only number_kinds.ps number_kinds.r number-reads.Post
 number_only κs a x y e f p q = only_answer _ x y p q

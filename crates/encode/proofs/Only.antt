@@ -9,7 +9,7 @@ use Rattle.encode.proofs.encode_length.Kinds as encode_length_kinds
 use Rattle.encode.proofs.encode_length.Reads as encode_length-reads
 use Rattle.encode.proofs.encoder.SszEncoder.container.Kinds as container_kinds
 use Rattle.encode.proofs.encoder.SszEncoder.container.Reads as container-reads
-use Rattle.encode.proofs.encoder.SszEncoder.append_fixed.Kinds as append-fixed_kinds
+use Rattle.encode.proofs.encoder.SszEncoder.append_fixed.Kinds as append_fixed_kinds
 use Rattle.encode.proofs.encoder.SszEncoder.append_fixed.Reads as append-fixed-reads
 use Rattle.encode.proofs.encoder.SszEncoder.append_variable.Kinds as append_variable_kinds
 use Rattle.encode.proofs.encoder.SszEncoder.append_variable.Reads as append_variable-reads
@@ -24,8 +24,8 @@ encode_length_only κs a x y e f p q = only_answer _ x y p q
 pub container_only : Only container_kinds.ps container_kinds.r container-reads.Post
 container_only κs a x y e f p q = only_answer _ x y p q
 
-pub append-fixed_only : Only append-fixed_kinds.ps append-fixed_kinds.r append-fixed-reads.Post
-append-fixed_only κs a x y e f p q = only_answer _ x y p.0 q.0
+pub append_fixed_only : Only append_fixed_kinds.ps append_fixed_kinds.r append-fixed-reads.Post
+append_fixed_only κs a x y e f p q = only_answer _ x y p.0 q.0
 
 pub append_variable_only : Only append_variable_kinds.ps append_variable_kinds.r append_variable-reads.Post
 append_variable_only κs a x y e f p q = only_answer _ x y p.0 q.0
@@ -36,11 +36,11 @@ append_only κs a x y e f p q = only_answer _ x y p.0 q.0
 pub finalize_only : Only finalize_kinds.ps finalize_kinds.r finalize-reads.Post
 finalize_only κs a x y e f p q = only_answer _ x y p.0 q.0
 
-pub append-fixed_leaves :
-    (κs : Lfts 3) (a : Dens κs append-fixed_kinds.ps) (x y : (res_t append-fixed_kinds.r κs).Denot)
-    (e f : AtExit (ended_of 3 append-fixed_kinds.ps append-fixed_kinds.r) κs)
+pub append_fixed_leaves :
+    (κs : Lfts 3) (a : Dens κs append_fixed_kinds.ps) (x y : (res_t append_fixed_kinds.r κs).Denot)
+    (e f : AtExit (ended_of 3 append_fixed_kinds.ps append_fixed_kinds.r) κs)
     → append-fixed-reads.Post κs a x e → append-fixed-reads.Post κs a y f → e.1.1.0.now ≡ f.1.1.0.now
-append-fixed_leaves κs a x y e f p q = only_answer _ _ _ (rw (append-fixed_only κs a x y e f p q) at p.1) q.1
+append_fixed_leaves κs a x y e f p q = only_answer _ _ _ (rw (append_fixed_only κs a x y e f p q) at p.1) q.1
 
 pub append_variable_leaves :
     (κs : Lfts 3) (a : Dens κs append_variable_kinds.ps) (x y : (res_t append_variable_kinds.r κs).Denot)

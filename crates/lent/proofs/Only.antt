@@ -9,43 +9,43 @@ use Rattle.bitfield.specs.declared.BitVector.{BitVector}
 use Rattle.bitfield.specs.declared.ListResult.{ListResult}
 use Rattle.bitfield.specs.declared.VectorResult.{VectorResult}
 use Rattle.lent.specs.Left.{list_left, vector_left}
-use Rattle.lent.proofs.list.after_set.Kinds as list-after-set_kinds
+use Rattle.lent.proofs.list.after_set.Kinds as list_after_set_kinds
 use Rattle.lent.proofs.list.after_set.Reads as list-after-set-reads
-use Rattle.lent.proofs.list.after_not.Kinds as list-after_not_kinds
-use Rattle.lent.proofs.list.after_not.Reads as list-after_not_reads
-use Rattle.lent.proofs.list.after_difference.Kinds as list-after_difference_kinds
-use Rattle.lent.proofs.list.after_difference.Reads as list-after_difference_reads
-use Rattle.lent.proofs.vector.after_set.Kinds as vector-after-set_kinds
+use Rattle.lent.proofs.list.after_not.Kinds as list_after_not_kinds
+use Rattle.lent.proofs.list.after_not.Reads as list_after_not_reads
+use Rattle.lent.proofs.list.after_difference.Kinds as list_after_difference_kinds
+use Rattle.lent.proofs.list.after_difference.Reads as list_after_difference_reads
+use Rattle.lent.proofs.vector.after_set.Kinds as vector_after_set_kinds
 use Rattle.lent.proofs.vector.after_set.Reads as vector-after-set-reads
-use Rattle.lent.proofs.vector.after_not.Kinds as vector-after_not_kinds
-use Rattle.lent.proofs.vector.after_not.Reads as vector-after_not_reads
-use Rattle.lent.proofs.vector.after_difference.Kinds as vector-after_difference_kinds
-use Rattle.lent.proofs.vector.after_difference.Reads as vector-after_difference_reads
+use Rattle.lent.proofs.vector.after_not.Kinds as vector_after_not_kinds
+use Rattle.lent.proofs.vector.after_not.Reads as vector_after_not_reads
+use Rattle.lent.proofs.vector.after_difference.Kinds as vector_after_difference_kinds
+use Rattle.lent.proofs.vector.after_difference.Reads as vector_after_difference_reads
 
-pub list-left_only : (d : ListResult) (b c : BitList) (t u : Told) → list_left b t ≡ d → list_left c u ≡ d → (b ≡ c) × (t ≡ u)
-list-left_only d b c t u p q =
+pub list_left_only : (d : ListResult) (b c : BitList) (t u : Told) → list_left b t ≡ d → list_left c u ≡ d → (b ≡ c) × (t ≡ u)
+list_left_only d b c t u p q =
     let s = only_answer d (list_left b t) (list_left c u) p q in
     (ap (λ (r : ListResult). r.field) s, ap (λ (r : ListResult). r.told) s)
 
-pub vector-left_only : (d : VectorResult) (b c : BitVector) (t u : Told) → vector_left b t ≡ d → vector_left c u ≡ d → (b ≡ c) × (t ≡ u)
-vector-left_only d b c t u p q =
+pub vector_left_only : (d : VectorResult) (b c : BitVector) (t u : Told) → vector_left b t ≡ d → vector_left c u ≡ d → (b ≡ c) × (t ≡ u)
+vector_left_only d b c t u p q =
     let s = only_answer d (vector_left b t) (vector_left c u) p q in
     (ap (λ (r : VectorResult). r.field) s, ap (λ (r : VectorResult). r.told) s)
 
-pub list-after-set_only : Only list-after-set_kinds.ps list-after-set_kinds.r list-after-set-reads.Post
-list-after-set_only κs a x y e f p q = only_answer _ x y p q
+pub list_after_set_only : Only list_after_set_kinds.ps list_after_set_kinds.r list-after-set-reads.Post
+list_after_set_only κs a x y e f p q = only_answer _ x y p q
 
-pub list-after_not_only : Only list-after_not_kinds.ps list-after_not_kinds.r list-after_not_reads.Post
-list-after_not_only κs a x y e f p q = only_answer _ x y p q
+pub list_after_not_only : Only list_after_not_kinds.ps list_after_not_kinds.r list_after_not_reads.Post
+list_after_not_only κs a x y e f p q = only_answer _ x y p q
 
-pub list-after_difference_only : Only list-after_difference_kinds.ps list-after_difference_kinds.r list-after_difference_reads.Post
-list-after_difference_only κs a x y e f p q = only_answer _ x y p q
+pub list_after_difference_only : Only list_after_difference_kinds.ps list_after_difference_kinds.r list_after_difference_reads.Post
+list_after_difference_only κs a x y e f p q = only_answer _ x y p q
 
-pub vector-after-set_only : Only vector-after-set_kinds.ps vector-after-set_kinds.r vector-after-set-reads.Post
-vector-after-set_only κs a x y e f p q = only_answer _ x y p q
+pub vector_after_set_only : Only vector_after_set_kinds.ps vector_after_set_kinds.r vector-after-set-reads.Post
+vector_after_set_only κs a x y e f p q = only_answer _ x y p q
 
-pub vector-after_not_only : Only vector-after_not_kinds.ps vector-after_not_kinds.r vector-after_not_reads.Post
-vector-after_not_only κs a x y e f p q = only_answer _ x y p q
+pub vector_after_not_only : Only vector_after_not_kinds.ps vector_after_not_kinds.r vector_after_not_reads.Post
+vector_after_not_only κs a x y e f p q = only_answer _ x y p q
 
-pub vector-after_difference_only : Only vector-after_difference_kinds.ps vector-after_difference_kinds.r vector-after_difference_reads.Post
-vector-after_difference_only κs a x y e f p q = only_answer _ x y p q
+pub vector_after_difference_only : Only vector_after_difference_kinds.ps vector_after_difference_kinds.r vector_after_difference_reads.Post
+vector_after_difference_only κs a x y e f p q = only_answer _ x y p q
