@@ -9,6 +9,7 @@ use layout::Node;
 use standard::words::{four_at, word_at};
 
 // The i-th word.
+#[tactic(auto, unfolding(layout::specs::Table::count))]
 pub(crate) fn word_in(layout: &[u8], i: usize) -> usize
     requires { i < count layout.now }
     ensures { (result ≡ word_at layout.now i) × (result < 2 ^ 32) }
