@@ -63,6 +63,7 @@ pub(crate) fn raw_bytes(bits: usize) -> usize
 }
 
 // A number or fixed bytes: as many body bytes as the type's length says, and no contents word.
+#[tactic(auto, unfolding(message::specs::Steps::is_plain))]
 fn is_plain(kind: usize) -> bool
     ensures { result ≡ is_plain kind }
 {
@@ -139,6 +140,7 @@ fn measure_bits(bodies: &[u8], k: usize, i: usize, j: usize, n: usize) -> Measur
 }
 
 // Free bytes up to their limit.
+#[tactic(auto, unfolding(crate::specs::Walk::walk_item))]
 fn measure_free(contents: &[u32], bodies: &[u8], i: usize, j: usize, limit: usize) -> Measured
     ensures { result ≡ measured (walk_item (free_bytes 0 limit) contents.now bodies.now i j) (get_or contents.now i 0) }
 {
@@ -155,6 +157,7 @@ fn measure_free(contents: &[u32], bodies: &[u8], i: usize, j: usize, limit: usiz
 }
 
 // A bit list of at most limit bits.
+#[tactic(auto, unfolding(crate::specs::Walk::walk_item))]
 fn measure_list(contents: &[u32], bodies: &[u8], i: usize, j: usize, limit: usize) -> Measured
     ensures { result ≡ measured (walk_item (bit_list 0 limit) contents.now bodies.now i j) (get_or contents.now i 0 / 8 + 1) }
 {
@@ -172,6 +175,7 @@ fn measure_list(contents: &[u32], bodies: &[u8], i: usize, j: usize, limit: usiz
 }
 
 // An item of a type that has no lower types.
+#[tactic(auto, unfolding(crate::specs::Walk::walk_item, crate::specs::Write::write_item_lem, layout::specs::Tree::leaf_of))]
 fn measure_leaf(n: Node, contents: &[u32], bodies: &[u8], i: usize, j: usize) -> Measured
     ensures { result ≡ measured (walk_item (leaf_of 0 n) contents.now bodies.now i j) (length (write_item_lem (leaf_of 0 n) contents.now bodies.now i j)) }
 {
