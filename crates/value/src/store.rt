@@ -138,6 +138,7 @@ fn portion_of(lens: &[u32; 64], layout: &[u8], t: usize, a0: usize, step: usize,
 }
 
 // How much of a fixed portion a type with this length takes.
+#[tactic(auto, unfolding(standard::specs::Types::width))]
 fn width_of(len: usize) -> usize
     ensures { result ≡ width (head_of len) }
 {

@@ -1,0 +1,96 @@
+-- Items and fields call each other; the type number falls. The loop over the fields keeps `Writing`. Assumes nothing.
+use Rattle.std.proofs.Common.{refl, arith}
+use Rattle.message.proofs.Rows.{row-there, row-legal, row_below, row_under, row-few, under-below}
+use Rattle.value.proofs.Leaves.{part_need, part-done}
+use Rattle.value.proofs.Fills.{item-own, writing-none, writing-upto, writing-there, writing-fixed}
+use Rattle.value.proofs.Fills.{writing-room, writing-next, writing-end, fields_fit}
+use Rattle.value.proofs.Plain.{below-asked, below_put}
+use Rattle.value.proofs.Made.{laid-below, row-all, body_ready}
+use Rattle.value.proofs.store.+write_fields_write_item.Goals as goal
+
+pub write_fields-portion_of-own-requires : goal.write_fields-portion_of-own-requires
+write_fields-portion_of-own-requires t c = (c.requires.row, omega (arith, fields_fit c.requires refl), c.requires.offsets)
+
+pub write_fields-overflow_add-q : goal.write_fields-overflow_add-q
+write_fields-overflow_add-q t c = omega (arith, fields_fit c.requires c.portion_of-own.ensures)
+
+pub write_fields-loop-left-init : goal.write_fields-loop-left-init
+write_fields-loop-left-init t c = writing-none c.requires c.portion_of-own.ensures
+
+pub write_fields-word_in-f-requires : goal.write_fields-word_in-f-requires
+write_fields-word_in-f-requires t c = row-there _ _ _ _ _ _ c.loop-left.invariant.row c.loop-left-test.true
+
+pub write_fields-bounds-lens-f : goal.write_fields-bounds-lens-f
+write_fields-bounds-lens-f t c = row-few _ _ _ _ _ _ _ c.loop-left.invariant.row c.loop-left-test.true c.word_in-f.ensures.0
+
+pub write_fields-put_part-s-requires : goal.write_fields-put_part-s-requires
+write_fields-put_part-s-requires t c = writing-there c.loop-left.invariant c.loop-left-test.true c.word_in-f.ensures.0 refl c.if-k-gt0.true
+
+pub write_fields-loop-left-preserved-then-k-gt0 : goal.write_fields-loop-left-preserved-then-k-gt0
+write_fields-loop-left-preserved-then-k-gt0 t c =
+    writing-fixed c.loop-left.invariant c.loop-left-test.true c.word_in-f.ensures.0 refl c.if-k-gt0.true c.put_part-s.ensures
+
+pub write_fields-look_in-n-requires : goal.write_fields-look_in-n-requires
+write_fields-look_in-n-requires t c = row-legal _ _ _ _ _ _ _ c.loop-left.invariant.row c.loop-left-test.true c.word_in-f.ensures.0
+
+pub write_fields-put_leaf-s-requires : goal.write_fields-put_leaf-s-requires
+write_fields-put_leaf-s-requires t c =
+    below-asked _ _ _ c.look_in-n.ensures c.if-n-lt6.true _ _ _ _ _ _ _
+    (row_under _ _ _ _ _ _ _ c.loop-left.invariant.row c.loop-left-test.true c.word_in-f.ensures.0) c.if-k-gt0.false
+    (writing-upto c.loop-left.invariant c.loop-left-test.true c.word_in-f.ensures.0)
+    (writing-room c.loop-left.invariant c.loop-left-test.true c.word_in-f.ensures.0 refl c.if-k-gt0.false c.put_four.ensures)
+
+pub write_fields-write_item-s-requires : goal.write_fields-write_item-s-requires
+write_fields-write_item-s-requires t c =
+    let below = row_below _ _ _ _ _ _ _ c.loop-left.invariant.row c.loop-left-test.true c.word_in-f.ensures.0 in (
+      omega (arith, below, c.decreases),
+      (
+        row_under _ _ _ _ _ _ _ c.loop-left.invariant.row c.loop-left-test.true c.word_in-f.ensures.0,
+        writing-upto c.loop-left.invariant c.loop-left-test.true c.word_in-f.ensures.0,
+        writing-room c.loop-left.invariant c.loop-left-test.true c.word_in-f.ensures.0 refl c.if-k-gt0.false c.put_four.ensures,
+      ),
+    )
+
+pub write_fields-loop-left-preserved-then-n-lt6 : goal.write_fields-loop-left-preserved-then-n-lt6
+write_fields-loop-left-preserved-then-n-lt6 t c =
+    writing-next c.loop-left.invariant c.loop-left-test.true c.word_in-f.ensures.0 refl c.if-k-gt0.false c.put_four.ensures
+    (below_put _ _ _ c.look_in-n.ensures c.if-n-lt6.true _ _ _ _ _ _ _ _ c.put_leaf-s.ensures)
+
+pub write_fields-loop-left-preserved : goal.write_fields-loop-left-preserved
+write_fields-loop-left-preserved t c =
+    writing-next c.loop-left.invariant c.loop-left-test.true c.word_in-f.ensures.0 refl c.if-k-gt0.false c.put_four.ensures
+    c.write_item-s.ensures
+
+pub write_fields-returns : goal.write_fields-returns
+write_fields-returns t c = writing-end c.loop-left.invariant refl c.loop-left-test.false
+
+pub write_item-put_part-requires : goal.write_item-put_part-requires
+write_item-put_part-requires t c = part_need (item-own _ _ _ _ _ _ _ c.requires.0 c.requires.1 c.if-own-gt0.true) c.requires.2
+
+pub write_item-returns-then-own-gt0 : goal.write_item-returns-then-own-gt0
+write_item-returns-then-own-gt0 t c = part-done (item-own _ _ _ _ _ _ _ c.requires.0 c.requires.1 c.if-own-gt0.true) c.put_part.ensures
+
+pub write_item-put_leaf-requires : goal.write_item-put_leaf-requires
+write_item-put_leaf-requires t c =
+    below-asked _ _ _ c.look_in-n.ensures c.if-n-lt6.true _ _ _ _ _ _ _ c.requires.0 c.if-own-gt0.false c.requires.1 c.requires.2
+
+pub write_item-returns-then-n-lt6 : goal.write_item-returns-then-n-lt6
+write_item-returns-then-n-lt6 t c = below_put _ _ _ c.look_in-n.ensures c.if-n-lt6.true _ _ _ _ _ _ _ _ c.put_leaf.ensures
+
+pub write_item-put_part-requires-then-all-gt0 : goal.write_item-put_part-requires-then-all-gt0
+write_item-put_part-requires-then-all-gt0 t c =
+    part_need
+    (row-all _ _ _ _ _ c.lay-made.ensures _ _ _ _ _ _ c.in-Fields.is _ c.requires.0 c.requires.1 _ c.if-all-gt0.true c.copied_bytes-all.ensures)
+    c.requires.2
+
+pub write_item-returns-then-all-gt0 : goal.write_item-returns-then-all-gt0
+write_item-returns-then-all-gt0 t c =
+    part-done
+    (row-all _ _ _ _ _ c.lay-made.ensures _ _ _ _ _ _ c.in-Fields.is _ c.requires.0 c.requires.1 _ c.if-all-gt0.true c.copied_bytes-all.ensures)
+    c.put_part-then-all-gt0.ensures
+
+pub write_item-write_item-requires : goal.write_item-write_item-requires
+write_item-write_item-requires t c =
+    let below = laid-below _ _ _ _ _ c.lay-made.ensures _ c.in-Body.is in
+    let ready = body_ready _ _ _ _ _ _ _ _ _ c.lay-made.ensures _ c.in-Body.is _ _ c.put_selector-s.ensures c.requires.1 c.requires.2 in
+    (omega (arith, below, c.decreases), (under-below _ _ _ _ (omega (arith, below)) c.requires.0, ready.0, ready.1))
