@@ -65,6 +65,7 @@ fn write_under(
 
 // Writes the message whose value has this form: 20 for a bad table, 25 for the first fault of the form, 21 for 2^32 bytes or more, then
 // 22 (bytes needed, room).
+#[tactic(auto, unfolding(crate::specs::Write::write_message, crate::specs::Write::written_bytes))]
 pub fn write(layout: &[u8], contents: &[u32], bodies: &[u8], out: &mut [u8]) -> Written
     ensures value { result ≡ write_message layout.now contents.now bodies.now out.old }
     ensures out_after { out.new ≡ written_bytes layout.now contents.now bodies.now out.old }
