@@ -23,7 +23,7 @@ use Rattle.layout.specs.declared.Node.{Node}
 use Rattle.layout.specs.declared.Sizes.{Sizes}
 use Rattle.layout.specs.declared.Checked.{Checked}
 use Rattle.layout.specs.declared.Checked.TheVariants.{Bad, Upto}
-use Rattle.layout.proofs.Facts.{trees-get, fields_at, fields-none, filled-set, head_len, as_container, legal_node}
+use Rattle.layout.proofs.Facts.{trees-get, fields_at, fields-none, filled-get, filled-set, head_len, as_container, legal_node}
 use Rattle.layout.proofs.Tables.{Adding, adding-next, adding-end, bad-upto, may_lower, refs-wrong, refs-lower, refs-cut}
 use Rattle.layout.proofs.Tables.{Counted, counted-says, element-lower, known_len, known-head, known_small}
 use Rattle.layout.proofs.Trees.{legal_tree, len_small, leaf-length, vector_len, all-portion}
@@ -283,6 +283,51 @@ module _ (l : List ℕ) (known t : ℕ) (r : Node) (e : r ≡ node_of l t) (g : 
     vector-found lens f i j b =
         let u : r.second < known = omega (arith, vector-lower) in
         lengthened l known t (n * k) lens (rw (lt-ltb r.second known u) at f) i j b vector-length
+
+-- What a container's length makes of the lengths before it, as `container_end` leaves them.
+pub container_filled : (l : List ℕ) (t : ℕ) → t < 64 → word_at l (word_at l (1 + t)) ≡ 6 →
+    filled l (t + 1) ≡
+    set (filled l t) t (len_of (head_all (fields l (trees l t) (word_at l (1 + t) + 2) (word_at l (word_at l (1 + t) + 1)))))
+unfolding node_of head
+container_filled l t b k = sym (found-set l t _ _ refl b (rw (as_container l t (node_of l t) refl k)))
+
+-- An end that is none has no number.
+abbrev upto : Checked → ℕ
+upto (Bad w) = 0
+upto (Upto e) = e
+
+abbrev ends : Checked → Bool
+ends (Bad w) = false
+ends (Upto e) = true
+
+ended_at : (x : Checked) → ends x ≡ true → x ≡ Upto (upto x)
+ended_at (Bad w) h = cc
+ended_at (Upto e) h = refl
+
+-- The head of a vector's element, and what the vector's length makes of the lengths before it, as `vector_end` leaves them.
+module _ (l : List ℕ) (t : ℕ) where
+  below : (a : ℕ) → ends (refs l t false a 1) ≡ true → word_at l a < t
+  below a h = (element-lower l t a _ (ended_at _ h)).0
+
+  pub element_head : (a : ℕ) → Legal l t → ends (refs l t false a 1) ≡ true →
+      head (get_or (trees l t) (word_at l a) (boolean 0)) ≡ head_of (get_or (filled l t) (word_at l a) 0)
+  element_head a g h =
+      let k = below a h in
+      rw (trees-get l t (word_at l a) (boolean 0) k, filled-get l t (word_at l a) k)
+      (sym (head_len (tree_of l (word_at l a)) (legal_tree l t (word_at l a) g k)))
+
+  pub vector_filled : t < 64 → word_at l (word_at l (1 + t)) ≡ 9 →
+      ends (refs l t false (word_at l (1 + t) + 1) 1) ≡ true → ends (counted l (word_at l (1 + t) + 1) 4294967295) ≡ true →
+      filled l (t + 1) ≡
+      set (filled l t) t (upto (counted l (word_at l (1 + t) + 1) 4294967295) * get_or (filled l t) (word_at l (word_at l (1 + t) + 1)) 0)
+  unfolding node_of
+  vector_filled b z h k =
+      let i = below (word_at l (1 + t) + 1) h in
+      let two : word_at l (1 + t) + 1 + 1 ≡ word_at l (1 + t) + 2 = omega arith in
+      let m = rw two at (counted-says l (word_at l (1 + t) + 1) 4294967295 _ (ended_at _ k)).word in
+      rw (m, filled-get l t _ i, ← vector_len l t (node_of l t) refl z i) (sym (found-set l t _ _ refl b refl))
+
+pub ruleset vector_rules = (element_head, vector_filled)
 
 -- A body that does not end leaves nothing found.
 pub ended-bad : (l : List ℕ) (t w : ℕ) (x : Checked) (lens : List ℕ) → Bad w ≡ x → Ended l t x (Bad w) lens

@@ -318,6 +318,7 @@ fn fields_len(
 }
 
 // The container t at the word at: a number of fields, their words, and a fixed portion that fits an offset; its length goes to `lens`.
+#[tactic(auto, using(crate::proofs::Lengths::container_filled), unfolding(crate::specs::Table::container_end_lem, crate::specs::Table::many, crate::specs::Table::counted, crate::specs::Steps::sizes_of))]
 fn container_end(lens: &mut [u32; 64], layout: &[u8], t: usize, at: usize) -> Checked
     requires { Known lens.old layout.now t × (t < 64) × (at < 2 ^ 32) × (at ≡ word_at layout.now (1 + t)) × (word_at layout.now at ≡ 6) }
     ensures { Ended layout.now t (container_end_lem layout.now t at) result lens.new }
@@ -369,6 +370,7 @@ fn list_end(layout: &[u8], t: usize, at: usize) -> Checked
 
 // The vector t at the word at: its element's type, a count of at least 1, and a fixed portion that fits an offset; its length goes to `lens`.
 // An element of variable size has the length 0 there, and so has the vector.
+#[tactic(auto, using(crate::proofs::Lengths::vector_rules), unfolding(crate::specs::Table::vector_end_lem))]
 fn vector_end(lens: &mut [u32; 64], layout: &[u8], t: usize, at: usize) -> Checked
     requires { Known lens.old layout.now t × (t < 64) × (at < 2 ^ 32) × (at ≡ word_at layout.now (1 + t)) × (word_at layout.now at ≡ 9) }
     ensures { Ended layout.now t (vector_end_lem layout.now t at) result lens.new }
