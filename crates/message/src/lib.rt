@@ -63,6 +63,7 @@ fn check_under(lens: &[u32; 64], layout: &[u8], n: usize, message: &[u8]) -> Ans
 }
 
 // Checks a message: 20 for a bad table, 21 for 2^32 bytes or more, then the rules of reading.
+#[tactic(auto, unfolding(crate::specs::Check::check_message))]
 pub fn check(layout: &[u8], message: &[u8]) -> Answer
     ensures { result ≡ check_message layout.now message.now }
 {
