@@ -1,31 +1,18 @@
--- What bounds what is printed: the digits of a number, and the records of a listing. Assumes nothing.
+-- What bounds what is printed: the records of a listing. Assumes nothing.
 use mathlib.Core.Path.{◌≡◌, refl}
 use mathlib.Core.List.{List}
 use mathlib.Core.Bool.{Bool, true, false}
-use Prim.Native.Nat.{ℕ, ◌-◌, ◌*◌, ◌/◌, ◌^◌, ◌≤◌, ◌<◌}
-use native.Mathlib.Nat.{pow-le-pow_right}
+use Prim.Native.Nat.{ℕ, ◌*◌, ◌/◌, ◌≤◌}
 use native.Mathlib.Omega.{arith}
-use borrow.Author.Tests.{ltb-true, ltb-false}
+use borrow.Author.Tests.{ltb-false}
 use lib.ListN.{length}
-use lib.Dec.{ltb, lit<}
-use Rattle.io.specs.Digits.{IsDigitCount}
+use lib.Dec.{ltb}
 use Rattle.standard.specs.Choice.{pick}
 use Rattle.standard.specs.declared.Refusal.TheVariants.{NoRoom}
 use Rattle.message.specs.Check.{check_message, listed_of, list_message}
 use Rattle.message.specs.declared.Answer.{Answer}
 use Rattle.message.specs.declared.Answer.TheVariants.{Accepted, Refused}
 use Rattle.message.specs.declared.Listed.{Listed}
-
--- A number of 64 bits has at most 20 digits.
-pub few-digits : (n k : ℕ) → n < 2 ^ 64 → IsDigitCount 10 1 n k → k ≤ 20
-few-digits n k h f = go (ltb 20 k) refl
-  where
-    go : (b : Bool) → ltb 20 k ≡ b → k ≤ 20
-    go true p =
-        let q : 20 < k = ltb-true _ _ p in
-        let v : 10 ^ 20 ≤ 10 ^ (k - 1) = pow-le-pow_right (lit< tt) {i = 20} (omega arith) in
-        absurd (omega (arith, f.2 (omega arith)))
-    go false p = ltb-false _ _ p
 
 -- Records take at most so many bytes.
 abbrev Within : ℕ → Listed → Type 0

@@ -3,11 +3,12 @@
 
 mod print;
 
-ghost use Rattle.std.specs.Prelude.{◌≡◌, length};
-ghost use Rattle.io.specs.Counts.{IsPrefixLen};
+ghost use Rattle.std.specs.Prelude.{◌≡◌, ◌≤◌, length};
 
-use libc::STDIN_FILENO;
 use message::{Listed, list};
+use std::io::Read;
+use std::rt::Files;
+use std::{fs, io};
 
 // The file and the input have at most so many bytes.
 const LONGEST: usize = 65536;
@@ -19,47 +20,59 @@ fn room() -> [u8; 65537]
     [0; 65537]
 }
 
-// A file that is missing counts as empty, as does one that can't be read.
-fn read_layout(b: &mut [u8]) -> usize
-    ensures { IsPrefixLen result b.new }
+// Reads until the room is full, the bytes end or a reading fails, and returns how many bytes there are then.
+fn read_full<R: Read>(reader: &mut R, b: &mut [u8]) -> usize
+    ensures { result ≤ length b.new }
 {
-    let fd = os::open_read(b"layout");
-    if fd < 0 {
-        return 0;
+    let mut done = 0;
+    while done < b.len() {
+        match reader.read(&mut b[done..]) {
+            Ok(0) => break,
+            Ok(n) => done += n,
+            Err(_) => break,
+        }
     }
-    let n = io::read_full(fd, b);
-    libc::close(fd);
-    n
+    done
+}
+
+// A file that is missing counts as empty, as does one that can't be read.
+fn read_layout(rt: &impl Files, b: &mut [u8]) -> usize
+    ensures { result ≤ length b.new }
+{
+    match fs::open(rt, "layout") {
+        Ok(mut file) => read_full(&mut file, b),
+        Err(_) => 0,
+    }
 }
 
 // There is room for 4,000 records of 12 bytes.
-fn answer(layout: &[u8], message: &[u8]) {
+fn answer(rt: &impl Print, layout: &[u8], message: &[u8]) -> io::Result<()> {
     let mut records = [0u8; 48000];
     let listed = list(layout, message, &mut records);
     match listed {
         Listed::Records(n) => {
             let end = 12 * n;
-            print::listing(&records[..end]);
+            print::listing(rt, &records[..end])
         }
-        Listed::Refused(r, t, start) => print::refusal(r.numbers(), t, start),
+        Listed::Refused(r, t, start) => print::refusal(rt, r.numbers(), t, start),
     }
 }
 
 // What is too long comes before a layout that is no whole number of words.
-fn run(layout: &[u8], message: &[u8]) {
+fn run(rt: &impl Print, layout: &[u8], message: &[u8]) -> io::Result<()> {
     if layout.len() > LONGEST || message.len() > LONGEST {
-        print::line(b"too long\n");
+        print::line(rt, b"too long\n")
     } else if layout.len() % 4 != 0 {
-        print::line(b"cut word\n");
+        print::line(rt, b"cut word\n")
     } else {
-        answer(layout, message);
+        answer(rt, layout, message)
     }
 }
 
-fn main() {
+fn main(rt: HostRuntime) -> io::Result<()> {
     let mut layout = room();
     let mut message = room();
-    let l = read_layout(&mut layout);
-    let m = io::read_full(STDIN_FILENO, &mut message);
-    run(&layout[..l], &message[..m]);
+    let l = read_layout(&rt, &mut layout);
+    let m = read_full(&mut rt.stdin(), &mut message);
+    run(&rt, &layout[..l], &message[..m])
 }

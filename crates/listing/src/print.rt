@@ -1,20 +1,27 @@
 // The lines that are printed. Those of a listing are made in a buffer that is written each time it is full.
-ghost use Rattle.std.specs.Prelude.{◌+◌, ◌≤◌, length};
+ghost use Rattle.std.specs.Prelude.{◌≡◌, ◌+◌, ◌≤◌, length, IfOk};
 
-use libc::STDOUT_FILENO;
 use standard::Numbers;
 use standard::words::four_at;
+use std::io;
 
 // Three numbers, each with the byte behind it, take at most so many bytes.
 const LINE: usize = 63;
 
-pub(crate) fn line(text: &[u8]) {
-    io::write_all(STDOUT_FILENO, text);
+// Room for many lines.
+fn buffer() -> [u8; 4096]
+    ensures { 4096 ≡ length result }
+{
+    [0; 4096]
+}
+
+pub(crate) fn line(rt: &impl Print, text: &[u8]) -> io::Result<()> {
+    rt.write_all(text)
 }
 
 // Copies the first k digits into the buffer from at on.
-fn copy(out: &mut [u8], at: usize, digits: &[u8; 20], k: usize)
-    requires { (at + k ≤ length out.old) × (k ≤ 20) }
+fn copy(out: &mut [u8], at: usize, digits: &[u8], k: usize)
+    requires { (at + k ≤ length out.old) × (k ≤ length digits.now) }
 {
     let mut i = 0;
     while i < k {
@@ -28,24 +35,25 @@ fn put(out: &mut [u8], at: usize, n: usize, behind: u8) -> usize
     requires { at + 21 ≤ length out.old }
     ensures { result ≤ at + 21 }
 {
-    let mut digits = [0u8; 20];
-    let k = io::decimal(n as u64, &mut digits);
-    copy(out, at, &digits, k);
+    let mut number = itoa::Buffer::new();
+    let digits = number.format(n).as_bytes();
+    let k = digits.len();
+    copy(out, at, digits, k);
     let last = at + k;
     out[last] = behind;
     last + 1
 }
 
 // Writes the buffer where it has no room for another line, and returns where that line starts.
-fn make_room(out: &[u8], at: usize) -> usize
+fn make_room(rt: &impl Print, out: &[u8], at: usize) -> io::Result<usize>
     requires { (at ≤ length out.now) × (63 ≤ length out.now) }
-    ensures { result + 63 ≤ length out.now }
+    ensures { IfOk result (λ start. start + 63 ≤ length out.now) }
 {
     if out.len() - at < LINE {
-        line(&out[..at]);
-        0
+        line(rt, &out[..at])?;
+        Ok(0)
     } else {
-        at
+        Ok(at)
     }
 }
 
@@ -59,26 +67,32 @@ fn put_record(out: &mut [u8], at: usize, records: &[u8], p: usize) -> usize
     put(out, third, four_at(records, p + 8), b'\n')
 }
 
-fn put_records(out: &mut [u8], records: &[u8])
+fn put_records(rt: &impl Print, out: &mut [u8], records: &[u8]) -> io::Result<()>
     requires { 63 ≤ length out.old }
 {
     let mut at = 0;
     let mut p = 0;
     while records.len() - p >= 12 {
-        let next = make_room(out, at);
+        let next = make_room(rt, out, at)?;
         at = put_record(out, next, records, p);
         p += 12;
     }
-    line(&out[..at]);
+    line(rt, &out[..at])
 }
 
 // A line for each record.
-pub(crate) fn listing(records: &[u8]) {
-    let mut out = io::buffer();
-    put_records(&mut out, records);
+pub(crate) fn listing(rt: &impl Print, records: &[u8]) -> io::Result<()> {
+    let mut out = buffer();
+    put_records(rt, &mut out, records)
 }
 
-fn put_refusal(out: &mut [u8], n: Numbers, t: usize, start: usize)
+fn put_refusal(
+    rt: &impl Print,
+    out: &mut [u8],
+    n: Numbers,
+    t: usize,
+    start: usize,
+) -> io::Result<()>
     requires { 105 ≤ length out.old }
 {
     let second = put(out, 0, n.number, b' ');
@@ -86,12 +100,12 @@ fn put_refusal(out: &mut [u8], n: Numbers, t: usize, start: usize)
     let fourth = put(out, third, n.b, b' ');
     let fifth = put(out, fourth, t, b' ');
     let end = put(out, fifth, start, b'\n');
-    line(&out[..end]);
+    line(rt, &out[..end])
 }
 
 // The line of a refusal: number, a, b, and the type and the start of its item.
-pub(crate) fn refusal(n: Numbers, t: usize, start: usize) {
-    line(b"refused ");
-    let mut out = io::buffer();
-    put_refusal(&mut out, n, t, start);
+pub(crate) fn refusal(rt: &impl Print, n: Numbers, t: usize, start: usize) -> io::Result<()> {
+    line(rt, b"refused ")?;
+    let mut out = buffer();
+    put_refusal(rt, &mut out, n, t, start)
 }

@@ -10,32 +10,46 @@ mod messages;
 mod sums;
 mod vectors;
 
-ghost use Rattle.std.specs.Prelude.{◌≡◌, length};
-ghost use Rattle.io.specs.Counts.{IsPrefixLen};
+ghost use Rattle.std.specs.Prelude.{◌≡◌, ◌≤◌, length, IfOk, vec_len};
 
 use cases::{Extent, number, part, record_end};
-use libc::STDOUT_FILENO;
 use standard::Maybe;
 use standard::words::word_at;
+use std::alloc::{AllocError, Global};
+use std::io::Read;
+use std::rt::Files;
+use std::{fs, io};
 
 // Room for a message of 1 MiB, or for what comes of it.
-fn room() -> [u8; 1310720]
-    ensures { 1310720 ≡ length result }
+fn room(alloc: Global) -> Result<Vec<u8>, AllocError>
+    ensures { IfOk result (λ v. vec_len v ≡ 1310720) }
 {
-    [0; 1310720]
+    vec![in alloc; 0; 1310720]
+}
+
+// Reads until the room is full, the bytes end or a reading fails, and returns how many bytes there are then.
+fn read_full<R: Read>(reader: &mut R, b: &mut [u8]) -> usize
+    ensures { result ≤ length b.new }
+{
+    let mut done = 0;
+    while done < b.len() {
+        match reader.read(&mut b[done..]) {
+            Ok(0) => break,
+            Ok(n) => done += n,
+            Err(_) => break,
+        }
+    }
+    done
 }
 
 // A file that is missing counts as empty.
-fn read_plan(b: &mut [u8]) -> usize
-    ensures { IsPrefixLen result b.new }
+fn read_plan(rt: &impl Files, b: &mut [u8]) -> usize
+    ensures { result ≤ length b.new }
 {
-    let fd = os::open_read(b"plan");
-    if fd < 0 {
-        return 0;
+    match fs::open(rt, "plan") {
+        Ok(mut file) => read_full(&mut file, b),
+        Err(_) => 0,
     }
-    let n = io::read_full(fd, b);
-    libc::close(fd);
-    n
 }
 
 fn run(plan: &[u8], contents: &mut [u32], bodies: &mut [u8], out: &mut [u8]) -> Maybe {
@@ -55,20 +69,19 @@ fn run(plan: &[u8], contents: &mut [u32], bodies: &mut [u8], out: &mut [u8]) -> 
     messages::run(op, plan, contents, bodies, out, rounds)
 }
 
-fn print(sum: Maybe) {
+fn print(rt: &impl Print, sum: Maybe) -> io::Result<()> {
     match sum {
-        Maybe::Just(n) => io::print_decimal(STDOUT_FILENO, n as u64),
-        Maybe::Nothing => io::write_all(STDOUT_FILENO, b"bad plan"),
-    };
-    io::write_all(STDOUT_FILENO, b"\n");
+        Maybe::Just(n) => println!(rt; "{n}"),
+        Maybe::Nothing => println!(rt; "bad plan"),
+    }
 }
 
-fn main() {
-    let mut plan = room();
-    let mut bodies = room();
-    let mut out = room();
-    let mut contents = [0u32; 65536];
-    let n = read_plan(&mut plan);
+fn main(rt: HostRuntime) -> io::Result<()> {
+    let mut plan = room(rt.alloc())?;
+    let mut bodies = room(rt.alloc())?;
+    let mut out = room(rt.alloc())?;
+    let mut contents = vec![in rt.alloc(); 0u32; 65536]?;
+    let n = read_plan(&rt, &mut plan);
     let sum = run(&plan[..n], &mut contents, &mut bodies, &mut out);
-    print(sum);
+    print(&rt, sum)
 }

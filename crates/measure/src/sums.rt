@@ -3,10 +3,9 @@ ghost use Rattle.std.specs.Prelude.{◌≤◌};
 
 use bitfield::CountResult;
 use standard::Told;
-use std::num::wrapping_add_usize;
 
 pub(crate) fn plus(a: usize, b: usize) -> usize {
-    wrapping_add_usize(a, b)
+    a.wrapping_add(b)
 }
 
 fn wide(x: u8) -> usize {

@@ -1,6 +1,5 @@
 // What the operations compare: heads of calls without type and start, results that are missing, lent buffers.
-ghost use Rattle.std.specs.Prelude.{◌≤◌};
-ghost use Rattle.io.specs.Counts.{IsPrefixLen};
+ghost use Rattle.std.specs.Prelude.{◌≤◌, length};
 
 use cases::{Verdict, head_matches, refusal_matches, told};
 use standard::Refusal;
@@ -35,7 +34,7 @@ pub(crate) fn least(a: usize, b: usize) -> usize
 
 // How much of the room a buffer of so many bytes takes: all of them, since no record is longer than the room.
 pub(crate) fn room_for(n: usize, room: &[u8]) -> usize
-    ensures { IsPrefixLen result room.now }
+    ensures { result ≤ length room.now }
 {
     least(n, room.len())
 }

@@ -1,7 +1,7 @@
 // Operations 73 and 74: the unfolding and the value writer.
 //
 // Contents are words in a record and are lent as `u32`. No record has more of them than there is room for.
-ghost use Rattle.io.specs.Counts.{IsPrefixLen};
+ghost use Rattle.std.specs.Prelude.{◌≤◌, length};
 
 use crate::answers::{fine, is_empty, is_fine, least, lend, refused, room_for};
 use crate::messages::is_refusal_at;
@@ -12,7 +12,7 @@ use value::Written;
 
 // How much of the room a row of words takes.
 fn words_for(row: &[u8], room: &[u32]) -> usize
-    ensures { IsPrefixLen result room.now }
+    ensures { result ≤ length room.now }
 {
     least(row.len() / 4, room.len())
 }

@@ -16,32 +16,44 @@ mod states;
 mod vectors;
 mod walked;
 
-ghost use Rattle.std.specs.Prelude.{◌≡◌, length};
+ghost use Rattle.std.specs.Prelude.{◌≡◌, IfOk, vec_len};
 
 use run::Outcome;
+use std::alloc::{AllocError, Global};
+use std::{fs, io};
 
 // Room for a record, and for a buffer that a call is lent.
-fn room() -> [u8; 262144]
-    ensures { 262144 ≡ length result }
+fn room(alloc: Global) -> Result<Vec<u8>, AllocError>
+    ensures { IfOk result (λ v. vec_len v ≡ 262144) }
 {
-    [0; 262144]
+    vec![in alloc; 0; 262144]
 }
 
-fn main() {
-    let fd = os::open_read(b"cases");
-    if fd < 0 {
-        print::outcome(Outcome {
-            cases: 0,
-            differ: 0,
-            is_bad: os::errno() != libc::ENOENT,
-        });
-        return;
+// What comes of a file that can't be opened: a missing one has no cases.
+fn unopened(error: io::Error) -> Outcome {
+    Outcome {
+        cases: 0,
+        differ: 0,
+        is_bad: error.kind() != io::ErrorKind::NotFound,
     }
-    let mut bytes = room();
-    let mut first = room();
-    let mut second = room();
-    let mut words = [0u32; 65536];
-    let outcome = run::run(fd, &mut bytes, &mut first, &mut second, &mut words);
-    libc::close(fd);
-    print::outcome(outcome);
+}
+
+fn main(rt: HostRuntime) -> io::Result<()> {
+    let mut file = match fs::open(&rt, "cases") {
+        Ok(file) => file,
+        Err(e) => return print::outcome(&rt, unopened(e)),
+    };
+    let mut bytes = room(rt.alloc())?;
+    let mut first = room(rt.alloc())?;
+    let mut second = room(rt.alloc())?;
+    let mut words = vec![in rt.alloc(); 0u32; 65536]?;
+    let outcome = run::run(
+        &rt,
+        &mut file,
+        &mut bytes,
+        &mut first,
+        &mut second,
+        &mut words,
+    )?;
+    print::outcome(&rt, outcome)
 }

@@ -1,29 +1,18 @@
 // The lines that are printed.
 use crate::run::Outcome;
-use libc::STDOUT_FILENO;
+use std::io;
 
-fn number(n: usize) {
-    io::print_decimal(STDOUT_FILENO, n as u64);
-}
-
-pub(crate) fn differs(case: usize, operation: usize) {
-    io::write_all(STDOUT_FILENO, b"differs ");
-    number(case);
-    io::write_all(STDOUT_FILENO, b" operation ");
-    number(operation);
-    io::write_all(STDOUT_FILENO, b"\n");
+pub(crate) fn differs(rt: &impl Print, case: usize, operation: usize) -> io::Result<()> {
+    println!(rt; "differs {case} operation {operation}")
 }
 
 // The last line.
-pub(crate) fn outcome(sum: Outcome) {
+pub(crate) fn outcome(rt: &impl Print, sum: Outcome) -> io::Result<()> {
+    let cases = sum.cases;
+    let differ = sum.differ;
     if sum.is_bad {
-        io::write_all(STDOUT_FILENO, b"bad record ");
-        number(sum.cases);
-        io::write_all(STDOUT_FILENO, b"\n");
+        println!(rt; "bad record {cases}")
     } else {
-        number(sum.cases);
-        io::write_all(STDOUT_FILENO, b" cases, ");
-        number(sum.differ);
-        io::write_all(STDOUT_FILENO, b" differ\n");
+        println!(rt; "{cases} cases, {differ} differ")
     }
 }

@@ -1,5 +1,5 @@
 // The walk over the file: as many bytes as there is room for, the whole records in them, what is left moved down, and on.
-ghost use Rattle.std.specs.Prelude.{◌≡◌, ◌+◌, ◌≤◌, ◌<◌, length, take, drop};
+ghost use Rattle.std.specs.Prelude.{◌≡◌, ◌+◌, ◌≤◌, ◌<◌, length, take, drop, IfOk};
 ghost use Rattle.replay.specs.Steps.{Ahead, Within};
 
 use crate::answers::least;
@@ -7,6 +7,8 @@ use crate::ask::ask;
 use crate::print;
 use cases::{Extent, Verdict};
 use standard::words::word_at;
+use std::io;
+use std::io::Read;
 
 // A record takes at most so many bytes.
 const LARGEST: usize = 262144;
@@ -74,36 +76,37 @@ fn without_record(sum: Outcome, found: Found) -> Outcome {
 }
 
 // Counts a record, and names it where it differs; a malformed one ends the run.
-fn count(sum: Outcome, record: &[u8], verdict: Verdict) -> Outcome {
+fn count(rt: &impl Print, sum: Outcome, record: &[u8], verdict: Verdict) -> io::Result<Outcome> {
     match verdict {
-        Verdict::Same => Outcome {
+        Verdict::Same => Ok(Outcome {
             cases: one_more(sum.cases),
             differ: sum.differ,
             is_bad: sum.is_bad,
-        },
+        }),
         Verdict::Differs => {
             if sum.differ < NAMED {
-                print::differs(sum.cases, word_at(record, 0));
+                print::differs(rt, sum.cases, word_at(record, 0))?;
             }
-            Outcome {
+            Ok(Outcome {
                 cases: one_more(sum.cases),
                 differ: one_more(sum.differ),
                 is_bad: sum.is_bad,
-            }
+            })
         }
-        Verdict::Malformed => ended_bad(sum),
+        Verdict::Malformed => Ok(ended_bad(sum)),
     }
 }
 
 fn judge(
+    rt: &impl Print,
     sum: Outcome,
     record: &[u8],
     first: &mut [u8],
     second: &mut [u8],
     words: &mut [u32],
-) -> Outcome {
+) -> io::Result<Outcome> {
     let verdict = ask(record, first, second, words);
-    count(sum, record, verdict)
+    count(rt, sum, record, verdict)
 }
 
 // Looks for the record at a place.
@@ -128,47 +131,43 @@ fn look(b: &[u8], at: usize) -> Found
 
 // Asks the whole records one after another.
 fn ask_all(
+    rt: &impl Print,
     b: &[u8],
     so_far: Outcome,
     first: &mut [u8],
     second: &mut [u8],
     words: &mut [u32],
-) -> Stretch
-    ensures { result.at ≤ length b.now }
+) -> io::Result<Stretch>
+    ensures { IfOk result (λ s. s.at ≤ length b.now) }
 {
     let mut at = 0;
     let mut outcome = so_far;
     while at < b.len() {
         let found = look(b, at);
         let Found::Record(to) = found else {
-            return Stretch {
+            return Ok(Stretch {
                 at,
                 outcome: without_record(outcome, found),
-            };
+            });
         };
-        outcome = judge(outcome, &b[at..to], first, second, words);
+        outcome = judge(rt, outcome, &b[at..to], first, second, words)?;
         if outcome.is_bad {
-            return Stretch { at, outcome };
+            return Ok(Stretch { at, outcome });
         }
         at = to;
     }
-    Stretch { at, outcome }
+    Ok(Stretch { at, outcome })
 }
 
 // Reads behind the bytes that are there.
-fn fill(fd: i32, b: &mut [u8], have: usize) -> Filled
+fn fill<R: Read>(file: &mut R, b: &mut [u8], have: usize) -> Filled
     requires { have ≤ length b.old }
     ensures { Within (length b.new) result }
 {
-    let got = libc::read(fd, &mut b[have..]);
-    if got < 0 {
-        return Filled::Failed;
-    }
-    let n = io::count(got, &b[have..]);
-    if n == 0 {
-        Filled::Ended
-    } else {
-        Filled::Bytes(have + n)
+    match file.read(&mut b[have..]) {
+        Ok(0) => Filled::Ended,
+        Ok(n) => Filled::Bytes(have + n),
+        Err(_) => Filled::Failed,
     }
 }
 
@@ -186,46 +185,48 @@ fn move_down(b: &mut [u8], from: usize, n: usize)
 
 // Asks the records among so many bytes at the front, and keeps what is left.
 fn turn(
+    rt: &impl Print,
     b: &mut [u8],
     full: usize,
     sum: Outcome,
     first: &mut [u8],
     second: &mut [u8],
     words: &mut [u32],
-) -> State
+) -> io::Result<State>
     requires { full ≤ length b.old }
-    ensures { result.have ≤ length b.new }
+    ensures { IfOk result (λ s. s.have ≤ length b.new) }
 {
-    let done = ask_all(&b[..full], sum, first, second, words);
+    let done = ask_all(rt, &b[..full], sum, first, second, words)?;
     let at = done.at;
     let outcome = done.outcome;
     let have = full - at;
     move_down(b, at, have);
-    State {
+    Ok(State {
         have,
         outcome,
         is_over: outcome.is_bad,
-    }
+    })
 }
 
 // One reading of the file. Bytes that are left at its end are a record that is cut.
-fn go_on(
-    fd: i32,
+fn go_on<R: Read>(
+    rt: &impl Print,
+    file: &mut R,
     b: &mut [u8],
     state: State,
     first: &mut [u8],
     second: &mut [u8],
     words: &mut [u32],
-) -> State
+) -> io::Result<State>
     requires { state.have ≤ length b.old }
-    ensures { result.have ≤ length b.new }
+    ensures { IfOk result (λ s. s.have ≤ length b.new) }
 {
     let have = state.have;
     let outcome = state.outcome;
-    let filled = fill(fd, b, have);
+    let filled = fill(file, b, have);
     match filled {
-        Filled::Bytes(full) => turn(b, full, outcome, first, second, words),
-        Filled::Ended => State {
+        Filled::Bytes(full) => turn(rt, b, full, outcome, first, second, words),
+        Filled::Ended => Ok(State {
             have: 0,
             outcome: if have == 0 {
                 outcome
@@ -233,24 +234,25 @@ fn go_on(
                 ended_bad(outcome)
             },
             is_over: true,
-        },
-        Filled::Failed => State {
+        }),
+        Filled::Failed => Ok(State {
             have: 0,
             outcome: ended_bad(outcome),
             is_over: true,
-        },
+        }),
     }
 }
 
 // A proved loop has to end, and nothing says that a file does: so the loop counts its turns down, from a number that no run
 // uses up.
-pub(crate) fn run(
-    fd: i32,
+pub(crate) fn run<R: Read>(
+    rt: &impl Print,
+    file: &mut R,
     b: &mut [u8],
     first: &mut [u8],
     second: &mut [u8],
     words: &mut [u32],
-) -> Outcome {
+) -> io::Result<Outcome> {
     let mut state = State {
         have: 0,
         outcome: Outcome {
@@ -262,8 +264,8 @@ pub(crate) fn run(
     };
     let mut turns = u64::MAX;
     while turns > 0 && !state.is_over {
-        state = go_on(fd, b, state, first, second, words);
+        state = go_on(rt, file, b, state, first, second, words)?;
         turns -= 1;
     }
-    state.outcome
+    Ok(state.outcome)
 }
