@@ -68,7 +68,8 @@ both_good : (a b : Bool) (n m : ℕ) → two_told_lem (and_also a b) n m ≡ Fin
 unfolding two_told_lem
 both_good a b n m e = both_true a b (picked (and_also a b) _ _ e).0
 
-pub lists-kept : (a b : List ℕ) (la na lb nb : ℕ) → Raw a → Raw b → two_told_lem (and_also (list_good a la na) (list_good b lb nb)) na nb ≡ Fine → Kept a la × Kept b lb
+pub lists-kept : (a b : List ℕ) (la na lb nb : ℕ) → Raw a → Raw b → two_told_lem (and_also (list_good a la na) (list_good b lb nb)) na nb ≡ Fine →
+    Kept a la × Kept b lb
 lists-kept a b la na lb nb r s e =
     let g = both_good (list_good a la na) (list_good b lb nb) na nb e in
     (kept a la r (both_true (leb la na) (clean a la) g.0).1, kept b lb s (both_true (leb lb nb) (clean b lb) g.1).1)

@@ -1,6 +1,6 @@
 -- The contract of each public function has one answer only, and leaves one bitfield behind the reference. Of the functions on plain parameters it is
--- said of the postconditions themselves, for the same arguments at entry; of those over a reference, which are walked by hand, of the equation that
--- they promise: d is what the method by value answers. Assumes nothing.
+-- said of the postconditions themselves, for the same arguments at entry; of those over a reference, of the equation that they promise: d is what
+-- the method by value answers. Assumes nothing.
 use mathlib.Core.Path.{◌≡◌, ap}
 use Rattle.standard.specs.declared.Told.{Told}
 use Rattle.standard.proofs.Only.{Only, only_answer}

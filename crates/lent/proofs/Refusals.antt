@@ -1,5 +1,5 @@
 -- A call that tells a refusal leaves the bitfield behind the reference as it was: the contract's equation says so. Assumes nothing.
-use mathlib.Core.Path.{◌≡◌, refl, sym, ◌∙◌, ap}
+use mathlib.Core.Path.{◌≡◌, ap}
 use mathlib.Core.Bool.{Bool}
 use mathlib.Core.List.{List}
 use Prim.Native.Nat.{ℕ}
@@ -10,27 +10,25 @@ use Rattle.standard.specs.declared.Told.{Told}
 use Rattle.standard.specs.declared.Told.TheVariants.{Fine, Refused}
 use Rattle.bitfield.specs.declared.BitList.{BitList}
 use Rattle.bitfield.specs.declared.BitVector.{BitVector}
+use Rattle.bitfield.specs.declared.ListResult.{ListResult}
+use Rattle.bitfield.specs.declared.VectorResult.{VectorResult}
 use Rattle.bitfield.specs.Bools.{flipped, without}
 use Rattle.bitfield.specs.Held.{and_then, inside}
 use Rattle.bitfield.specs.Lists.{bits as list-bits, list_told, lists_told, list_answer, list_set, list_not, list_difference}
 use Rattle.bitfield.specs.Vectors.{bits as vector-bits, vector_told_lem, vectors_told, vector_answer, vector_set, vector_not, vector_difference}
 use Rattle.lent.specs.Left.{list_left, vector_left}
-use Rattle.lent.proofs.Values.{Held, lists, vectors}
 
 refused_fine : {A : Type 0} (x : Refusal) → Refused x ≡ Fine → A
 refused_fine x e = let z : ◌≡◌ {A = ℕ} 0 1 = cc in absurd (omega arith)
 
 -- What the answer tells is not `Fine`, so it is the one beside a refusal, which has the bitfield as it was.
-kept : (B : Held) (a b : B.the.D) (answer : Told → B.Pair) → B.told (answer Fine) ≡ Fine → ((y : Refusal) → B.held (answer (Refused y)) ≡ a)
-    → (t : Told) (x : Refusal) → B.left b (Refused x) ≡ answer t → b ≡ a
-kept B a b answer fine old Fine x e = refused_fine x (sym (B.told-left b (Refused x)) ∙ ap B.told e ∙ fine)
-kept B a b answer fine old (Refused y) x e = sym (B.held-left b (Refused x)) ∙ ap B.held e ∙ old y
-
 list-kept : (a b : BitList) (bs : List Bool) (n : ℕ) (t : Told) (x : Refusal) → list_left b (Refused x) ≡ list_answer t a bs n → b ≡ a
-list-kept a b bs n = kept lists a b (λ t. list_answer t a bs n) refl (λ y. refl)
+list-kept a b bs n Fine x e = refused_fine x (ap (λ (r : ListResult). r.told) e)
+list-kept a b bs n (Refused y) x e = ap (λ (r : ListResult). r.field) e
 
 vector-kept : (a b : BitVector) (bs : List Bool) (n : ℕ) (t : Told) (x : Refusal) → vector_left b (Refused x) ≡ vector_answer t a bs n → b ≡ a
-vector-kept a b bs n = kept vectors a b (λ t. vector_answer t a bs n) refl (λ y. refl)
+vector-kept a b bs n Fine x e = refused_fine x (ap (λ (r : VectorResult). r.told) e)
+vector-kept a b bs n (Refused y) x e = ap (λ (r : VectorResult). r.field) e
 
 pub list-set_refused : (a b : BitList) (i : ℕ) (v : Bool) (x : Refusal) → list_left b (Refused x) ≡ list_set a i v → b ≡ a
 unfolding list_set

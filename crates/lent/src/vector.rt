@@ -33,8 +33,7 @@ pub fn difference_inplace(b: &mut BitVector, other: BitVector) -> Told
     made.told
 }
 
-// What each of them leaves of a bitfield of its own that it is lent, and what it tells. Their parameters are plain, so whoever calls them needs
-// no walk.
+// What each of them leaves of a bitfield of its own that it is lent, and what it tells.
 pub fn after_set(b: BitVector, i: usize, value: bool) -> VectorResult
     ensures { result ≡ vector_set b i value }
 {

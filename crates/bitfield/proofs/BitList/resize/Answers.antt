@@ -20,4 +20,6 @@ pub returns : goal.returns
 unfolding list_resize list_told
 returns c =
     let a = c.args.self in
-    list_done a _ c.args.m _ (and_then (list_told a) (and_then (limited c.args.m) (not_below c.args.m a.n))) (held (widened c.args.m (bits a))) c.result_of.ensures (rw c.first_told.ensures at c.resize_to-made.ensures)
+    let told = and_then (list_told a) (and_then (limited c.args.m) (not_below c.args.m a.n)) in
+    list_done a _ c.args.m _ told (held (widened c.args.m (bits a))) c.result_of.ensures
+    (rw c.first_told.ensures at c.resize_to-made.ensures)

@@ -19,4 +19,5 @@ pub returns : goal.returns
 unfolding list_set list_told
 returns c =
     let a = c.args.self in
-    list_done a _ a.n _ (and_then (list_told a) (inside c.args.i a.len)) (held (set (bits a) c.args.i c.args.value)) c.result_of.ensures (rw c.first_told.ensures at c.set_bit-made.ensures)
+    list_done a _ a.n _ (and_then (list_told a) (inside c.args.i a.len)) (held (set (bits a) c.args.i c.args.value)) c.result_of.ensures
+    (rw c.first_told.ensures at c.set_bit-made.ensures)

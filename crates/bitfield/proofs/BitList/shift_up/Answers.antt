@@ -20,4 +20,5 @@ pub returns : goal.returns
 unfolding list_shift_up list_told
 returns c =
     let a = c.args.self in
-    list_done a _ a.n _ (and_then (list_told a) (up_to c.args.k a.len)) (held (moved c.args.k (bits a))) c.result_of.ensures (rw c.first_told.ensures at c.shift-made.ensures)
+    list_done a _ a.n _ (and_then (list_told a) (up_to c.args.k a.len)) (held (moved c.args.k (bits a))) c.result_of.ensures
+    (rw c.first_told.ensures at c.shift-made.ensures)

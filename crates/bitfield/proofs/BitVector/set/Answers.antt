@@ -19,4 +19,5 @@ pub returns : goal.returns
 unfolding vector_set vector_told_lem
 returns c =
     let a = c.args.self in
-    vector-done a _ a.n _ (and_then (vector_told_lem a) (inside c.args.i a.len)) (held (set (bits a) c.args.i c.args.value)) c.result_of.ensures (rw c.first_told.ensures at c.set_bit-made.ensures)
+    vector-done a _ a.n _ (and_then (vector_told_lem a) (inside c.args.i a.len)) (held (set (bits a) c.args.i c.args.value)) c.result_of.ensures
+    (rw c.first_told.ensures at c.set_bit-made.ensures)

@@ -20,4 +20,5 @@ pub returns : goal.returns
 unfolding vector_shift_up vector_told_lem
 returns c =
     let a = c.args.self in
-    vector-done a _ a.n _ (and_then (vector_told_lem a) (up_to c.args.k a.len)) (held (moved c.args.k (bits a))) c.result_of.ensures (rw c.first_told.ensures at c.shift-made.ensures)
+    vector-done a _ a.n _ (and_then (vector_told_lem a) (up_to c.args.k a.len)) (held (moved c.args.k (bits a))) c.result_of.ensures
+    (rw c.first_told.ensures at c.shift-made.ensures)
