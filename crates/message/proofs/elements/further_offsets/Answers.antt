@@ -1,5 +1,4 @@
 -- The loop keeps `Following`; each way out is one of its laws. Assumes nothing.
-use Rattle.std.proofs.Common.{arith}
 use Rattle.message.proofs.Counting.{following_low, following_past, following_back, following_next, following_end}
 use Rattle.message.proofs.elements.further_offsets.Goals as goal
 

@@ -1,5 +1,5 @@
 -- A vector's count stands in the table; a list that was accepted says how many it has. Assumes nothing.
-use Rattle.std.proofs.Common.{◌+◌, arith, eq-eqb}
+use Rattle.std.proofs.Common.{◌+◌, arith}
 use Rattle.standard.specs.Bytes.{word_at}
 use Rattle.message.proofs.Rows.{node_legal}
 use Rattle.message.proofs.Repeats.{element-below, element-head, third-there}

@@ -25,10 +25,10 @@ overflow_add-next c =
 
 pub next_start-to-requires : goal.next_start-to-requires
 next_start-to-requires c = (
-      row_next _ _ _ _ _ _ _ c.requires.0 c.requires.1 c.requires.2,
-      first_rest _ _ _ _ _ _ _ _ _ c.requires.0 c.requires.1 c.requires.2 c.requires.3
-          (row_variable _ _ _ _ _ _ _ c.requires.0 c.requires.1 c.requires.2 _ refl c.if-k-eq0.true),
-    )
+  row_next _ _ _ _ _ _ _ c.requires.0 c.requires.1 c.requires.2,
+  first_rest _ _ _ _ _ _ _ _ _ c.requires.0 c.requires.1 c.requires.2 c.requires.3
+      (row_variable _ _ _ _ _ _ _ c.requires.0 c.requires.1 c.requires.2 _ refl c.if-k-eq0.true),
+)
 
 pub returns-then-k-eq0 : goal.returns-then-k-eq0
 returns-then-k-eq0 c =
