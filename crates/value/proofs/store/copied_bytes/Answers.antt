@@ -1,7 +1,6 @@
 -- Elements that share a word have one length. Assumes nothing.
 use Rattle.std.proofs.Common.{◌≡◌, refl, arith}
-use Rattle.message.proofs.Rows.{row-there, row-few, row_small}
-use Rattle.value.proofs.Elements.{product_small}
+use Rattle.message.proofs.Rows.{row-there, row-few}
 use Rattle.value.proofs.Repeats.{elements-together, no-elements}
 use Rattle.value.proofs.store.copied_bytes.Goals as goal
 

@@ -1,5 +1,5 @@
 -- The loop keeps `Adding`. Assumes nothing.
-use Rattle.std.proofs.Common.{sym, arith}
+use Rattle.std.proofs.Common.{arith}
 use Rattle.message.proofs.Rows.{row-there, row-few}
 use Rattle.value.proofs.Fills.{adding-none, adding-same, adding-next, adding-end}
 use Rattle.value.proofs.store.portion_of.Goals as goal
