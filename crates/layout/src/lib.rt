@@ -209,6 +209,7 @@ fn keep(lens: &mut [u32; 64], t: usize, n: Node)
 }
 
 // A leaf with one word behind its kind; its length goes to `lens`.
+#[tactic(auto, unfolding(crate::specs::Table::leaf_end_lem, crate::specs::Table::count))]
 fn leaf_end(lens: &mut [u32; 64], layout: &[u8], t: usize, kind: usize, at: usize) -> Checked
     requires { Known lens.old layout.now t × (t < 64) × (at < 2 ^ 32) × (at ≡ word_at layout.now (1 + t)) × (kind ≡ word_at layout.now at) × (kind < 6) }
     ensures { Ended layout.now t (leaf_end_lem layout.now at) result lens.new }
@@ -397,6 +398,7 @@ fn vector_end(lens: &mut [u32; 64], layout: &[u8], t: usize, at: usize) -> Check
 }
 
 // Where the body of type t ends, which starts at the word at; its length goes to `lens`.
+#[tactic(auto, unfolding(crate::specs::Table::body_end_lem, crate::specs::Table::count))]
 fn body_end(lens: &mut [u32; 64], layout: &[u8], t: usize, at: usize) -> Checked
     requires { Known lens.old layout.now t × (t < 64) × (at < 2 ^ 32) × (at ≡ word_at layout.now (1 + t)) }
     ensures { Ended layout.now t (body_end_lem layout.now t at) result lens.new }
@@ -483,6 +485,7 @@ fn types_of(layout: &[u8]) -> Checked
 }
 
 // The whole table, from lengths that are all 0.
+#[tactic(auto, unfolding(crate::specs::Table::table_of, crate::specs::Table::count))]
 fn table_end(lens: &mut [u32; 64], layout: &[u8]) -> Checked
     requires { Known lens.old layout.now 0 }
     ensures { Tabled layout.now result lens.new }
