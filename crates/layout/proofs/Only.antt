@@ -8,16 +8,16 @@ use Rattle.standard.proofs.Only.{Only, only_answer}
 use Rattle.layout.proofs.layout_check.Kinds as layout_check_kinds
 use Rattle.layout.proofs.layout_check.Reads as layout_check_reads
 use Rattle.layout.proofs.table_of.Kinds as table_of_kinds
-use Rattle.layout.proofs.table_of.Reads as table_of-reads
+use Rattle.layout.proofs.table_of.Reads as table_of_reads
 
 pub layout_check_only : Only layout_check_kinds.ps layout_check_kinds.r layout_check_reads.Post
 layout_check_only κs a x y e f p q = only_answer _ x y p q
 
-pub table_of_only : Only table_of_kinds.ps table_of_kinds.r table_of-reads.Post
+pub table_of_only : Only table_of_kinds.ps table_of_kinds.r table_of_reads.Post
 table_of_only κs a x y e f p q = only_answer _ x y p.0 q.0
 
 pub table_of_leaves :
     (κs : Lfts 2) (a : Dens κs table_of_kinds.ps) (x y : (res_t table_of_kinds.r κs).Denot)
     (e f : AtExit (ended_of 2 table_of_kinds.ps table_of_kinds.r) κs)
-    → table_of-reads.Post κs a x e → table_of-reads.Post κs a y f → e.0.now ≡ f.0.now
+    → table_of_reads.Post κs a x e → table_of_reads.Post κs a y f → e.0.now ≡ f.0.now
 table_of_leaves κs a x y e f p q = only_answer _ _ _ p.1 q.1

@@ -10,13 +10,13 @@ use Rattle.bitfield.specs.declared.ListResult.{ListResult}
 use Rattle.bitfield.specs.declared.VectorResult.{VectorResult}
 use Rattle.lent.specs.Left.{list_left, vector_left}
 use Rattle.lent.proofs.list.after_set.Kinds as list_after_set_kinds
-use Rattle.lent.proofs.list.after_set.Reads as list-after-set-reads
+use Rattle.lent.proofs.list.after_set.Reads as list_after_set_reads
 use Rattle.lent.proofs.list.after_not.Kinds as list_after_not_kinds
 use Rattle.lent.proofs.list.after_not.Reads as list_after_not_reads
 use Rattle.lent.proofs.list.after_difference.Kinds as list_after_difference_kinds
 use Rattle.lent.proofs.list.after_difference.Reads as list_after_difference_reads
 use Rattle.lent.proofs.vector.after_set.Kinds as vector_after_set_kinds
-use Rattle.lent.proofs.vector.after_set.Reads as vector-after-set-reads
+use Rattle.lent.proofs.vector.after_set.Reads as vector_after_set_reads
 use Rattle.lent.proofs.vector.after_not.Kinds as vector_after_not_kinds
 use Rattle.lent.proofs.vector.after_not.Reads as vector_after_not_reads
 use Rattle.lent.proofs.vector.after_difference.Kinds as vector_after_difference_kinds
@@ -32,7 +32,7 @@ vector_left_only d b c t u p q =
     let s = only_answer d (vector_left b t) (vector_left c u) p q in
     (ap (λ (r : VectorResult). r.field) s, ap (λ (r : VectorResult). r.told) s)
 
-pub list_after_set_only : Only list_after_set_kinds.ps list_after_set_kinds.r list-after-set-reads.Post
+pub list_after_set_only : Only list_after_set_kinds.ps list_after_set_kinds.r list_after_set_reads.Post
 list_after_set_only κs a x y e f p q = only_answer _ x y p q
 
 pub list_after_not_only : Only list_after_not_kinds.ps list_after_not_kinds.r list_after_not_reads.Post
@@ -41,7 +41,7 @@ list_after_not_only κs a x y e f p q = only_answer _ x y p q
 pub list_after_difference_only : Only list_after_difference_kinds.ps list_after_difference_kinds.r list_after_difference_reads.Post
 list_after_difference_only κs a x y e f p q = only_answer _ x y p q
 
-pub vector_after_set_only : Only vector_after_set_kinds.ps vector_after_set_kinds.r vector-after-set-reads.Post
+pub vector_after_set_only : Only vector_after_set_kinds.ps vector_after_set_kinds.r vector_after_set_reads.Post
 vector_after_set_only κs a x y e f p q = only_answer _ x y p q
 
 pub vector_after_not_only : Only vector_after_not_kinds.ps vector_after_not_kinds.r vector_after_not_reads.Post

@@ -264,15 +264,15 @@ module _ (l : List ℕ) where
 -- An item: the listing of a value's encoding, of a type of a legal table, at any start.
 module _ (l : List ℕ) (n : ℕ) (h : Bytes l) (e : table_of l ≡ Upto n) (t : ℕ) (i : t < n) (v : Val (tree_of l t)) (o : Ok (tree_of l t) v)
     (b : List ℕ) (q : serialize (tree_of l t) v ≡ b) (s : ℕ) (j : s + length b < 2 ^ 32) where
-  item-reads : Reads l (list_item_lem (tree_of l t) b s) (leaf_pieces (pieces (tree_of l t) v s))
+  item_reads : Reads l (list_item_lem (tree_of l t) b s) (leaf_pieces (pieces (tree_of l t) v s))
   unfolding Agrees
-  item-reads =
+  item_reads =
       let g = table_legal l n h e in
       rw q at (tree_agrees l n g.0 g.2 t i v s (legal_tree l n t g.0 i) o (rw q j))
 
   pub item_leaves : (k : ℕ) × (length (list_item_lem (tree_of l t) b s) ≡ 12 * k) ×
       (leaves_of l (items_in k (list_item_lem (tree_of l t) b s)) ≡ leaf_pieces (pieces (tree_of l t) v s))
-  item_leaves = (item-reads.many, item-reads.long, rw append-nil at (item-reads.read []))
+  item_leaves = (item_reads.many, item_reads.long, rw append-nil at (item_reads.read []))
 
 -- What is said of a call that lists k records of the message m under the layout l in the buffer o: the layout is legal and has so many types, the
 -- message is the encoding of a value within bounds, and the leaves among the k records that the buffer then begins with are that value's leaf pieces.
@@ -320,7 +320,7 @@ listed_leaves l m o k h i e =
     let a = sym (message-read l n h g.legal m g.small) ∙ q.1 in
     let u = listed-stored l m o n q.0 g.legal q.1 q.2 in
     let some = (table_legal l n h g.legal).1 in
-    let r = item-reads l n h g.legal (n - 1) (omega (arith, some)) g.value g.in_bounds m g.encoded 0 (omega (arith, g.small)) in
+    let r = item_reads l n h g.legal (n - 1) (omega (arith, some)) g.value g.in_bounds m g.encoded 0 (omega (arith, g.small)) in
     let long = rw q.3 at (listed-length (message_type l n) m 0 q.0 a) in
     let room : 12 * k ≤ length o = omega (arith, q.2, q.3) in
     record {

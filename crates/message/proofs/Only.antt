@@ -8,14 +8,14 @@ use Rattle.standard.proofs.Only.{Only, only_answer}
 use Rattle.message.proofs.check.Kinds as check_kinds
 use Rattle.message.proofs.check.Reads as check_reads
 use Rattle.message.proofs.list.Kinds as list_kinds
-use Rattle.message.proofs.list.Reads as list-reads
+use Rattle.message.proofs.list.Reads as list_reads
 use Rattle.message.proofs.unfold.Kinds as unfold_kinds
 use Rattle.message.proofs.unfold.Reads as unfold_reads
 
 pub check_only : Only check_kinds.ps check_kinds.r check_reads.Post
 check_only κs a x y e f p q = only_answer _ x y p q
 
-pub list_only : Only list_kinds.ps list_kinds.r list-reads.Post
+pub list_only : Only list_kinds.ps list_kinds.r list_reads.Post
 list_only κs a x y e f p q = only_answer _ x y p.0 q.0
 
 pub unfold_only : Only unfold_kinds.ps unfold_kinds.r unfold_reads.Post
@@ -23,7 +23,7 @@ unfold_only κs a x y e f p q = only_answer _ x y p.0 q.0
 
 pub list_leaves :
     (κs : Lfts 3) (a : Dens κs list_kinds.ps) (x y : (res_t list_kinds.r κs).Denot) (e f : AtExit (ended_of 3 list_kinds.ps list_kinds.r) κs)
-    → list-reads.Post κs a x e → list-reads.Post κs a y f → e.1.1.0.now ≡ f.1.1.0.now
+    → list_reads.Post κs a x e → list_reads.Post κs a y f → e.1.1.0.now ≡ f.1.1.0.now
 list_leaves κs a x y e f p q = only_answer _ _ _ p.1 q.1
 
 pub unfold_leaves :

@@ -14,19 +14,19 @@ use Rattle.reader.specs.Walked.{reader_at, told_next, item_next, reader_after}
 use Rattle.reader.specs.declared.SszReader.{SszReader}
 use Rattle.reader.specs.declared.Taken.{Taken}
 use Rattle.reader.proofs.step_after.Kinds as step_after_kinds
-use Rattle.reader.proofs.step_after.Reads as step-after-reads
+use Rattle.reader.proofs.step_after.Reads as step_after_reads
 use Rattle.reader.proofs.item_after.Kinds as item_after_kinds
-use Rattle.reader.proofs.item_after.Reads as item-after-reads
+use Rattle.reader.proofs.item_after.Reads as item_after_reads
 use Rattle.reader.proofs.item_then.Kinds as item_then_kinds
 use Rattle.reader.proofs.item_then.Reads as item_then_reads
 
-pub step_after_only : Only step_after_kinds.ps step_after_kinds.r step-after-reads.Post
+pub step_after_only : Only step_after_kinds.ps step_after_kinds.r step_after_reads.Post
 step_after_only κs a x y e f p q = only_answer _ x y p q
 
 pub item_after_only :
     (κs : Lfts 1) (a : Dens κs item_after_kinds.ps) (x y : (res_t item_after_kinds.r κs).Denot)
     (e f : AtExit (ended_of 1 item_after_kinds.ps item_after_kinds.r) κs)
-    → item-after-reads.Post κs a x e → item-after-reads.Post κs a y f → x.now ≡ y.now
+    → item_after_reads.Post κs a x e → item_after_reads.Post κs a y f → x.now ≡ y.now
 item_after_only κs a x y e f p q = only_answer _ _ _ p q
 
 pub item_then_only :
