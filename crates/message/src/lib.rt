@@ -104,6 +104,7 @@ fn list_under(
 }
 
 // Lists the items of a message in records of three words: the check's refusals, then 22 (records needed, room in whole records).
+#[tactic(auto, unfolding(crate::specs::Check::list_message, crate::specs::Check::listed_records, crate::specs::Check::check_message))]
 pub fn list(layout: &[u8], message: &[u8], records: &mut [u8]) -> Listed
     ensures value { result ≡ list_message layout.now message.now records.old }
     ensures records_after { records.new ≡ listed_records layout.now message.now records.old }
@@ -151,6 +152,7 @@ fn unfold_under(
 }
 
 // Unfolds a message into contents words and body bytes: the check's refusals, then 22 (words needed, bytes needed) if either room is short.
+#[tactic(auto, unfolding(crate::specs::Unfold::unfold_message, crate::specs::Unfold::unfolded_words, crate::specs::Unfold::unfolded_bytes, crate::specs::Check::check_message))]
 pub fn unfold(layout: &[u8], message: &[u8], contents: &mut [u32], bodies: &mut [u8]) -> Unfolded
     ensures value { result ≡ unfold_message layout.now message.now contents.old bodies.old }
     ensures contents_after { contents.new ≡ unfolded_words layout.now message.now contents.old bodies.old }

@@ -7,31 +7,12 @@ use Rattle.message.proofs.Entries.{storing_lies, storing_accepted, storing_room,
 use Rattle.message.proofs.Entries.{leaf-stored, accepted-start, union-bare, union-body, union-never, body-accepted}
 use Rattle.message.proofs.listing.+list_fields_list_item.Goals as goal
 
-pub list_fields-loop-left-init : goal.list_fields-loop-left-init
-list_fields-loop-left-init t c =
-    record {
-      row = c.requires.0;
-      ranges = c.requires.2;
-      accepted = c.requires.3;
-      room = c.requires.4;
-      done = [];
-      stored = stored-none _ _ [] refl;
-      whole = refl;
-    }
-
 pub list_fields-word_in-f-requires : goal.list_fields-word_in-f-requires
 list_fields-word_in-f-requires t c = row-there _ _ _ _ _ _ c.loop-left.invariant.row c.loop-left-test.true
-
-pub list_fields-locate-w-requires : goal.list_fields-locate-w-requires
-list_fields-locate-w-requires t c =
-    (c.loop-left.invariant.row, c.loop-left-test.true, c.word_in-f.ensures.0, c.loop-left.invariant.ranges)
 
 pub list_fields-overflow_add-place : goal.list_fields-overflow_add-place
 list_fields-overflow_add-place t c =
     omega (arith, storing_lies c.loop-left.invariant c.loop-left-test.true c.word_in-f.ensures.0 _ c.locate-w.ensures, c.requires.1)
-
-pub list_fields-overflow_add-a : goal.list_fields-overflow_add-a
-list_fields-overflow_add-a t c = omega (arith, c.loop-left.invariant.row.near, c.loop-left.invariant.row.steps)
 
 pub list_fields-look_in-n-requires : goal.list_fields-look_in-n-requires
 list_fields-look_in-n-requires t c = row-legal _ _ _ _ _ _ _ c.loop-left.invariant.row c.loop-left-test.true c.word_in-f.ensures.0
@@ -46,16 +27,10 @@ pub list_fields-slice_bounds-put_entry-end : goal.list_fields-slice_bounds-put_e
 list_fields-slice_bounds-put_entry-end t c = (storing_lies c.loop-left.invariant c.loop-left-test.true c.word_in-f.ensures.0 _ c.locate-w.ensures).1
 
 pub list_fields-put_entry-requires : goal.list_fields-put_entry-requires
-list_fields-put_entry-requires t c =
-    (
-      room-long _ _ _ _ _ (storing_room c.loop-left.invariant c.loop-left-test.true c.word_in-f.ensures.0 _ c.locate-w.ensures),
-      omega (arith, storing_lies c.loop-left.invariant c.loop-left-test.true c.word_in-f.ensures.0 _ c.locate-w.ensures, c.requires.1),
-    )
-
-pub list_fields-overflow_add-at : goal.list_fields-overflow_add-at
-list_fields-overflow_add-at t c =
-    let room = room-long _ _ _ _ _ (storing_room c.loop-left.invariant c.loop-left-test.true c.word_in-f.ensures.0 _ c.locate-w.ensures) in
-    omega (arith, room, stored-length _ _ _ _ _ c.loop-left.invariant.stored, c.well_formed)
+list_fields-put_entry-requires t c = (
+  room-long _ _ _ _ _ (storing_room c.loop-left.invariant c.loop-left-test.true c.word_in-f.ensures.0 _ c.locate-w.ensures),
+  omega (arith, storing_lies c.loop-left.invariant c.loop-left-test.true c.word_in-f.ensures.0 _ c.locate-w.ensures, c.requires.1),
+)
 
 pub list_fields-loop-left-preserved-then-n-lt6 : goal.list_fields-loop-left-preserved-then-n-lt6
 list_fields-loop-left-preserved-then-n-lt6 t c =
@@ -73,8 +48,7 @@ list_fields-slice_bounds-list_item-end t c = (storing_lies c.loop-left.invariant
 
 pub list_fields-list_item-at-requires : goal.list_fields-list_item-at-requires
 list_fields-list_item-at-requires t c =
-    let lower = row_below _ _ _ _ _ _ _ c.loop-left.invariant.row c.loop-left-test.true c.word_in-f.ensures.0 in
-    (
+    let lower = row_below _ _ _ _ _ _ _ c.loop-left.invariant.row c.loop-left-test.true c.word_in-f.ensures.0 in (
       omega (arith, lower, c.decreases),
       (
         row_under _ _ _ _ _ _ _ c.loop-left.invariant.row c.loop-left-test.true c.word_in-f.ensures.0,
@@ -110,8 +84,7 @@ list_item-slice_bounds-list_item-start t c =
 
 pub list_item-list_item-requires : goal.list_item-list_item-requires
 list_item-list_item-requires t c =
-    let z = body_below _ _ _ _ c.look_in-n.ensures c.requires.0 c.if-n-eq7.true _ _ c.in-Body.ensures in
-    (
+    let z = body_below _ _ _ _ c.look_in-n.ensures c.requires.0 c.if-n-eq7.true _ _ c.in-Body.ensures in (
       omega (arith, c.decreases, z),
       (
         under-below _ _ _ _ (omega (arith, z)) c.requires.0,
@@ -125,19 +98,6 @@ list_item-list_item-requires t c =
 pub list_item-series_in-s-requires : goal.list_item-series_in-s-requires
 list_item-series_in-s-requires t c =
     (c.requires.0, omega (arith, c.requires.1), c.look_in-n.ensures, c.if-n-eq7.false, accepted-start _ _ _ 0 c.requires.2)
-
-pub list_item-list_fields-requires : goal.list_item-list_fields-requires
-list_item-list_fields-requires t c =
-    (
-      omega (arith, c.decreases),
-      (
-        c.series_in-s.ensures.row,
-        c.requires.1,
-        c.series_in-s.ensures.ranges,
-        c.series_in-s.ensures.accepted _,
-        room_then _ _ _ _ _ _ _ c.requires.3 (c.series_in-s.ensures.listed _) c.put_entry.ensures,
-      ),
-    )
 
 pub list_item-returns-in-Bare : goal.list_item-returns-in-Bare
 list_item-returns-in-Bare t c =

@@ -7,20 +7,6 @@ use Rattle.message.proofs.Unfolds.{filling_last, own-fits, own_room, own-next, n
 use Rattle.message.proofs.Unfolds.{union-room, union-long, bare-filled, never, body-words, body_bytes, body_accepts}
 use Rattle.message.proofs.unfolding.+unfold_fields_unfold_item.Goals as goal
 
-pub unfold_fields-loop-left-init : goal.unfold_fields-loop-left-init
-unfold_fields-loop-left-init t c =
-    record {
-      row = c.requires.0;
-      ranges = c.requires.2;
-      accepted = c.requires.3;
-      rooms = c.requires.4;
-      words = [];
-      bytes = [];
-      filled = filled_none _ _ _;
-      all_words = refl;
-      all-bytes = refl;
-    }
-
 pub unfold_fields-word_in-f-requires : goal.unfold_fields-word_in-f-requires
 unfold_fields-word_in-f-requires t c = row-there _ _ _ _ _ _ c.loop-left.invariant.row c.loop-left-test.true
 
@@ -37,18 +23,9 @@ unfold_fields-slice_bounds-put_bytes-end t c = own-fits c.loop-left.invariant _ 
 pub unfold_fields-put_bytes-at-requires : goal.unfold_fields-put_bytes-at-requires
 unfold_fields-put_bytes-at-requires t c = own_room c.loop-left.invariant _ c.loop-left-test.true c.word_in-f.ensures.0 _ refl c.if-k-gt0.true
 
-pub unfold_fields-overflow_add-a : goal.unfold_fields-overflow_add-a
-unfold_fields-overflow_add-a t c = omega (arith, c.loop-left.invariant.row.near, c.loop-left.invariant.row.steps)
-
 pub unfold_fields-loop-left-preserved-then-k-gt0 : goal.unfold_fields-loop-left-preserved-then-k-gt0
 unfold_fields-loop-left-preserved-then-k-gt0 t c =
     own-next c.loop-left.invariant _ c.loop-left-test.true c.word_in-f.ensures.0 _ refl c.if-k-gt0.true _ _ c.put_bytes-at.ensures.0 c.put_bytes-at.ensures.1
-
-pub unfold_fields-locate-w-requires : goal.unfold_fields-locate-w-requires
-unfold_fields-locate-w-requires t c = (c.loop-left.invariant.row, c.loop-left-test.true, c.word_in-f.ensures.0, c.loop-left.invariant.ranges)
-
-pub unfold_fields-overflow_add-a-in-loop-left : goal.unfold_fields-overflow_add-a-in-loop-left
-unfold_fields-overflow_add-a-in-loop-left t c = omega (arith, c.loop-left.invariant.row.near, c.loop-left.invariant.row.steps)
 
 pub unfold_fields-look_in-n-requires : goal.unfold_fields-look_in-n-requires
 unfold_fields-look_in-n-requires t c = row-legal _ _ _ _ _ _ _ c.loop-left.invariant.row c.loop-left-test.true c.word_in-f.ensures.0
@@ -65,8 +42,7 @@ unfold_fields-slice_bounds-unfold_leaf-end t c = (filling_lies c.loop-left.invar
 pub unfold_fields-unfold_leaf-at-requires : goal.unfold_fields-unfold_leaf-at-requires
 unfold_fields-unfold_leaf-at-requires t c =
     let under = row_under _ _ _ _ _ _ _ c.loop-left.invariant.row c.loop-left-test.true c.word_in-f.ensures.0 in
-    let accepts = filling_accepts c.loop-left.invariant _ c.loop-left-test.true c.word_in-f.ensures.0 _ c.locate-w.ensures in
-    (
+    let accepts = filling_accepts c.loop-left.invariant _ c.loop-left-test.true c.word_in-f.ensures.0 _ c.locate-w.ensures in (
       leaf_variable _ _ _ _ c.look_in-n.ensures under _ accepts c.if-n-lt6.true (no_more _ c.if-k-gt0.false),
       (node_legal _ _ _ _ c.look_in-n.ensures under).small,
       omega (arith, filling_lies c.loop-left.invariant _ c.loop-left-test.true c.word_in-f.ensures.0 _ c.locate-w.ensures, c.requires.1),
@@ -86,8 +62,7 @@ unfold_fields-slice_bounds-unfold_item-end t c = (filling_lies c.loop-left.invar
 
 pub unfold_fields-unfold_item-at-requires : goal.unfold_fields-unfold_item-at-requires
 unfold_fields-unfold_item-at-requires t c =
-    let lower = row_below _ _ _ _ _ _ _ c.loop-left.invariant.row c.loop-left-test.true c.word_in-f.ensures.0 in
-    (
+    let lower = row_below _ _ _ _ _ _ _ c.loop-left.invariant.row c.loop-left-test.true c.word_in-f.ensures.0 in (
       omega (arith, lower, c.decreases),
       (
         row_under _ _ _ _ _ _ _ c.loop-left.invariant.row c.loop-left-test.true c.word_in-f.ensures.0,
@@ -118,18 +93,16 @@ pub unfold_item-select-c-requires : goal.unfold_item-select-c-requires
 unfold_item-select-c-requires t c = omega (arith, (node_legal _ _ _ _ c.look_in-n.ensures c.requires.0).near)
 
 pub unfold_item-put_selector-requires : goal.unfold_item-put_selector-requires
-unfold_item-put_selector-requires t c =
-    (
-      union-room _ _ _ _ c.look_in-n.ensures c.requires.0 _ c.requires.2 c.if-n-eq7.true _ _ _ c.requires.3,
-      union-long _ _ _ _ c.look_in-n.ensures c.requires.0 _ c.requires.2 c.if-n-eq7.true,
-    )
+unfold_item-put_selector-requires t c = (
+  union-room _ _ _ _ c.look_in-n.ensures c.requires.0 _ c.requires.2 c.if-n-eq7.true _ _ _ c.requires.3,
+  union-long _ _ _ _ c.look_in-n.ensures c.requires.0 _ c.requires.2 c.if-n-eq7.true,
+)
 
 pub unfold_item-put_selector-inside-requires : goal.unfold_item-put_selector-inside-requires
-unfold_item-put_selector-inside-requires t c =
-    (
-      union-room _ _ _ _ c.look_in-n.ensures c.requires.0 _ c.requires.2 c.if-n-eq7.true _ _ _ c.requires.3,
-      union-long _ _ _ _ c.look_in-n.ensures c.requires.0 _ c.requires.2 c.if-n-eq7.true,
-    )
+unfold_item-put_selector-inside-requires t c = (
+  union-room _ _ _ _ c.look_in-n.ensures c.requires.0 _ c.requires.2 c.if-n-eq7.true _ _ _ c.requires.3,
+  union-long _ _ _ _ c.look_in-n.ensures c.requires.0 _ c.requires.2 c.if-n-eq7.true,
+)
 
 pub unfold_item-slice_bounds-unfold_item-count : goal.unfold_item-slice_bounds-unfold_item-count
 unfold_item-slice_bounds-unfold_item-count t c = omega (arith, body_below _ _ _ _ c.look_in-n.ensures c.requires.0 c.if-n-eq7.true _ _ c.in-Body.ensures)
@@ -139,8 +112,7 @@ unfold_item-slice_bounds-unfold_item-start t c = omega (arith, body_below _ _ _ 
 
 pub unfold_item-unfold_item-requires : goal.unfold_item-unfold_item-requires
 unfold_item-unfold_item-requires t c =
-    let z = body_below _ _ _ _ c.look_in-n.ensures c.requires.0 c.if-n-eq7.true _ _ c.in-Body.ensures in
-    (
+    let z = body_below _ _ _ _ c.look_in-n.ensures c.requires.0 c.if-n-eq7.true _ _ c.in-Body.ensures in (
       omega (arith, c.decreases, z),
       (
         under-below _ _ _ _ (omega (arith, z)) c.requires.0,
@@ -151,16 +123,6 @@ unfold_item-unfold_item-requires t c =
             (body_bytes _ _ _ _ c.look_in-n.ensures c.requires.0 _ c.requires.2 c.if-n-eq7.true _ c.in-Body.ensures)
             (words-filled _ _ _ _ _ _ c.put_selector-inside.ensures.0 c.put_selector-inside.ensures.1),
       ),
-    )
-
-pub unfold_item-begin-s-requires : goal.unfold_item-begin-s-requires
-unfold_item-begin-s-requires t c = (c.requires.0, c.requires.1, c.look_in-n.ensures, c.if-n-eq7.false, c.requires.2, c.requires.3)
-
-pub unfold_item-unfold_fields-requires : goal.unfold_item-unfold_fields-requires
-unfold_item-unfold_fields-requires t c =
-    (
-      omega (arith, c.decreases),
-      (c.begin-s.ensures.row, c.requires.1, c.begin-s.ensures.ranges, c.begin-s.ensures.accepted, c.begin-s.ensures.rooms),
     )
 
 pub unfold_item-returns-in-Bare : goal.unfold_item-returns-in-Bare

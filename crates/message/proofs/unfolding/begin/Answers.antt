@@ -16,8 +16,7 @@ returns-then-lens-t-gt0 c =
 
 pub unfold_leaf-end-requires : goal.unfold_leaf-end-requires
 unfold_leaf-end-requires c =
-    let none = no_more _ c.if-lens-t-gt0.false in
-    (
+    let none = no_more _ c.if-lens-t-gt0.false in (
       leaf_variable _ _ _ _ c.requires.2 c.requires.0 _ c.requires.4 c.if-n-lt6.true none,
       (node_legal _ _ _ _ c.requires.2 c.requires.0).small,
       c.requires.1,

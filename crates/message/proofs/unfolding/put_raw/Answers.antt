@@ -9,12 +9,11 @@ pub copy_into-whole-requires : goal.copy_into-whole-requires
 copy_into-whole-requires c = raw-room _ _ _ _ c.requires.0 c.requires.1
 
 pub put_last-requires : goal.put_last-requires
-put_last-requires c =
-    (
-      raw-place _ _ _ _ _ _ c.requires.0 c.requires.1 (raw-odd _ c.if-rest-ne0.true) c.copy_into-whole.ensures,
-      omega arith,
-      last-from _ _ (bytes-known _ c.type_inv.b) c.requires.0,
-    )
+put_last-requires c = (
+  raw-place _ _ _ _ _ _ c.requires.0 c.requires.1 (raw-odd _ c.if-rest-ne0.true) c.copy_into-whole.ensures,
+  omega arith,
+  last-from _ _ (bytes-known _ c.type_inv.b) c.requires.0,
+)
 
 pub returns-then-rest-ne0 : goal.returns-then-rest-ne0
 returns-then-rest-ne0 c =
@@ -22,12 +21,11 @@ returns-then-rest-ne0 c =
     (raw-long _ _ (bytes-known _ c.type_inv.b) c.requires.0 (raw-odd _ c.if-rest-ne0.true))
 
 pub put_last-requires-then-full-eq0 : goal.put_last-requires-then-full-eq0
-put_last-requires-then-full-eq0 c =
-    (
-      raw-place _ _ _ _ _ _ c.requires.0 c.requires.1 (raw-single _ c.if-full-eq0.true) c.copy_into-whole.ensures,
-      omega arith,
-      last-from _ _ (bytes-known _ c.type_inv.b) c.requires.0,
-    )
+put_last-requires-then-full-eq0 c = (
+  raw-place _ _ _ _ _ _ c.requires.0 c.requires.1 (raw-single _ c.if-full-eq0.true) c.copy_into-whole.ensures,
+  omega arith,
+  last-from _ _ (bytes-known _ c.type_inv.b) c.requires.0,
+)
 
 pub returns-then-full-eq0 : goal.returns-then-full-eq0
 returns-then-full-eq0 c =

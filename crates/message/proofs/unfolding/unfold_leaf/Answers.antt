@@ -12,8 +12,7 @@ returns-then-n-eq3 c = free_filled _ _ _ _ _ _ c.if-n-eq3.true _ _ _ c.unfold_fr
 
 pub unfold_bits-requires : goal.unfold_bits-requires
 unfold_bits-requires c =
-    let q = marked-at c.args.b.now c.args.n.second _ (bytes-known _ c.type_inv.b) (sym c.in-Bits.ensures) in
-    (
+    let q = marked-at c.args.b.now c.args.n.second _ (bytes-known _ c.type_inv.b) (sym c.in-Bits.ensures) in (
       omega (arith, q.1, c.requires.1),
       q.0,
       bits-rooms _ _ _ _ _ _ (variable_bits _ _ c.requires.0 c.if-n-eq3.false) _ c.in-Bits.ensures c.requires.4,
