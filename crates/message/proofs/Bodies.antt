@@ -1,20 +1,19 @@
 -- Containers and unions: what their steps give is what the rules of reading say. Assumes nothing.
 use mathlib.Core.Path.{◌≡◌, refl, sym, ap, ◌∙◌}
-use mathlib.Core.List.{List, [], ◌∷◌}
+use mathlib.Core.List.{List}
 use mathlib.Core.Bool.{Bool, true, false}
 use mathlib.Core.Logic.{◌⊎◌, inl, inr, ⊎_elim}
 use Prim.Native.Nat.{ℕ, zero, suc, ◌+◌, ◌-◌, ◌≤◌, ◌<◌, ◌^◌}
 use native.Mathlib.Nat.{add-zero}
 use native.Mathlib.Omega.{arith}
-use borrow.Author.Tests.{eqb-true, eqb-false, ltb-true, ltb-false, lt-ltb, le-ltb, eq-eqb, ne_eqb, leb-true, le-leb, lt-leb}
-use lib.ListN.{length, get_or, take, drop, length-take, length-drop}
+use borrow.Author.Tests.{eqb-true, eqb-false, ltb-true, lt-ltb, le-ltb, eq-eqb, ne_eqb, leb-true, le-leb}
+use lib.ListN.{length, get_or, take, drop, length-drop}
 use lib.Seq.{take_all}
 use lib.Dec.{eqb, leb, ltb}
 use Rattle.standard.specs.Choice.{pick, and_also}
 use Rattle.standard.specs.Bytes.{word_at}
-use Rattle.standard.specs.Types.{Ty, Tys, Opts, number, boolean, fixed_bytes, free_bytes, union, end, field, over, bare, body, head, heads}
+use Rattle.standard.specs.Types.{Ty, Opts, number, boolean, fixed_bytes, free_bytes, union, bare, body, head}
 use Rattle.standard.specs.Parts.{span_of, part, InRange}
-use Rattle.standard.specs.declared.Head.{Head}
 use Rattle.standard.specs.declared.Head.TheVariants.{Fixed}
 use Rattle.standard.specs.declared.Span.{Span}
 use Rattle.standard.specs.declared.Told.{Told}
@@ -25,7 +24,7 @@ use Rattle.decode.specs.Unions.{selector_of, split_union}
 use Rattle.decode.specs.declared.union_selector.UnionSelector.{UnionSelector}
 use Rattle.decode.specs.declared.union_selector.SelectorResult.{SelectorResult}
 use Rattle.layout.specs.Tree.{node_of, leaf_of, options, trees, tree_of, len_of}
-use Rattle.layout.specs.Legal.{LowerOrBare, Legal}
+use Rattle.layout.specs.Legal.{LowerOrBare}
 use Rattle.layout.specs.declared.Node.{Node}
 use Rattle.layout.proofs.Facts.{trees-get, as_union, as_leaf}
 use Rattle.message.specs.Read.{one, plus, and_then, built, read_exact, read_item, read_fields, read_option}

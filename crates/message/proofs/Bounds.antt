@@ -3,7 +3,6 @@
 -- Assumes nothing.
 use mathlib.Core.Path.{◌≡◌, refl}
 use mathlib.Core.List.{List, ◌∷◌}
-use mathlib.Core.Bool.{Bool, true, false}
 use Prim.Native.Nat.{ℕ, zero, suc, ◌+◌, ◌-◌, ◌*◌, ◌/◌, ◌≤◌, ◌<◌, ◌^◌, max}
 use native.Mathlib.Nat.{add-zero, mul-le-mul_left, mul-le-mul_right}
 use native.Mathlib.Omega.{arith}

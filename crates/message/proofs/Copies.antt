@@ -3,18 +3,18 @@
 --     elements_laid    a list of n elements has their heads in range, the first variable one right behind the offsets; and back
 --     vector-laid      so has a vector
 --     copies-many      a list is counted as the elements of the value that it is the serialization of
-use mathlib.Core.Path.{◌≡◌, refl, sym, ap, ap₂, ◌∙◌}
-use mathlib.Core.List.{List, [], ◌∷◌, ◌++◌}
+use mathlib.Core.Path.{◌≡◌, refl, sym, ap, ◌∙◌}
+use mathlib.Core.List.{List, ◌++◌}
 use mathlib.Core.Bool.{Bool, true, false}
 use Prim.Native.Nat.{ℕ, zero, suc, ◌+◌, ◌-◌, ◌*◌, ◌/◌, ◌%◌, ◌≤◌, ◌<◌, ◌^◌}
 use native.Mathlib.Nat.{add-zero, mul-div_cancel, mul-mod_left, div-add-mod'}
 use native.Mathlib.Omega.{arith}
-use borrow.Author.Tests.{eqb-true, eqb-false, ltb-true, ltb-false, leb-true, le-leb, le-ltb, lt-ltb, eq-eqb, ne_eqb}
+use borrow.Author.Tests.{eqb-true, eqb-false, ltb-false, leb-true, le-leb, le-ltb, eq-eqb, ne_eqb}
 use lib.ListN.{length, replicate}
 use lib.Dec.{eqb, ltb, leb}
 use Rattle.standard.specs.Choice.{pick, or_else}
 use Rattle.standard.specs.Bytes.{four}
-use Rattle.standard.specs.Types.{Ty, Tys, head, heads, width, portion, LegalTy}
+use Rattle.standard.specs.Types.{Ty, head, heads, width, portion, LegalTy}
 use Rattle.standard.specs.Parts.{join, span_of, part, next, InRange}
 use Rattle.standard.specs.Serialize.{Val, Vals, OkAll, parts}
 use Rattle.standard.specs.declared.Head.{Head}
@@ -23,11 +23,11 @@ use Rattle.standard.specs.declared.Told.{Told}
 use Rattle.standard.specs.declared.Refusal.{Refusal}
 use Rattle.standard.specs.declared.Refusal.TheVariants.{InvalidLengthPrefix, OffsetOutOfBounds, InvalidListFixedBytesLen}
 use Rattle.standard.proofs.Elements.{copies, heads-copies, as_list, portion-copies}
-use Rattle.standard.proofs.Join.{range_weaken, join-ranges, join-next}
+use Rattle.standard.proofs.Join.{join-ranges, join-next}
 use Rattle.standard.proofs.Laws.{fixed-some, copies-heads, values_sized}
 use Rattle.decode.specs.Builder.{lay_out_lem}
 use Rattle.decode.proofs.Register.{layout-ranges, layout-next, layout-passes}
-use Rattle.message.specs.Read.{within, further, then_many, behind_first_lem, offset_elements_lem, elements, many_of, vector_told_lem, and_then, read_each, read_item, read_fields}
+use Rattle.message.specs.Read.{within, further, then_many, behind_first_lem, offset_elements_lem, elements, vector_told_lem, and_then, read_each, read_item, read_fields}
 use Rattle.message.specs.Listing.{list_each, list_item_lem, list_fields_lem}
 use Rattle.message.specs.Form.{in_order, contents, contents_all, bodies, bodies_all}
 use Rattle.message.specs.Unfold.{each_from, unfold_words, unfold_bytes, words_fields, bytes_fields}

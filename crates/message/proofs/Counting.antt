@@ -4,7 +4,6 @@
 use mathlib.Core.Path.{◌≡◌, refl, sym, ◌∙◌}
 use mathlib.Core.List.{List}
 use Prim.Native.Nat.{ℕ, zero, suc, ◌+◌, ◌-◌, ◌*◌, ◌/◌, ◌%◌, ◌≤◌, ◌<◌}
-use native.Mathlib.Nat.{zero-add, add_comm}
 use native.Mathlib.Omega.{arith}
 use borrow.Author.Tests.{eqb-true, lt-ltb, le-ltb}
 use lib.ListN.{length}
@@ -15,9 +14,7 @@ use Rattle.standard.specs.declared.Head.TheVariants.{Fixed, Variable}
 use Rattle.standard.specs.declared.Told.{Told}
 use Rattle.standard.specs.declared.Refusal.{Refusal}
 use Rattle.standard.specs.declared.Refusal.TheVariants.{OffsetIntoFixedPortion, OffsetOutOfBounds, OffsetsAreDecreasing}
-use Rattle.message.specs.Read.{one, and_then, within, further, then_many, behind_first_lem, elements}
-use Rattle.message.specs.declared.Answer.{Answer}
-use Rattle.message.specs.declared.Answer.TheVariants.{Accepted, Refused}
+use Rattle.message.specs.Read.{within, further, then_many, behind_first_lem, elements}
 use Rattle.message.specs.declared.elements.Elements.{Elements}
 use Rattle.message.specs.declared.elements.Elements.TheVariants.{Many}
 use Rattle.message.proofs.Answers.{pick-holds}

@@ -2,17 +2,14 @@
 --     element-row      they are a row with step 0, any number of them
 --     list_read        a list is read as that row, behind its count; list-listed, list-words, list-bytes likewise
 --     vector-read      and so is a vector
-use mathlib.Core.Path.{◌≡◌, refl, sym, ap, ◌∙◌}
-use mathlib.Core.List.{List, [], ◌∷◌, ◌++◌}
+use mathlib.Core.Path.{◌≡◌, refl, ap, ◌∙◌}
+use mathlib.Core.List.{List, ◌∷◌, ◌++◌}
 use Prim.Native.Nat.{ℕ, zero, suc, ◌+◌, ◌*◌, ◌≤◌, ◌<◌, ◌^◌}
 use native.Mathlib.Nat.{add-zero}
 use native.Mathlib.Omega.{arith}
-use lib.ListN.{length, get_or, replicate}
+use lib.ListN.{get_or, replicate}
 use Rattle.standard.specs.Bytes.{word_at}
-use Rattle.standard.specs.Types.{Ty, Tys, boolean, list, vector, field, head, heads, width, LegalTy}
-use Rattle.standard.specs.declared.Head.{Head}
-use Rattle.standard.specs.declared.Head.TheVariants.{Fixed}
-use Rattle.standard.specs.declared.Told.{Told}
+use Rattle.standard.specs.Types.{Ty, boolean, list, vector, field, head, heads, width, LegalTy}
 use Rattle.standard.proofs.Elements.{copies, heads-copies}
 use Rattle.standard.proofs.Laws.{fixed-some}
 use Rattle.layout.specs.Tree.{node_of, trees, tree_of, head_of}

@@ -5,7 +5,7 @@ use mathlib.Core.List.{List, [], ◌∷◌}
 use Prim.Native.Nat.{ℕ, zero, suc, ◌+◌, ◌-◌, ◌≤◌, ◌<◌, ◌^◌}
 use native.Mathlib.Omega.{arith}
 use borrow.Author.Tests.{le-ltb, eq-eqb}
-use lib.ListN.{length, get_or, take, drop, length-take, length-drop}
+use lib.ListN.{length, get_or, length-take, length-drop}
 use Rattle.standard.specs.Bytes.{four, word_at}
 use Rattle.standard.specs.Types.{Ty, Tys, boolean, container, end, field, head, head_all, heads}
 use Rattle.standard.specs.Parts.{next, span_of, part, InRange}

@@ -17,13 +17,13 @@ use Rattle.standard.specs.Choice.{pick}
 use Rattle.standard.specs.Bytes.{Bytes, num}
 use Rattle.standard.specs.Bits.{packs, pack, marked}
 use Rattle.standard.specs.Types.{Ty, Tys, Opts, number, boolean, fixed_bytes, free_bytes, bit_vector, bit_list, container, union, list, vector, end, field, over, bare, body, head, heads, Rising, LegalTy, LegalAll, LegalOptions}
-use Rattle.standard.specs.Parts.{alike, join, span_of, part, split}
+use Rattle.standard.specs.Parts.{join, span_of, part, split}
 use Rattle.standard.specs.Serialize.{Val, Vals, Option, Ok, OkAll, OkOption, serialize, parts}
 use Rattle.standard.specs.declared.Refusal.{Refusal}
 use Rattle.standard.specs.declared.Refusal.TheVariants.{NoRoom}
 use Rattle.standard.proofs.Bits.{bits_of, marked-injective, bytes-marked}
 use Rattle.standard.proofs.Join.{Small, split-join, small-join}
-use Rattle.standard.proofs.Elements.{All, copies, all-copies, as_list, length-as_list, by_copies, alike-copies, ok-copies}
+use Rattle.standard.proofs.Elements.{All, copies, all-copies, length-as_list, by_copies, alike-copies, ok-copies}
 use Rattle.standard.proofs.Laws.{heads-parts, legal-copies, values_sized, piece_bytes, piece-rest, selector, payload, selected_is, selector-bounds}
 use Rattle.bitfield.proofs.Standard.{list-sound, list-complete}
 use Rattle.layout.specs.Table.{table_of}

@@ -1,5 +1,5 @@
 -- The value form: document 01, "The value form". Assumes nothing: these are definitions.
-use Rattle.std.specs.Prelude.{ℕ, ◌+◌, List, [], ◌∷◌, ◌++◌, Bool, length}
+use Rattle.std.specs.Prelude.{ℕ, List, [], ◌∷◌, ◌++◌, Bool, length}
 use Rattle.std.proofs.Common.{inl, inr}
 use Rattle.standard.specs.Bytes.{le}
 use Rattle.standard.specs.Bits.{bit, packs}

@@ -1,5 +1,5 @@
 -- The rules of reading: document 01, "Rules of reading". Assumes nothing: these are definitions.
-use Rattle.std.specs.Prelude.{ℕ, zero, suc, ◌+◌, ◌-◌, ◌*◌, ◌/◌, ◌%◌, max, List, [], ◌∷◌, length, get_or, drop, replicate, eqb, ltb, leb}
+use Rattle.std.specs.Prelude.{ℕ, zero, suc, ◌+◌, ◌-◌, ◌*◌, ◌/◌, ◌%◌, max, List, length, get_or, drop, replicate, eqb, ltb, leb}
 use Rattle.standard.specs.Choice.{pick, or_else}
 use Rattle.standard.specs.Bytes.{four}
 use Rattle.standard.specs.Types.{Ty, Tys, Opts, number, boolean, fixed_bytes, free_bytes, bit_vector, bit_list, container, union, list, vector, end, field, over, bare, body, head, heads}
@@ -7,7 +7,6 @@ use Rattle.standard.specs.Parts.{span_of, part}
 use Rattle.standard.specs.declared.Head.{Head}
 use Rattle.standard.specs.declared.Head.TheVariants.{Fixed, Variable}
 use Rattle.standard.specs.declared.Told.{Told}
-use Rattle.standard.specs.declared.Refusal.{Refusal}
 use Rattle.standard.specs.declared.Refusal.TheVariants.{InvalidByteLength, InvalidLengthPrefix, OutOfBoundsByte, OffsetIntoFixedPortion, OffsetsAreDecreasing, OffsetOutOfBounds, UnionSelectorInvalid, BadBoolean, OverLimit, InvalidListFixedBytesLen}
 use Rattle.decode.specs.Builder.{lay_out_lem}
 use Rattle.bitfield.specs.Body.{bit_list_body, bit_vector_body}

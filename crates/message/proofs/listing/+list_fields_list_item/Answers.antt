@@ -1,9 +1,9 @@
 -- Items and fields call each other; the type number falls. The loop over the fields keeps `Storing`. Assumes nothing.
-use Rattle.std.proofs.Common.{refl, arith, [], length-take, length-drop}
-use Rattle.standard.proofs.Store.{stored_then, stored-none, room_then}
+use Rattle.std.proofs.Common.{arith, length-take, length-drop}
+use Rattle.standard.proofs.Store.{stored_then, room_then}
 use Rattle.message.proofs.Rows.{node_legal, row-there, row-legal, row_below, row_under, under-below}
 use Rattle.message.proofs.Bodies.{body_below}
-use Rattle.message.proofs.Entries.{storing_lies, storing_accepted, storing_room, storing_next, storing_end, stored-length, room-long}
+use Rattle.message.proofs.Entries.{storing_lies, storing_accepted, storing_room, storing_next, storing_end, room-long}
 use Rattle.message.proofs.Entries.{leaf-stored, accepted-start, union-bare, union-body, union-never, body-accepted}
 use Rattle.message.proofs.listing.+list_fields_list_item.Goals as goal
 

@@ -1,8 +1,8 @@
 -- Items and fields call each other; the type number falls. The loop over the fields keeps `Filling`. Assumes nothing.
-use Rattle.std.proofs.Common.{refl, arith, [], length-take, length-drop}
+use Rattle.std.proofs.Common.{refl, arith, length-take, length-drop}
 use Rattle.message.proofs.Rows.{node_legal, row-there, row-legal, row_below, row_under, row-few, under-below}
 use Rattle.message.proofs.Bodies.{body_below}
-use Rattle.message.proofs.Unfolds.{filled_none, filled_then, rooms_then, words-filled, filling_lies, filling_accepts, filling_rooms, filling_next, filling_end}
+use Rattle.message.proofs.Unfolds.{filled_then, rooms_then, words-filled, filling_lies, filling_accepts, filling_rooms, filling_next, filling_end}
 use Rattle.message.proofs.Unfolds.{filling_last, own-fits, own_room, own-next, no_more, leaf_variable, leaf_accepts, leaf-rooms, leaf-filled}
 use Rattle.message.proofs.Unfolds.{union-room, union-long, bare-filled, never, body-words, body_bytes, body_accepts}
 use Rattle.message.proofs.unfolding.+unfold_fields_unfold_item.Goals as goal
