@@ -146,7 +146,7 @@ mod tests {
 
     #[test]
     fn both_sides_have_every_call_at_every_size() {
-        assert!(ours::is_built(), "rt check measure comes first");
+        assert!(ours::is_built(), "`rt run` in crates/measure comes first");
         for case in cases() {
             case.count(2);
             case.plan.timed(300);

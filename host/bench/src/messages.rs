@@ -368,7 +368,7 @@ mod tests {
 
     #[test]
     fn our_program_makes_what_is_expected() {
-        assert!(ours::is_built(), "rt check measure comes first");
+        assert!(ours::is_built(), "`rt run` in crates/measure comes first");
         for case in cases().iter().filter(|case| case.fits()) {
             (71..=74).for_each(|operation| {
                 case.plan(operation).timed(300);
