@@ -134,11 +134,11 @@ def main():
     used = {part for t in everything for part in t.split(".")} - set(turned)
     # Definitions first, so that a lemma gives way.
     for n, m in sorted(turned.items(), key=lambda pair: ("-" in pair[0], pair[0])):
-        while m in used or m in reserved:
-            m += "_lem"
+        if m in used or m in reserved:
+            m += "_lem" if m + "_lem" not in used else "_law"
         used.add(m)
         turned[n] = m
-        if m.endswith("_lem"):
+        if m.endswith(("_lem", "_law")):
             print(f"taken: {n} -> {m}")
     print(f"turned: {len(turned)} names")
     for n, m in sorted(turned.items()):

@@ -97,14 +97,14 @@ module _ {lens l : List ℕ} {t a₀ apart n : ℕ} {b : List ℕ} where
 
       -- a field of fixed size
       module _ (v : 0 < k) where
-        is_fixed_lem_lem : Fixed k ≡ head (tree_of l f)
-        is_fixed_lem_lem = row-fixed lens l t a apart left f g.laying.row z e k q (λ (u : k ≡ 0). omega arith)
+        is_fixed_law : Fixed k ≡ head (tree_of l f)
+        is_fixed_law = row-fixed lens l t a apart left f g.laying.row z e k q (λ (u : k ≡ 0). omega arith)
 
         pub counting_long : length b < p + k → Told.Refused (InvalidByteLength (length b) (p + k)) ≡ lay_out_lem (heads_of l t a₀ apart n) b
-        counting_long h = bad (Fixed k) is_fixed_lem_lem _ (fixed-long b now k (rw q (row_small lens l t a apart left f g.laying.row z e)) h)
+        counting_long h = bad (Fixed k) is_fixed_law _ (fixed-long b now k (rw q (row_small lens l t a apart left f g.laying.row z e)) h)
 
         pub counting_fixed : p + k ≤ length b → length b < 2 ^ 32 → Counting lens l t a₀ apart n b first previous (p + k) (a + apart) (left - 1)
-        counting_fixed h s = record { laying = next (Fixed k) is_fixed_lem_lem _ (fixed-step k b now h s); none = g.none }
+        counting_fixed h s = record { laying = next (Fixed k) is_fixed_law _ (fixed-step k b now h s); none = g.none }
 
       -- one of variable size
       module _ (v : k ≤ 0) where
