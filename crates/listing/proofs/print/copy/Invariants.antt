@@ -1,5 +1,5 @@
 -- The buffer keeps its length. Assumes nothing.
-use Rattle.std.proofs.Common.{◌-◌, ◌≡◌, ◌≤◌, length}
+use Rattle.std.proofs.Common.{◌-◌, ◌≤◌}
 use Rattle.listing.proofs.print.copy.Given as goal
 
 abbrev pub invariant-loop-i : goal.invariant-loop-i
