@@ -10,21 +10,20 @@ mod messages;
 mod sums;
 mod vectors;
 
-ghost use Rattle.std.specs.Prelude.{◌≡◌, ◌≤◌, length, IfOk, vec_len};
+ghost use Rattle.std.specs.Prelude.{◌≡◌, ◌≤◌, length};
 
 use cases::{Extent, number, part, record_end};
 use standard::Maybe;
 use standard::words::word_at;
-use std::alloc::{AllocError, Global};
 use std::io::Read;
 use std::rt::Files;
 use std::{fs, io};
 
 // Room for a message of 1 MiB, or for what comes of it.
-fn room(alloc: Global) -> Result<Vec<u8>, AllocError>
-    ensures { IfOk result (λ v. vec_len v ≡ 1310720) }
+fn room() -> [u8; 1310720]
+    ensures { 1310720 ≡ length result }
 {
-    vec![in alloc; 0; 1310720]
+    [0; 1310720]
 }
 
 // Reads until the room is full, the bytes end or a reading fails, and returns how many bytes there are then.
@@ -77,10 +76,10 @@ fn print(rt: &impl Print, sum: Maybe) -> io::Result<()> {
 }
 
 fn main(rt: HostRuntime) -> io::Result<()> {
-    let mut plan = room(rt.alloc())?;
-    let mut bodies = room(rt.alloc())?;
-    let mut out = room(rt.alloc())?;
-    let mut contents = vec![in rt.alloc(); 0u32; 65536]?;
+    let mut plan = room();
+    let mut bodies = room();
+    let mut out = room();
+    let mut contents = [0u32; 65536];
     let n = read_plan(&rt, &mut plan);
     let sum = run(&plan[..n], &mut contents, &mut bodies, &mut out);
     print(&rt, sum)

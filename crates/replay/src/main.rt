@@ -16,17 +16,16 @@ mod states;
 mod vectors;
 mod walked;
 
-ghost use Rattle.std.specs.Prelude.{◌≡◌, IfOk, vec_len};
+ghost use Rattle.std.specs.Prelude.{◌≡◌, length};
 
 use run::Outcome;
-use std::alloc::{AllocError, Global};
 use std::{fs, io};
 
 // Room for a record, and for a buffer that a call is lent.
-fn room(alloc: Global) -> Result<Vec<u8>, AllocError>
-    ensures { IfOk result (λ v. vec_len v ≡ 262144) }
+fn room() -> [u8; 262144]
+    ensures { 262144 ≡ length result }
 {
-    vec![in alloc; 0; 262144]
+    [0; 262144]
 }
 
 // What comes of a file that can't be opened: a missing one has no cases.
@@ -43,10 +42,10 @@ fn main(rt: HostRuntime) -> io::Result<()> {
         Ok(file) => file,
         Err(e) => return print::outcome(&rt, unopened(e)),
     };
-    let mut bytes = room(rt.alloc())?;
-    let mut first = room(rt.alloc())?;
-    let mut second = room(rt.alloc())?;
-    let mut words = vec![in rt.alloc(); 0u32; 65536]?;
+    let mut bytes = room();
+    let mut first = room();
+    let mut second = room();
+    let mut words = [0u32; 65536];
     let outcome = run::run(
         &rt,
         &mut file,
