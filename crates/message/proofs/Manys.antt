@@ -1,4 +1,4 @@
--- The elements of an accepted list or vector, by one law over both kinds: as many as `manyIn` says, they are accepted where they lie.
+-- The elements of an accepted list or vector, by one law over both kinds: as many as `many_in_lem` says, they are accepted where they lie.
 -- Assumes nothing.
 --     many-elements    a list says so many itself
 --     many-held        where they lie, that they are accepted, and that listing and body bytes are theirs

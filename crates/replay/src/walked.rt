@@ -1,4 +1,4 @@
-// The forms that are walked by hand, asked beside the core: each of them must give the same answer.
+// The forms behind a reference, asked beside the core: each of them must give the same answer.
 use decode::decoder::SszDecoder;
 use standard::Told;
 
