@@ -1,8 +1,8 @@
 /*
  * Cartwhisker: is a message the SSZ encoding of a value under a lent layout, and where are its items?
  *
- * Link with libcartwhisker.a (`rt lib` in crates/cartwhisker); of the C library it takes memcpy and memset,
- * and it needs no start-up.
+ * Link with libcartwhisker.a (`rt lib` in crates/cartwhisker); of the C library it takes nothing, and it
+ * needs no start-up.
  * Both calls are proved to answer document 01's rules, with document 02's lists and vectors, for
  * every input. They keep nothing between calls, allocate nothing and may be called from any number
  * of threads at a time.
