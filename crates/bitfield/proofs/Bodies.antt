@@ -14,19 +14,18 @@ use Rattle.standard.proofs.Bytes.{bytes_take, num-bound}
 use Rattle.standard.proofs.Bits.{num-append, pow_bytes}
 use Rattle.bitfield.specs.Body.{list_bits_lem, bit_list_body, within}
 use Rattle.bitfield.specs.Facts.{Used, TopOf}
-use Rattle.standard.specs.declared.Told.TheVariants.{Fine, Refused as Refusing}
-use Rattle.bitfield.specs.declared.BodyBits.TheVariants.{Refused}
 use Rattle.bitfield.proofs.Tops.{top_used, top_unused, used_all, top_counted, byte_at}
+use Rattle.std.specs.declared.result.Result.TheVariants.{Ok, Err}
 
 -- A bit list's body with no set bit
-pub none-marked : (l : List ℕ) → 0 < length l → Used l 0 → (n : ℕ) → Refused MissingLengthInformation ≡ bit_list_body l n
+pub none-marked : (l : List ℕ) → 0 < length l → Used l 0 → (n : ℕ) → Err MissingLengthInformation ≡ bit_list_body l n
 unfolding bit_list_body
 none-marked l h u n = rw (ne_eqb (length l) 0 (omega arith), top_unused l u.zeros)
 
 -- One whose last set bit is in a byte before the last
 pub marked-short :
     (l : List ℕ) (r : ℕ) → Bytes l → get_or l (length l - 1) 0 ≡ 0 → Used l r → (r ≡ 0 → ⊥)
-    → (n : ℕ) → Refused (InvalidByteCount (length l) r) ≡ bit_list_body l n
+    → (n : ℕ) → Err (InvalidByteCount (length l) r) ≡ bit_list_body l n
 unfolding bit_list_body
 marked-short l zero b z u e n = absurd (e refl)
 marked-short l (suc i) b z u e n =
@@ -83,7 +82,7 @@ pub bits_of : (n : ℕ) → 8 * (n / 8) + n % 8 ≡ n
 bits_of n = omega arith
 
 -- Bytes that end before bit n have nothing there.
-pub within-short : (l : List ℕ) (n : ℕ) → Bytes l → length l ≤ n / 8 → Fine ≡ within l n
+pub within-short : (l : List ℕ) (n : ℕ) → Bytes l → length l ≤ n / 8 → (Ok tt) ≡ within l n
 within-short l n b h =
     let f = num-bound l b in
     let p = pow_bytes (length l) in
@@ -108,14 +107,14 @@ shifted_small x r n =
     omega arith
 
 -- The byte that holds bit n is the last one: nothing above its lower bits.
-pub within-here : (l : List ℕ) (n : ℕ) → Bytes l → length l ≡ suc (n / 8) → get_or l (n / 8) 0 / 2 ^ (n % 8) ≡ 0 → Fine ≡ within l n
+pub within-here : (l : List ℕ) (n : ℕ) → Bytes l → length l ≡ suc (n / 8) → get_or l (n / 8) 0 / 2 ^ (n % 8) ≡ 0 → (Ok tt) ≡ within l n
 within-here l n b h e =
     let a = alone l (n / 8) h in
     let k = small_shifted (get_or l (n / 8) 0) (n % 8) e in
     let s = below-cut l (n / 8) (n % 8) b (omega arith) (rw a k) in
     rw (lt-ltb (num l) (2 ^ n) (rw bits_of at s))
 
-pub within_not : (l : List ℕ) (n : ℕ) → Bytes l → length l ≡ suc (n / 8) → (get_or l (n / 8) 0 / 2 ^ (n % 8) ≡ 0 → ⊥) → Refusing ExcessBits ≡ within l n
+pub within_not : (l : List ℕ) (n : ℕ) → Bytes l → length l ≡ suc (n / 8) → (get_or l (n / 8) 0 / 2 ^ (n % 8) ≡ 0 → ⊥) → Err ExcessBits ≡ within l n
 within_not l n b h e =
     let a = alone l (n / 8) h in
     let k = shifted_small (get_or l (n / 8) 0) (n % 8) e in

@@ -6,23 +6,23 @@ use native.Mathlib.Omega.{arith}
 use lib.ListN.{length}
 use Rattle.standard.specs.Bits.{marked}
 use Rattle.standard.specs.declared.Refusal.{Refusal}
-use Rattle.standard.specs.declared.Told.{Told}
-use Rattle.standard.specs.declared.Told.TheVariants.{Fine, Refused}
 use Rattle.bitfield.specs.Held.{raw_bytes_lem, count_answer, written}
 use Rattle.bitfield.specs.Lists.{bits as list-bits, list_room, list_into_bytes, list_buffer}
 use Rattle.bitfield.specs.Vectors.{bits as vector-bits, vector_room, vector_into_bytes, vector_buffer}
-use Rattle.bitfield.specs.declared.CountResult.TheVariants.{Refused as NoCount}
 use Rattle.bitfield.specs.declared.BitList.{BitList}
 use Rattle.bitfield.specs.declared.BitVector.{BitVector}
+use Rattle.std.specs.declared.result.Result.{Result}
+use Rattle.std.specs.declared.result.Result.TheVariants.{Ok, Err}
+use Rattle.std.specs.Prelude.{⊤}
 
-kept : (t : Told) (k : ℕ) (x out : List ℕ) (r : Refusal) → count_answer t k ≡ NoCount r → written t x out ≡ out
-kept Fine k x out r e = let z : ◌≡◌ {A = ℕ} 0 1 = cc in absurd (omega arith)
-kept (Refused y) k x out r e = refl
+kept : (t : Result ⊤ Refusal) (k : ℕ) (x out : List ℕ) (r : Refusal) → count_answer t k ≡ Err r → written t x out ≡ out
+kept (Ok tt) k x out r e = let z : ◌≡◌ {A = ℕ} 0 1 = cc in absurd (omega arith)
+kept (Err y) k x out r e = refl
 
-pub list_into_bytes_refused : (a : BitList) (out : List ℕ) (r : Refusal) → list_into_bytes a (length out) ≡ NoCount r → list_buffer a out ≡ out
+pub list_into_bytes_refused : (a : BitList) (out : List ℕ) (r : Refusal) → list_into_bytes a (length out) ≡ Err r → list_buffer a out ≡ out
 unfolding list_into_bytes list_buffer
 list_into_bytes_refused a out r e = kept (list_room a (length out)) (length (marked (list-bits a))) (marked (list-bits a)) out r e
 
-pub vector_into_bytes_refused : (a : BitVector) (out : List ℕ) (r : Refusal) → vector_into_bytes a (length out) ≡ NoCount r → vector_buffer a out ≡ out
+pub vector_into_bytes_refused : (a : BitVector) (out : List ℕ) (r : Refusal) → vector_into_bytes a (length out) ≡ Err r → vector_buffer a out ≡ out
 unfolding vector_into_bytes vector_buffer
 vector_into_bytes_refused a out r e = kept (vector_room a (length out)) (length (raw_bytes_lem (vector-bits a))) (raw_bytes_lem (vector-bits a)) out r e

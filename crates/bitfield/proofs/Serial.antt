@@ -11,10 +11,6 @@ use Rattle.standard.specs.Bytes.{Bytes, num}
 use Rattle.standard.specs.Types.{bit_list, bit_vector}
 use Rattle.standard.specs.Serialize.{serialize}
 use Rattle.standard.proofs.Bits.{bits_of, bits_of-bit_num, num-pack, marked-injective, length-bits_of}
-use Rattle.standard.specs.declared.Told.{Told}
-use Rattle.standard.specs.declared.Told.TheVariants.{Fine, Refused}
-use Rattle.bitfield.specs.declared.BodyBits.{BodyBits}
-use Rattle.bitfield.specs.declared.BodyBits.TheVariants.{Bits, Refused as NoBody}
 use Rattle.bitfield.specs.Body.{bit_list_body, bytes_for_lem}
 use Rattle.bitfield.specs.Held.{limited, raw_bytes_lem}
 use Rattle.bitfield.specs.declared.BitList.{BitList}
@@ -24,13 +20,17 @@ use Rattle.bitfield.specs.Lists.{list_answer, no_list, of_body, list_from_bytes,
 use Rattle.bitfield.specs.Vectors as Vectors
 use Rattle.bitfield.specs.Vectors.{vector_answer, no_vector, vector_from_bytes, vector_room, vector_buffer}
 use Rattle.bitfield.proofs.Standard.{list-sound, list-complete, vector-complete}
+use Rattle.std.specs.declared.result.Result.{Result}
+use Rattle.std.specs.declared.result.Result.TheVariants.{Ok, Err}
+use Rattle.std.specs.Prelude.{⊤}
+use Rattle.standard.specs.declared.Refusal.{Refusal}
 
-small : (n : ℕ) → n ≤ 2048 → limited n ≡ Fine
+small : (n : ℕ) → n ≤ 2048 → limited n ≡ Ok tt
 unfolding limited
 small n h = rw (le-leb n 2048 h)
 
 -- What into_bytes writes is the serialization, and the rest of the buffer is kept.
-pub list_written : (t limit : ℕ) (a : BitList) (out : List ℕ) → list_room a (length out) ≡ Fine
+pub list_written : (t limit : ℕ) (a : BitList) (out : List ℕ) → list_room a (length out) ≡ Ok tt
     → list_buffer a out ≡ serialize (bit_list t limit) (Lists.bits a) ++ drop (length (serialize (bit_list t limit) (Lists.bits a))) out
 unfolding list_buffer serialize
 list_written t limit a out e = rw e
@@ -39,13 +39,13 @@ pub raw-pack : (bs : List Bool) → 1 ≤ length bs → raw_bytes_lem bs ≡ pac
 unfolding raw_bytes_lem pack
 raw-pack bs h = let e : max 1 (bytes_for_lem (length bs)) ≡ bytes_for_lem (length bs) = omega arith in rw e
 
-pub vector-written : (t n : ℕ) (a : BitVector) (out : List ℕ) → 1 ≤ length (Vectors.bits a) → vector_room a (length out) ≡ Fine
+pub vector-written : (t n : ℕ) (a : BitVector) (out : List ℕ) → 1 ≤ length (Vectors.bits a) → vector_room a (length out) ≡ Ok tt
     → vector_buffer a out ≡ serialize (bit_vector t n) (Vectors.bits a) ++ drop (length (serialize (bit_vector t n) (Vectors.bits a))) out
 unfolding vector_buffer serialize
 vector-written t n a out h e = rw (e, raw-pack (Vectors.bits a) h)
 
 -- from_bytes reads every serialization of at most N bits, as those bits,
-pub list_read : (t : ℕ) (bs : List Bool) (n : ℕ) → n ≤ 2048 → length bs ≤ n → list_from_bytes (serialize (bit_list t n) bs) n ≡ list_answer Fine no_list bs n
+pub list_read : (t : ℕ) (bs : List Bool) (n : ℕ) → n ≤ 2048 → length bs ≤ n → list_from_bytes (serialize (bit_list t n) bs) n ≡ list_answer (Ok tt) no_list bs n
 unfolding list_from_bytes serialize
 list_read t bs n h k =
     let b = list-complete bs n k in
@@ -54,12 +54,12 @@ list_read t bs n h k =
     rw (small n h, b, same)
 
 -- and nothing else.
-from-body : (told : Told) (body : BodyBits) (l : List ℕ) (n : ℕ) → (of_body told body l n).told ≡ Fine → (k : ℕ) × (body ≡ Bits k)
-from-body (Refused x) body l n e = let w : ◌≡◌ {A = ℕ} 0 1 = cc in absurd (omega arith)
-from-body Fine (NoBody x) l n e = let w : ◌≡◌ {A = ℕ} 0 1 = cc in absurd (omega arith)
-from-body Fine (Bits k) l n e = (k, refl)
+from-body : (told : Result ⊤ Refusal) (body : Result ℕ Refusal) (l : List ℕ) (n : ℕ) → (of_body told body l n).told ≡ Ok tt → (k : ℕ) × (body ≡ Ok k)
+from-body (Err x) body l n e = let w : ◌≡◌ {A = ℕ} 0 1 = cc in absurd (omega arith)
+from-body (Ok tt) (Err x) l n e = let w : ◌≡◌ {A = ℕ} 0 1 = cc in absurd (omega arith)
+from-body (Ok tt) (Ok k) l n e = (k, refl)
 
-pub list_read_only : (t : ℕ) (l : List ℕ) (n : ℕ) → Bytes l → (list_from_bytes l n).told ≡ Fine
+pub list_read_only : (t : ℕ) (l : List ℕ) (n : ℕ) → Bytes l → (list_from_bytes l n).told ≡ Ok tt
     → (bs : List Bool) × (serialize (bit_list t n) bs ≡ l) × (length bs ≤ n)
 unfolding list_from_bytes serialize
 list_read_only t l n b e =
@@ -68,7 +68,7 @@ list_read_only t l n b e =
     (bits_of k.0 (num l), s.0, rw (length-bits_of k.0 (num l)) s.1)
 
 pub vector-read : (t : ℕ) (bs : List Bool) → 1 ≤ length bs → length bs ≤ 2048
-    → vector_from_bytes (serialize (bit_vector t (length bs)) bs) (length bs) ≡ vector_answer Fine no_vector bs (length bs)
+    → vector_from_bytes (serialize (bit_vector t (length bs)) bs) (length bs) ≡ vector_answer (Ok tt) no_vector bs (length bs)
 unfolding vector_from_bytes serialize
 vector-read t bs h k =
     let same : bits_of (length bs) (num (pack bs)) ≡ bs = rw (num-pack bs) (bits_of-bit_num bs) in

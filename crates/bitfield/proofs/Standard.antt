@@ -18,32 +18,31 @@ use Rattle.standard.proofs.Bytes.{num-bound}
 use Rattle.standard.proofs.Bits.{bits_of, length-bits_of, bit_num-bound, marked-bits, marked-injective, num-marked, length_marked, pack-bits}
 use Rattle.standard.proofs.Bits.{pack-injective, num-pack, length-pack, pow_bytes}
 use Rattle.bitfield.specs.Body.{highest, all_bits, marked_at, bit_list_body, bit_vector_body, bytes_for_lem}
-use Rattle.bitfield.specs.declared.Top.{Top}
-use Rattle.bitfield.specs.declared.Top.TheVariants.{At, Nothing}
-use Rattle.standard.specs.declared.Told.TheVariants.{Fine, Refused as Refusing}
-use Rattle.bitfield.specs.declared.BodyBits.TheVariants.{Bits, Refused}
 use Rattle.bitfield.proofs.Tops.{highest-at, highest-says}
+use Rattle.std.specs.declared.option.Option.{Option}
+use Rattle.std.specs.declared.result.Result.TheVariants.{Ok, Err}
+use Rattle.std.specs.declared.option.Option.TheVariants.{Some, None}
 
 -- What each test says where bytes are accepted
 placed : (j given n k : ℕ) (x y : Refusal) (s t : Bool) → eqb given (j / 8 + 1) ≡ s → leb j n ≡ t
-    → pick s (pick t (Bits j) (Refused x)) (Refused y) ≡ Bits k → (j ≡ k) × (given ≡ j / 8 + 1) × (j ≤ n)
+    → pick s (pick t (Ok j) (Err x)) (Err y) ≡ Ok k → (j ≡ k) × (given ≡ j / 8 + 1) × (j ≤ n)
 placed j given n k x y true true p q e = (cc, eqb-true _ _ p, leb-true _ _ q)
 placed j given n k x y true false p q e = let w : ◌≡◌ {A = ℕ} 0 1 = cc in absurd (omega arith)
 placed j given n k x y false t p q e = let w : ◌≡◌ {A = ℕ} 0 1 = cc in absurd (omega arith)
 
-topped : (s : Bool) (t : Top) (given n k : ℕ) → pick s (Refused ExcessBits) (marked_at t given n) ≡ Bits k
-    → (t ≡ At k) × (given ≡ k / 8 + 1) × (k ≤ n)
+topped : (s : Bool) (t : Option ℕ) (given n k : ℕ) → pick s (Err ExcessBits) (marked_at t given n) ≡ Ok k
+    → (t ≡ Some k) × (given ≡ k / 8 + 1) × (k ≤ n)
 topped true t given n k e = let w : ◌≡◌ {A = ℕ} 0 1 = cc in absurd (omega arith)
-topped false Nothing given n k e = let w : ◌≡◌ {A = ℕ} 0 1 = cc in absurd (omega arith)
-topped false (At j) given n k e = let p = placed j given n k _ _ _ _ refl refl e in (ap At p.0, rw p.0 at p.1, rw p.0 at p.2)
+topped false None given n k e = let w : ◌≡◌ {A = ℕ} 0 1 = cc in absurd (omega arith)
+topped false (Some j) given n k e = let p = placed j given n k _ _ _ _ refl refl e in (ap Some p.0, rw p.0 at p.1, rw p.0 at p.2)
 
 -- What an accepted body has
-pub list-says : (l : List ℕ) (n k : ℕ) → bit_list_body l n ≡ Bits k → (length l ≡ k / 8 + 1) × (k ≤ n)
+pub list-says : (l : List ℕ) (n k : ℕ) → bit_list_body l n ≡ Ok k → (length l ≡ k / 8 + 1) × (k ≤ n)
 unfolding bit_list_body
 list-says l n k e = let t = topped (eqb (length l) 0) (highest (all_bits l)) (length l) n k e in (t.1, t.2)
 
 -- A bit list's body: sound, complete, and one
-pub list-sound : (l : List ℕ) (n k : ℕ) → Bytes l → bit_list_body l n ≡ Bits k → (marked (bits_of k (num l)) ≡ l) × (k ≤ n)
+pub list-sound : (l : List ℕ) (n k : ℕ) → Bytes l → bit_list_body l n ≡ Ok k → (marked (bits_of k (num l)) ≡ l) × (k ≤ n)
 unfolding bit_list_body
 list-sound l n k b e =
     let t = topped (eqb (length l) 0) (highest (all_bits l)) (length l) n k e in
@@ -52,7 +51,7 @@ list-sound l n k b e =
     let s = highest-says (8 * length l) (num l) k (omega arith) t.0 in
     (marked-bits l k b t.1 s.0 s.1, t.2)
 
-pub list-complete : (bs : List Bool) (n : ℕ) → length bs ≤ n → bit_list_body (marked bs) n ≡ Bits (length bs)
+pub list-complete : (bs : List Bool) (n : ℕ) → length bs ≤ n → bit_list_body (marked bs) n ≡ Ok (length bs)
 unfolding bit_list_body
 list-complete bs n h =
     let l = length_marked bs in
@@ -68,9 +67,9 @@ pub record ListBits (l : List ℕ) (n k : ℕ) (bs : List Bool) : Type 0 where
   pub count : length bs ≡ k
   pub limit : k ≤ n
 
-pub list_iff : (l : List ℕ) (n k : ℕ) → Bytes l → (bit_list_body l n ≡ Bits k) ↔ ((bs : List Bool) × ListBits l n k bs)
+pub list_iff : (l : List ℕ) (n k : ℕ) → Bytes l → (bit_list_body l n ≡ Ok k) ↔ ((bs : List Bool) × ListBits l n k bs)
 list_iff l n k b = (
-  (λ (e : bit_list_body l n ≡ Bits k).
+  (λ (e : bit_list_body l n ≡ Ok k).
       let s = list-sound l n k b e in
       (bits_of k (num l), record { written = s.0; count = length-bits_of k (num l); limit = s.1 })),
   (λ (s : (bs : List Bool) × ListBits l n k bs).
@@ -82,13 +81,13 @@ pub list-one : (l : List ℕ) (n k m j : ℕ) (xs ys : List Bool) → ListBits l
 list-one l n k m j xs ys p q = marked-injective xs ys (p.written ∙ sym q.written)
 
 -- A bit vector's body: sound, complete, and one
-kept : (s t : Bool) (x : Refusal) → pick s (pick t Fine (Refusing ExcessBits)) (Refusing x) ≡ Fine → (s ≡ true) × (t ≡ true)
+kept : (s t : Bool) (x : Refusal) → pick s (pick t (Ok tt) (Err ExcessBits)) (Err x) ≡ Ok tt → (s ≡ true) × (t ≡ true)
 kept true true x e = (refl, refl)
 kept true false x e = let w : ◌≡◌ {A = ℕ} 0 1 = cc in absurd (omega arith)
 kept false t x e = let w : ◌≡◌ {A = ℕ} 0 1 = cc in absurd (omega arith)
 
 -- Where n bits are accepted there are bytes for them; for none there is one.
-pub vector-says : (l : List ℕ) (n : ℕ) → bit_vector_body l n ≡ Fine → bytes_for_lem n ≤ length l
+pub vector-says : (l : List ℕ) (n : ℕ) → bit_vector_body l n ≡ Ok tt → bytes_for_lem n ≤ length l
 unfolding bit_vector_body
 vector-says l n e = ⊎_elim none some (eq-zero-or-pos n)
   where
@@ -102,14 +101,14 @@ vector-says l n e = ⊎_elim none some (eq-zero-or-pos n)
         let q : length l ≡ bytes_for_lem n = eqb-true _ _ k.0 in
         omega arith
 
-pub vector-sound : (l : List ℕ) (n : ℕ) → Bytes l → 1 ≤ n → bit_vector_body l n ≡ Fine → pack (bits_of n (num l)) ≡ l
+pub vector-sound : (l : List ℕ) (n : ℕ) → Bytes l → 1 ≤ n → bit_vector_body l n ≡ Ok tt → pack (bits_of n (num l)) ≡ l
 unfolding bit_vector_body
 vector-sound l n b h e =
     let f = rw (ne_eqb n 0 (omega arith)) at e in
     let k = kept (eqb (length l) (bytes_for_lem n)) (ltb (num l) (2 ^ n)) _ f in
     pack-bits l n b (eqb-true _ _ k.0) (ltb-true _ _ k.1)
 
-pub vector-complete : (bs : List Bool) → 1 ≤ length bs → bit_vector_body (pack bs) (length bs) ≡ Fine
+pub vector-complete : (bs : List Bool) → 1 ≤ length bs → bit_vector_body (pack bs) (length bs) ≡ Ok tt
 unfolding bit_vector_body
 vector-complete bs h =
     let b = bit_num-bound bs in
@@ -126,9 +125,9 @@ pub record VectorBits (l : List ℕ) (n : ℕ) (bs : List Bool) : Type 0 where
   pub written : pack bs ≡ l
   pub count : length bs ≡ n
 
-pub vector_iff : (l : List ℕ) (n : ℕ) → Bytes l → 1 ≤ n → (bit_vector_body l n ≡ Fine) ↔ ((bs : List Bool) × VectorBits l n bs)
+pub vector_iff : (l : List ℕ) (n : ℕ) → Bytes l → 1 ≤ n → (bit_vector_body l n ≡ Ok tt) ↔ ((bs : List Bool) × VectorBits l n bs)
 vector_iff l n b h = (
-  (λ (e : bit_vector_body l n ≡ Fine).
+  (λ (e : bit_vector_body l n ≡ Ok tt).
       (bits_of n (num l), record { written = vector-sound l n b h e; count = length-bits_of n (num l) })),
   (λ (s : (bs : List Bool) × VectorBits l n bs).
       let e = vector-complete s.0 (rw s.1.count h) in

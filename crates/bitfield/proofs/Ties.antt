@@ -17,7 +17,6 @@ use Rattle.standard.proofs.Bytes.{length-le, bytes_le, num-le}
 use Rattle.standard.proofs.Bits.{bits_of, length-bits_of, bit_num-bits_of, bit_num-low, bits_of-bit_num, bit_num-bound, packs-le, pow_bytes, num-packs}
 use Rattle.bitfield.specs.declared.raw.Op.{Op}
 use Rattle.bitfield.specs.declared.raw.Op.TheVariants.{And, Or, AndNot, Not}
-use Rattle.bitfield.specs.declared.Top.TheVariants.{At, Nothing}
 use Rattle.bitfield.specs.declared.Field.{Field}
 use Rattle.bitfield.specs.Body.{bytes_for_lem, highest}
 use Rattle.bitfield.specs.Bools.{without, no_bits, moved, widened, count, none_set}
@@ -28,6 +27,7 @@ use Rattle.bitfield.proofs.Bools as Bools
 use Rattle.bitfield.proofs.Bodies.{cut_below}
 use Rattle.bitfield.proofs.Tops.{highest-none, highest-at, top_number}
 use Rattle.bitfield.proofs.Numbers.{Bytewise, and_bytewise, or_bytewise, and_not_bytewise, firsts-le, firsts_not, raw-le, le-zero, le-short}
+use Rattle.std.specs.declared.option.Option.TheVariants.{Some, None}
 
 -- What a well formed field's bits say
 pub bits-number : (l : List ℕ) (len : ℕ) → Kept l len → bit_num (bits_in l len) ≡ num l
@@ -342,12 +342,12 @@ pub none-held : (a : List ℕ) (len : ℕ) → Kept a len → eqb (num (drop 0 a
 none-held a len k = ap (λ (n : ℕ). eqb n 0) (sym (bits-number a len k)) ∙ sym (Bools.none_number (bits_in a len))
 
 -- The highest bit
-pub highest-none-held : (a : List ℕ) (len : ℕ) → Used a 0 → Nothing ≡ highest (bits_in a len)
+pub highest-none-held : (a : List ℕ) (len : ℕ) → Used a 0 → None ≡ highest (bits_in a len)
 unfolding bits_in
 highest-none-held a len u = let z = u.zeros in sym (rw z (highest-none len))
 
 pub highest-held : (a : List ℕ) (len i h : ℕ) → Kept a len → i < length a → num (drop (suc i) a) ≡ 0 → TopOf (get_or a i 0) h →
-    At (8 * i + h) ≡ highest (bits_in a len)
+    Some (8 * i + h) ≡ highest (bits_in a len)
 unfolding bits_in
 highest-held a len i h k b z t =
     let q = top_number a i h k.raw.bytes b z t in

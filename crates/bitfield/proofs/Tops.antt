@@ -16,16 +16,16 @@ use Rattle.standard.proofs.Bytes.{bytes_take}
 use Rattle.standard.proofs.Bits.{bits_of, num-append, top_from, top_to}
 use Rattle.bitfield.specs.Body.{highest, all_bits}
 use Rattle.bitfield.specs.Facts.{Used, TopOf}
-use Rattle.bitfield.specs.declared.Top.TheVariants.{At, Nothing}
+use Rattle.std.specs.declared.option.Option.TheVariants.{Some, None}
 
 -- No bit of 0 is set.
-pub highest-none : (k : ℕ) → highest (bits_of k 0) ≡ Nothing
+pub highest-none : (k : ℕ) → highest (bits_of k 0) ≡ None
 unfolding highest bits_of
 highest-none zero = refl
 highest-none (suc k) = rw (highest-none k)
 
 -- The highest bit of n is the power of two below it.
-pub highest-at : (k n h : ℕ) → h < k → 2 ^ h ≤ n → n < 2 ^ suc h → highest (bits_of k n) ≡ At h
+pub highest-at : (k n h : ℕ) → h < k → 2 ^ h ≤ n → n < 2 ^ suc h → highest (bits_of k n) ≡ Some h
 unfolding highest bits_of
 highest-at zero n h low from to = absurd (omega arith)
 highest-at (suc k) n zero low from to =
@@ -36,12 +36,12 @@ highest-at (suc k) n (suc h) low from to =
     let t = rw (pow-succ' 2 (suc h)) at to in
     rw (highest-at k (n / 2) h (omega arith) (omega arith) (omega arith), add-one h)
 
-pub highest-says : (k n h : ℕ) → n < 2 ^ k → highest (bits_of k n) ≡ At h → (2 ^ h ≤ n) × (n < 2 ^ suc h)
+pub highest-says : (k n h : ℕ) → n < 2 ^ k → highest (bits_of k n) ≡ Some h → (2 ^ h ≤ n) × (n < 2 ^ suc h)
 highest-says k n h b e = ⊎_elim zeros some (eq-zero-or-pos n)
   where
     zeros : n ≡ 0 → (2 ^ h ≤ n) × (n < 2 ^ suc h)
     zeros z =
-        let no : highest (bits_of k n) ≡ Nothing = rw z (highest-none k) in
+        let no : highest (bits_of k n) ≡ None = rw z (highest-none k) in
         let w : ◌≡◌ {A = ℕ} 0 1 = cc in
         absurd (omega arith)
 
@@ -80,13 +80,13 @@ top_number l i h b k z t =
 
 -- The highest bit of bytes is that of the last one in use.
 pub top_used : (l : List ℕ) (i h : ℕ) → Bytes l → i < length l → num (drop (suc i) l) ≡ 0 → TopOf (get_or l i 0) h
-    → highest (all_bits l) ≡ At (8 * i + h)
+    → highest (all_bits l) ≡ Some (8 * i + h)
 top_used l i h b k z t =
     let s = t.small in
     let q = top_number l i h b k z t in
     highest-at (8 * length l) (num l) (8 * i + h) (omega arith) q.0 q.1
 
-pub top_unused : (l : List ℕ) → num l ≡ 0 → highest (all_bits l) ≡ Nothing
+pub top_unused : (l : List ℕ) → num l ≡ 0 → highest (all_bits l) ≡ None
 top_unused l z = rw z (highest-none (8 * length l))
 
 -- What an index says of all elements, as a fact of the list

@@ -9,18 +9,16 @@ use Rattle.bitfield.specs.Bools.{both, either, without, flipped}
 use Rattle.bitfield.specs.Raw.{op_of, firsts, clean}
 use Rattle.bitfield.specs.declared.raw.Op.{Op}
 use Rattle.bitfield.specs.declared.raw.Op.TheVariants.{And, Or, AndNot, Not}
-use Rattle.bitfield.specs.declared.Top.{Top}
-use Rattle.bitfield.specs.declared.Top.TheVariants.{At, Nothing}
-use Rattle.standard.specs.declared.Told.{Told}
-use Rattle.standard.specs.declared.Told.TheVariants.{Fine, Refused}
-use Rattle.bitfield.specs.declared.BitResult.{BitResult}
-use Rattle.bitfield.specs.declared.BitResult.TheVariants.{Is, Refused as NoBit}
-use Rattle.bitfield.specs.declared.CountResult.{CountResult}
-use Rattle.bitfield.specs.declared.CountResult.TheVariants.{Count, Refused as NoCount}
 use Rattle.bitfield.specs.declared.HighestBit.{HighestBit}
 use Rattle.bitfield.specs.declared.HighestBit.TheVariants.{At as AtBit, Nothing as NoneSet, Refused as NoTop}
 use Rattle.bitfield.specs.declared.Field.{Field}
 use Rattle.bitfield.specs.declared.Outcome.{Outcome}
+use Rattle.std.specs.declared.result.Result.{Result}
+use Rattle.std.specs.declared.option.Option.{Option}
+use Rattle.std.specs.declared.result.Result.TheVariants.{Ok, Err}
+use Rattle.std.specs.declared.option.Option.TheVariants.{Some, None}
+use Rattle.std.specs.Prelude.{⊤}
+use Rattle.standard.specs.declared.Refusal.{Refusal}
 
 -- The bits that a bitfield's bytes hold
 unfoldable pub bits_in : List ℕ → ℕ → List Bool
@@ -52,16 +50,16 @@ abbrev pub merged : Op → List ℕ → ℕ → List ℕ → ℕ → Field
 merged op a la b lb = record { bytes = firsts (op_of op) 256 a b; len = op_length op la lb }
 
 -- 14: a limit above 2,048
-unfoldable pub limited : ℕ → Told
-limited n = pick (leb n 2048) Fine (Refused (OverLimit n 2048))
+unfoldable pub limited : ℕ → Result ⊤ Refusal
+limited n = pick (leb n 2048) (Ok tt) (Err (OverLimit n 2048))
 
 -- 23 for a field that is not well formed, then 14
-unfoldable pub one_told_lem : Bool → ℕ → Told
-one_told_lem good n = pick good (limited n) (Refused BadState)
+unfoldable pub one_told_lem : Bool → ℕ → Result ⊤ Refusal
+one_told_lem good n = pick good (limited n) (Err BadState)
 
 -- 23 for either field, 24 for unlike limits, then 14
-unfoldable pub two_told_lem : Bool → ℕ → ℕ → Told
-two_told_lem good n m = pick good (pick (eqb n m) (limited n) (Refused LimitsDiffer)) (Refused BadState)
+unfoldable pub two_told_lem : Bool → ℕ → ℕ → Result ⊤ Refusal
+two_told_lem good n m = pick good (pick (eqb n m) (limited n) (Err LimitsDiffer)) (Err BadState)
 
 -- A bit list is well formed with at most n bits, a bit vector with n bits, and neither above 2,048 or with a bit set behind its end.
 abbrev pub list_good : List ℕ → ℕ → ℕ → Bool
@@ -71,45 +69,45 @@ abbrev pub vector_good : List ℕ → ℕ → ℕ → Bool
 vector_good bytes len n = and_also (eqb len n) (clean bytes len)
 
 -- 9: no such bit
-unfoldable pub inside : ℕ → ℕ → Told
-inside i len = pick (ltb i len) Fine (Refused (OutOfBounds i len))
+unfoldable pub inside : ℕ → ℕ → Result ⊤ Refusal
+inside i len = pick (ltb i len) (Ok tt) (Err (OutOfBounds i len))
 
 -- 9: more than there may be
-unfoldable pub up_to : ℕ → ℕ → Told
-up_to k most = pick (leb k most) Fine (Refused (OutOfBounds k most))
+unfoldable pub up_to : ℕ → ℕ → Result ⊤ Refusal
+up_to k most = pick (leb k most) (Ok tt) (Err (OutOfBounds k most))
 
 -- 12: a limit below the old one
-unfoldable pub not_below : ℕ → ℕ → Told
-not_below m n = pick (leb n m) Fine (Refused (InvalidByteCount m (n + 1)))
+unfoldable pub not_below : ℕ → ℕ → Result ⊤ Refusal
+not_below m n = pick (leb n m) (Ok tt) (Err (InvalidByteCount m (n + 1)))
 
 -- 22: no room
-unfoldable pub room_for : ℕ → ℕ → Told
-room_for need room = pick (leb need room) Fine (Refused (NoRoom need room))
+unfoldable pub room_for : ℕ → ℕ → Result ⊤ Refusal
+room_for need room = pick (leb need room) (Ok tt) (Err (NoRoom need room))
 
 -- One test after another
-abbrev pub and_then : Told → Told → Told
-and_then Fine next = next
-and_then (Refused x) next = Refused x
+abbrev pub and_then : Result ⊤ Refusal → Result ⊤ Refusal → Result ⊤ Refusal
+and_then (Ok tt) next = next
+and_then (Err x) next = Err x
 
 -- Answers: what there is to say, unless a test refuses
-abbrev pub outcome : Told → Field → Outcome
-outcome Fine f = record { field = f; told = Fine }
-outcome (Refused x) f = record { field = held []; told = Refused x }
+abbrev pub outcome : Result ⊤ Refusal → Field → Outcome
+outcome (Ok tt) f = record { field = f; told = Ok tt }
+outcome (Err x) f = record { field = held []; told = Err x }
 
-abbrev pub bit_answer : Told → Bool → BitResult
-bit_answer Fine x = Is x
-bit_answer (Refused y) x = NoBit y
+abbrev pub bit_answer : Result ⊤ Refusal → Bool → Result Bool Refusal
+bit_answer (Ok tt) x = Ok x
+bit_answer (Err y) x = Err y
 
-abbrev pub count_answer : Told → ℕ → CountResult
-count_answer Fine k = Count k
-count_answer (Refused y) k = NoCount y
+abbrev pub count_answer : Result ⊤ Refusal → ℕ → Result ℕ Refusal
+count_answer (Ok tt) k = Ok k
+count_answer (Err y) k = Err y
 
-abbrev pub top_answer : Told → Top → HighestBit
-top_answer Fine (At i) = AtBit i
-top_answer Fine Nothing = NoneSet
-top_answer (Refused y) t = NoTop y
+abbrev pub top_answer : Result ⊤ Refusal → Option ℕ → HighestBit
+top_answer (Ok tt) (Some i) = AtBit i
+top_answer (Ok tt) None = NoneSet
+top_answer (Err y) t = NoTop y
 
 -- A buffer afterwards: bytes at its front and the rest kept, or as it was
-abbrev pub written : Told → List ℕ → List ℕ → List ℕ
-written Fine x out = x ++ drop (length x) out
-written (Refused y) x out = out
+abbrev pub written : Result ⊤ Refusal → List ℕ → List ℕ → List ℕ
+written (Ok tt) x out = x ++ drop (length x) out
+written (Err y) x out = out

@@ -4,8 +4,7 @@ ghost use Rattle.standard.specs.Bytes.{Bytes, num};
 ghost use Rattle.bitfield.specs.Body.{bit_list_body, bit_vector_body, bytes_for_lem, list_bits_lem, within};
 ghost use Rattle.bitfield.specs.Facts.{Used, TopOf};
 
-use super::BodyBits;
-use standard::{Refusal, Told};
+use standard::Refusal;
 
 // How many bytes there are up to the last one that is not zero, where those from the end on are.
 pub(crate) fn used_bytes(bytes: &[u8], end: usize) -> usize
@@ -39,42 +38,42 @@ pub(crate) fn bytes_for(n: usize) -> usize
 }
 
 // The number of bits before bit h of byte i, where it is at most n.
-fn list_bits(i: usize, h: usize, n: usize) -> BodyBits
+fn list_bits(i: usize, h: usize, n: usize) -> Result<usize, Refusal>
     requires { h < 8 }
     ensures { result ≡ list_bits_lem (8 * i + h) n }
 {
     let q = n / 8;
     if q < i {
-        return BodyBits::Refused(Refusal::OutOfBounds(n, n));
+        return Err(Refusal::OutOfBounds(n, n));
     }
     let k = 8 * i + h;
     if k <= n {
-        BodyBits::Bits(k)
+        Ok(k)
     } else {
-        BodyBits::Refused(Refusal::OutOfBounds(n, n))
+        Err(Refusal::OutOfBounds(n, n))
     }
 }
 
 // A bit list's body whose last byte is zero is none.
-fn unmarked(bytes: &[u8]) -> BodyBits
+fn unmarked(bytes: &[u8]) -> Result<usize, Refusal>
     requires { (0 < length bytes.now) × (get_or bytes.now (length bytes.now - 1) 0 ≡ 0) }
     ensures { (n : ℕ) → result ≡ bit_list_body bytes.now n }
 {
     let used = used_bytes(bytes, bytes.len());
     if used == 0 {
-        BodyBits::Refused(Refusal::MissingLengthInformation)
+        Err(Refusal::MissingLengthInformation)
     } else {
-        BodyBits::Refused(Refusal::InvalidByteCount(bytes.len(), used))
+        Err(Refusal::InvalidByteCount(bytes.len(), used))
     }
 }
 
 // The number of bits of a bit list that has these bytes and at most n bits.
-pub fn bitlist_body(bytes: &[u8], n: usize) -> BodyBits
+pub fn bitlist_body(bytes: &[u8], n: usize) -> Result<usize, Refusal>
     ensures { result ≡ bit_list_body bytes.now n }
 {
     let len = bytes.len();
     if len == 0 {
-        return BodyBits::Refused(Refusal::ExcessBits);
+        return Err(Refusal::ExcessBits);
     }
     let last = bytes[len - 1];
     if last == 0 {
@@ -84,23 +83,23 @@ pub fn bitlist_body(bytes: &[u8], n: usize) -> BodyBits
 }
 
 // Nothing is set from bit n on, in bytes that end at most with the byte of that bit.
-fn none_above(bytes: &[u8], n: usize) -> Told
+fn none_above(bytes: &[u8], n: usize) -> Result<(), Refusal>
     requires { (length bytes.now ≤ n / 8 + 1) × Bytes bytes.now }
     ensures { result ≡ within bytes.now n }
 {
     let q = n / 8;
     if bytes.len() <= q {
-        return Told::Fine;
+        return Ok(());
     }
     if bytes[q] >> (n % 8) == 0 {
-        Told::Fine
+        Ok(())
     } else {
-        Told::Refused(Refusal::ExcessBits)
+        Err(Refusal::ExcessBits)
     }
 }
 
 // Whether these bytes are a bit vector of n bits.
-pub fn bitvector_body(bytes: &[u8], n: usize) -> Told
+pub fn bitvector_body(bytes: &[u8], n: usize) -> Result<(), Refusal>
     ensures { result ≡ bit_vector_body bytes.now n }
 {
     let len = bytes.len();
@@ -108,12 +107,12 @@ pub fn bitvector_body(bytes: &[u8], n: usize) -> Told
         if len == 1 {
             return none_above(bytes, 0);
         }
-        return Told::Refused(Refusal::ExcessBits);
+        return Err(Refusal::ExcessBits);
     }
     let need = bytes_for(n);
     if len == need {
         none_above(bytes, n)
     } else {
-        Told::Refused(Refusal::InvalidByteCount(len, need))
+        Err(Refusal::InvalidByteCount(len, need))
     }
 }

@@ -10,7 +10,7 @@ ghost use Rattle.bitfield.specs.Held.{bits_in, held, op_bits, op_length};
 
 use super::body::{bytes_for, top_bit, used_bytes};
 use super::raw::{Op, combine, copy_of, cut, ones_in, put_bit, put_raw, shifted};
-use super::{Field, Top};
+use super::Field;
 
 // How many bits come out.
 #[tactic(auto, unfolding(crate::specs::Held::op_length))]
@@ -87,16 +87,16 @@ pub(crate) fn read(bytes: &[u8], k: usize) -> Field
 }
 
 // The highest set bit.
-pub(crate) fn highest_of(a: &[u8; 256], len: usize) -> Top
+pub(crate) fn highest_of(a: &[u8; 256], len: usize) -> Option<usize>
     requires { Kept a.now len }
     ensures { result ≡ highest (bits_in a.now len) }
 {
     let used = used_bytes(a, bytes_for(len));
     if used == 0 {
-        return Top::Nothing;
+        return None;
     }
     let last = used - 1;
-    Top::At(8 * last + top_bit(a[last]))
+    Some(8 * last + top_bit(a[last]))
 }
 
 // How many bits are set.

@@ -9,7 +9,7 @@ mod raw;
 mod tests;
 mod vector;
 
-use standard::{Refusal, Told};
+use standard::Refusal;
 
 // A bit list of at most n bits: the first len of its bytes' bits. Any state can be handed in: every call tests it first.
 #[derive(Clone, Copy)]
@@ -31,27 +31,13 @@ pub struct BitVector {
 #[derive(Clone, Copy)]
 pub struct ListResult {
     pub field: BitList,
-    pub told: Told,
+    pub told: Result<(), Refusal>,
 }
 
 #[derive(Clone, Copy)]
 pub struct VectorResult {
     pub field: BitVector,
-    pub told: Told,
-}
-
-// What a bit is, or whether something holds of all bits.
-#[derive(Clone, Copy)]
-pub enum BitResult {
-    Is(bool),
-    Refused(Refusal),
-}
-
-// A number of bits, or of bytes.
-#[derive(Clone, Copy)]
-pub enum CountResult {
-    Count(usize),
-    Refused(Refusal),
+    pub told: Result<(), Refusal>,
 }
 
 // Where the highest set bit is, if any is set.
@@ -60,20 +46,6 @@ pub enum HighestBit {
     At(usize),
     Nothing,
     Refused(Refusal),
-}
-
-// How many bits a bit list's body has.
-#[derive(Clone, Copy)]
-pub enum BodyBits {
-    Bits(usize),
-    Refused(Refusal),
-}
-
-// The highest set bit of bits that are well formed.
-#[derive(Clone, Copy)]
-pub enum Top {
-    At(usize),
-    Nothing,
 }
 
 // Bits in 256 bytes, and how many they are: a list's or a vector's.
@@ -87,5 +59,5 @@ pub(crate) struct Field {
 #[derive(Clone, Copy)]
 pub(crate) struct Outcome {
     pub(crate) field: Field,
-    pub(crate) told: Told,
+    pub(crate) told: Result<(), Refusal>,
 }

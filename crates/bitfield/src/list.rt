@@ -16,10 +16,9 @@ use super::calls::{
 use super::fields::{op_len, put_marked, read, zeros};
 use super::raw::{Op, combine};
 use super::tests::{is_list, limit_told, one_told, room_told, two_told, up_to_told};
-use super::{BitList, BitResult, BodyBits, CountResult, HighestBit, ListResult, Outcome};
-use standard::Told;
+use super::{BitList, HighestBit, ListResult, Outcome};
 
-fn first_told(bytes: &[u8; 256], len: usize, n: usize) -> Told
+fn first_told(bytes: &[u8; 256], len: usize, n: usize) -> Result<(), Refusal>
     requires { Raw bytes.now }
     ensures { result ≡ one_told_lem (list_good bytes.now len n) n }
 {
@@ -34,10 +33,10 @@ fn pair_told<'a>(
     b: &'a [u8; 256],
     lb: usize,
     m: usize,
-) -> Told
+) -> Result<(), Refusal>
     requires { Raw a.now × Raw b.now }
     ensures { (result ≡ two_told_lem (and_also (list_good a.now la n) (list_good b.now lb m)) n m) ×
-        (result ≡ Told.Fine → Kept a.now la × Kept b.now lb) }
+        (result ≡ (Ok tt) → Kept a.now la × Kept b.now lb) }
 {
     two_told(is_list(a, la, n), is_list(b, lb, m), n, m)
 }
@@ -48,7 +47,7 @@ fn result_of(old: BitList, made: Outcome, n: usize) -> ListResult
 {
     let told = made.told;
     match told {
-        Told::Fine => {
+        Ok(()) => {
             let field = made.field;
             let bytes = field.bytes;
             ListResult {
@@ -57,32 +56,32 @@ fn result_of(old: BitList, made: Outcome, n: usize) -> ListResult
                     len: field.len,
                     n,
                 },
-                told: Told::Fine,
+                told: Ok(()),
             }
         }
-        Told::Refused(x) => ListResult {
+        Err(x) => ListResult {
             field: old,
-            told: Told::Refused(x),
+            told: Err(x),
         },
     }
 }
 
 // Two fields put together byte by byte, where the first tests refused nothing. The tests stay with the callers: with them in here this is
 // a call of its own when compiled, both fields are copied once more, and at 64 bits that is slower than the original.
-fn merged_lists(op: Op, told: Told, a: BitList, b: BitList) -> ListResult
+fn merged_lists(op: Op, told: Result<(), Refusal>, a: BitList, b: BitList) -> ListResult
     ensures { result ≡ list_merge op told a b }
 {
     match told {
-        Told::Refused(x) => ListResult {
+        Err(x) => ListResult {
             field: a,
-            told: Told::Refused(x),
+            told: Err(x),
         },
-        Told::Fine => {
+        Ok(()) => {
             let bytes = combine(op, &a.bytes, &b.bytes, 256);
             let len = op_len(op, a.len, b.len);
             ListResult {
                 field: BitList { bytes, len, n: a.n },
-                told: Told::Fine,
+                told: Ok(()),
             }
         }
     }
@@ -116,29 +115,29 @@ impl BitList {
     {
         let told = limit_told(n);
         match told {
-            Told::Refused(_) => result_of(nothing(), refused(told), n),
-            Told::Fine => {
+            Err(_) => result_of(nothing(), refused(told), n),
+            Ok(()) => {
                 let body = bitlist_body(bytes, n);
                 match body {
-                    BodyBits::Bits(k) => result_of(nothing(), made(read(bytes, k)), n),
-                    BodyBits::Refused(x) => result_of(nothing(), refused(Told::Refused(x)), n),
+                    Ok(k) => result_of(nothing(), made(read(bytes, k)), n),
+                    Err(x) => result_of(nothing(), refused(Err(x)), n),
                 }
             }
         }
     }
 
     // Writes the serialization into a buffer, which keeps the rest, and says how many bytes it has.
-    pub fn into_bytes(self, out: &mut [u8]) -> CountResult
+    pub fn into_bytes(self, out: &mut [u8]) -> Result<usize, Refusal>
         ensures { (result ≡ list_into_bytes self (length out.old)) × (out.new ≡ list_buffer self out.old) }
     {
         let len = self.len;
         let need = len / 8 + 1;
         let told = room_told(first_told(&self.bytes, len, self.n), need, out.len());
         match told {
-            Told::Refused(x) => CountResult::Refused(x),
-            Told::Fine => {
+            Err(x) => Err(x),
+            Ok(()) => {
                 put_marked(out, &self.bytes, len);
-                CountResult::Count(need)
+                Ok(need)
             }
         }
     }
@@ -194,7 +193,7 @@ impl BitList {
     }
 
     // Whether every set bit is set in the other one.
-    pub fn is_subset(self, other: BitList) -> BitResult
+    pub fn is_subset(self, other: BitList) -> Result<bool, Refusal>
         ensures { result ≡ list_is_subset self other }
     {
         let len = self.len;
@@ -214,7 +213,7 @@ impl BitList {
     }
 
     // Bit i.
-    pub fn get(self, i: usize) -> BitResult
+    pub fn get(self, i: usize) -> Result<bool, Refusal>
         ensures { result ≡ list_get self i }
     {
         let len = self.len;
@@ -230,7 +229,7 @@ impl BitList {
     }
 
     // Whether no bit is set.
-    pub fn is_zero(self) -> BitResult
+    pub fn is_zero(self) -> Result<bool, Refusal>
         ensures { result ≡ list_is_zero self }
     {
         let len = self.len;
@@ -238,7 +237,7 @@ impl BitList {
     }
 
     // How many bits are set.
-    pub fn num_set_bits(self) -> CountResult
+    pub fn num_set_bits(self) -> Result<usize, Refusal>
         ensures { result ≡ list_num_set_bits self }
     {
         let len = self.len;

@@ -5,118 +5,118 @@ ghost use Rattle.bitfield.specs.Raw.{Raw, clean};
 ghost use Rattle.bitfield.specs.Held.{limited, one_told_lem, two_told_lem, list_good, vector_good, inside, up_to, not_below, room_for, and_then};
 
 use super::raw::is_clean;
-use standard::{Refusal, Told};
+use standard::Refusal;
 
 // 14
 #[tactic(auto, unfolding(crate::specs::Held::limited))]
-pub(crate) fn limit_told(n: usize) -> Told
+pub(crate) fn limit_told(n: usize) -> Result<(), Refusal>
     ensures { result ≡ limited n }
 {
     if n <= 2048 {
-        Told::Fine
+        Ok(())
     } else {
-        Told::Refused(Refusal::OverLimit(n, 2048))
+        Err(Refusal::OverLimit(n, 2048))
     }
 }
 
 // 9
 #[tactic(auto, unfolding(crate::specs::Held::inside))]
-pub(crate) fn inside_told(told: Told, i: usize, len: usize) -> Told
+pub(crate) fn inside_told(told: Result<(), Refusal>, i: usize, len: usize) -> Result<(), Refusal>
     ensures { result ≡ and_then told (inside i len) }
 {
     if i < len {
-        and_then(told, Told::Fine)
+        and_then(told, Ok(()))
     } else {
-        and_then(told, Told::Refused(Refusal::OutOfBounds(i, len)))
+        and_then(told, Err(Refusal::OutOfBounds(i, len)))
     }
 }
 
 // 9
 #[tactic(auto, unfolding(crate::specs::Held::up_to))]
-pub(crate) fn up_to_told(told: Told, k: usize, most: usize) -> Told
+pub(crate) fn up_to_told(told: Result<(), Refusal>, k: usize, most: usize) -> Result<(), Refusal>
     ensures { result ≡ and_then told (up_to k most) }
 {
     if k <= most {
-        and_then(told, Told::Fine)
+        and_then(told, Ok(()))
     } else {
-        and_then(told, Told::Refused(Refusal::OutOfBounds(k, most)))
+        and_then(told, Err(Refusal::OutOfBounds(k, most)))
     }
 }
 
 // 12
 #[tactic(auto, unfolding(crate::specs::Held::not_below))]
-pub(crate) fn not_below_told(m: usize, n: usize) -> Told
+pub(crate) fn not_below_told(m: usize, n: usize) -> Result<(), Refusal>
     requires { n ≤ 2048 }
     ensures { result ≡ not_below m n }
 {
     if n <= m {
-        Told::Fine
+        Ok(())
     } else {
-        Told::Refused(Refusal::InvalidByteCount(m, n + 1))
+        Err(Refusal::InvalidByteCount(m, n + 1))
     }
 }
 
 // 22
 #[tactic(auto, unfolding(crate::specs::Held::room_for))]
-pub(crate) fn room_told(told: Told, need: usize, room: usize) -> Told
+pub(crate) fn room_told(told: Result<(), Refusal>, need: usize, room: usize) -> Result<(), Refusal>
     ensures { result ≡ and_then told (room_for need room) }
 {
     if need <= room {
-        and_then(told, Told::Fine)
+        and_then(told, Ok(()))
     } else {
-        and_then(told, Told::Refused(Refusal::NoRoom(need, room)))
+        and_then(told, Err(Refusal::NoRoom(need, room)))
     }
 }
 
 // 14 after other tests
 #[tactic(auto, unfolding(crate::specs::Held::limited))]
-pub(crate) fn limit_after(told: Told, n: usize) -> Told
+pub(crate) fn limit_after(told: Result<(), Refusal>, n: usize) -> Result<(), Refusal>
     ensures { result ≡ and_then told (limited n) }
 {
     if n <= 2048 {
-        and_then(told, Told::Fine)
+        and_then(told, Ok(()))
     } else {
-        and_then(told, Told::Refused(Refusal::OverLimit(n, 2048)))
+        and_then(told, Err(Refusal::OverLimit(n, 2048)))
     }
 }
 
 // One test after another.
-fn and_then(first: Told, next: Told) -> Told
+fn and_then(first: Result<(), Refusal>, next: Result<(), Refusal>) -> Result<(), Refusal>
     ensures { result ≡ and_then first next }
 {
     match first {
-        Told::Fine => next,
-        Told::Refused(x) => Told::Refused(x),
+        Ok(()) => next,
+        Err(x) => Err(x),
     }
 }
 
 // 23, 14
 #[tactic(auto, unfolding(crate::specs::Held::one_told_lem))]
-pub(crate) fn one_told(good: bool, n: usize) -> Told
+pub(crate) fn one_told(good: bool, n: usize) -> Result<(), Refusal>
     ensures { result ≡ one_told_lem good n }
 {
     if good {
         limit_told(n)
     } else {
-        Told::Refused(Refusal::BadState)
+        Err(Refusal::BadState)
     }
 }
 
 // 23, 24, 14
 #[tactic(auto, unfolding(crate::specs::Held::two_told_lem))]
-pub(crate) fn two_told(first: bool, second: bool, n: usize, m: usize) -> Told
+pub(crate) fn two_told(first: bool, second: bool, n: usize, m: usize) -> Result<(), Refusal>
     ensures { result ≡ two_told_lem (and_also first second) n m }
 {
     if !first {
-        return Told::Refused(Refusal::BadState);
+        return Err(Refusal::BadState);
     }
     if !second {
-        return Told::Refused(Refusal::BadState);
+        return Err(Refusal::BadState);
     }
     if n == m {
         limit_told(n)
     } else {
-        Told::Refused(Refusal::LimitsDiffer)
+        Err(Refusal::LimitsDiffer)
     }
 }
 

@@ -17,10 +17,9 @@ use super::calls::{
 use super::fields::{op_len, read, zeros};
 use super::raw::{Op, combine, put_raw};
 use super::tests::{is_vector, limit_told, one_told, room_told, two_told};
-use super::{BitResult, BitVector, CountResult, HighestBit, Outcome, VectorResult};
-use standard::Told;
+use super::{BitVector, HighestBit, Outcome, VectorResult};
 
-fn first_told(bytes: &[u8; 256], len: usize, n: usize) -> Told
+fn first_told(bytes: &[u8; 256], len: usize, n: usize) -> Result<(), Refusal>
     requires { Raw bytes.now }
     ensures { result ≡ one_told_lem (vector_good bytes.now len n) n }
 {
@@ -35,10 +34,10 @@ fn pair_told<'a>(
     b: &'a [u8; 256],
     lb: usize,
     m: usize,
-) -> Told
+) -> Result<(), Refusal>
     requires { Raw a.now × Raw b.now }
     ensures { (result ≡ two_told_lem (and_also (vector_good a.now la n) (vector_good b.now lb m)) n m) ×
-        (result ≡ Told.Fine → Kept a.now la × Kept b.now lb) }
+        (result ≡ (Ok tt) → Kept a.now la × Kept b.now lb) }
 {
     two_told(is_vector(a, la, n), is_vector(b, lb, m), n, m)
 }
@@ -49,7 +48,7 @@ fn result_of(old: BitVector, made: Outcome, n: usize) -> VectorResult
 {
     let told = made.told;
     match told {
-        Told::Fine => {
+        Ok(()) => {
             let field = made.field;
             let bytes = field.bytes;
             VectorResult {
@@ -58,32 +57,32 @@ fn result_of(old: BitVector, made: Outcome, n: usize) -> VectorResult
                     len: field.len,
                     n,
                 },
-                told: Told::Fine,
+                told: Ok(()),
             }
         }
-        Told::Refused(x) => VectorResult {
+        Err(x) => VectorResult {
             field: old,
-            told: Told::Refused(x),
+            told: Err(x),
         },
     }
 }
 
 // Two fields put together byte by byte, where the first tests refused nothing. The tests stay with the callers: with them in here this is
 // a call of its own when compiled, both fields are copied once more, and at 64 bits that is slower than the original.
-fn merged_vectors(op: Op, told: Told, a: BitVector, b: BitVector) -> VectorResult
+fn merged_vectors(op: Op, told: Result<(), Refusal>, a: BitVector, b: BitVector) -> VectorResult
     ensures { result ≡ vector_merge op told a b }
 {
     match told {
-        Told::Refused(x) => VectorResult {
+        Err(x) => VectorResult {
             field: a,
-            told: Told::Refused(x),
+            told: Err(x),
         },
-        Told::Fine => {
+        Ok(()) => {
             let bytes = combine(op, &a.bytes, &b.bytes, 256);
             let len = op_len(op, a.len, b.len);
             VectorResult {
                 field: BitVector { bytes, len, n: a.n },
-                told: Told::Fine,
+                told: Ok(()),
             }
         }
     }
@@ -123,29 +122,29 @@ impl BitVector {
     {
         let told = limit_told(n);
         match told {
-            Told::Refused(_) => result_of(nothing(), refused(told), n),
-            Told::Fine => {
+            Err(_) => result_of(nothing(), refused(told), n),
+            Ok(()) => {
                 let body = bitvector_body(bytes, n);
                 match body {
-                    Told::Fine => result_of(nothing(), made(read(bytes, n)), n),
-                    Told::Refused(_) => result_of(nothing(), refused(body), n),
+                    Ok(()) => result_of(nothing(), made(read(bytes, n)), n),
+                    Err(_) => result_of(nothing(), refused(body), n),
                 }
             }
         }
     }
 
     // Writes the serialization into a buffer, which keeps the rest, and says how many bytes it has.
-    pub fn into_bytes(self, out: &mut [u8]) -> CountResult
+    pub fn into_bytes(self, out: &mut [u8]) -> Result<usize, Refusal>
         ensures { (result ≡ vector_into_bytes self (length out.old)) × (out.new ≡ vector_buffer self out.old) }
     {
         let len = self.len;
         let need = raw_len(len);
         let told = room_told(first_told(&self.bytes, len, self.n), need, out.len());
         match told {
-            Told::Refused(x) => CountResult::Refused(x),
-            Told::Fine => {
+            Err(x) => Err(x),
+            Ok(()) => {
                 put_raw(out, &self.bytes, need);
-                CountResult::Count(need)
+                Ok(need)
             }
         }
     }
@@ -181,7 +180,7 @@ impl BitVector {
     }
 
     // Whether every set bit is set in the other one.
-    pub fn is_subset(self, other: BitVector) -> BitResult
+    pub fn is_subset(self, other: BitVector) -> Result<bool, Refusal>
         ensures { result ≡ vector_is_subset self other }
     {
         let len = self.len;
@@ -201,7 +200,7 @@ impl BitVector {
     }
 
     // Bit i.
-    pub fn get(self, i: usize) -> BitResult
+    pub fn get(self, i: usize) -> Result<bool, Refusal>
         ensures { result ≡ vector_get self i }
     {
         let len = self.len;
@@ -217,7 +216,7 @@ impl BitVector {
     }
 
     // Whether no bit is set.
-    pub fn is_zero(self) -> BitResult
+    pub fn is_zero(self) -> Result<bool, Refusal>
         ensures { result ≡ vector_is_zero self }
     {
         let len = self.len;
@@ -225,7 +224,7 @@ impl BitVector {
     }
 
     // How many bits are set.
-    pub fn num_set_bits(self) -> CountResult
+    pub fn num_set_bits(self) -> Result<usize, Refusal>
         ensures { result ≡ vector_num_set_bits self }
     {
         let len = self.len;

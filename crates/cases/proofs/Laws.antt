@@ -12,8 +12,8 @@ use borrow.Author.Tests.{leb-true, ltb-false, le-leb, lt-leb}
 use Rattle.standard.specs.Bytes.{num, num_at, four, word_at}
 use Rattle.standard.specs.Choice.{pick}
 use Rattle.cases.specs.Records.{end_of, go_on_lem, row_end, record_end_lem, next_of, start_of, body_of, part_of, reach}
-use Rattle.cases.specs.declared.Extent.{Extent}
-use Rattle.cases.specs.declared.Extent.TheVariants.{Whole, Cut}
+use Rattle.std.specs.declared.option.Option.{Option}
+use Rattle.std.specs.declared.option.Option.TheVariants.{Some, None}
 
 -- A number of eight bytes is two words.
 eight-first : (b : List ℕ) → num (take 8 b) ≡ num (take 4 b) + 4294967296 * num (take 4 (drop 4 b))
@@ -28,20 +28,20 @@ pub eight-words : (b : List ℕ) (p : ℕ) → num_at 8 b p ≡ four b p + 42949
 unfolding num_at
 eight-words b p = eight-first (drop p b) ∙ simp drop-drop
 
-pub end_whole : (b : List ℕ) (p : ℕ) → p + 4 + four b p ≤ length b → Whole (p + 4 + four b p) ≡ end_of b p
+pub end_whole : (b : List ℕ) (p : ℕ) → p + 4 + four b p ≤ length b → Some (p + 4 + four b p) ≡ end_of b p
 unfolding end_of
 end_whole b p h = rw (le-leb (p + 4 + four b p) (length b) h)
 
-pub end-cut : (b : List ℕ) (p : ℕ) → length b < p + 4 + four b p → Cut ≡ end_of b p
+pub end-cut : (b : List ℕ) (p : ℕ) → length b < p + 4 + four b p → None ≡ end_of b p
 unfolding end_of
 end-cut b p h = rw (lt-leb (p + 4 + four b p) (length b) h)
 
 -- A part that is all there ends behind its length's word, and within the bytes.
-whole-taken : (c : Bool) (n e : ℕ) → pick c (Whole n) Cut ≡ Whole e → (c ≡ true) × (n ≡ e)
+whole-taken : (c : Bool) (n e : ℕ) → pick c (Some n) None ≡ Some e → (c ≡ true) × (n ≡ e)
 whole-taken true n e h = (refl, (cc))
 whole-taken false n e h = let z : ◌≡◌ {A = ℕ} 0 1 = cc in absurd (omega arith)
 
-pub end-within : (b : List ℕ) (p e : ℕ) → Whole e ≡ end_of b p → (p + 4 ≤ e) × (e ≤ length b)
+pub end-within : (b : List ℕ) (p e : ℕ) → Some e ≡ end_of b p → (p + 4 ≤ e) × (e ≤ length b)
 unfolding end_of
 end-within b p e h =
     let w = whole-taken (leb (p + 4 + four b p) (length b)) (p + 4 + four b p) e (sym h) in
@@ -69,52 +69,52 @@ part-behind b k i h e =
     sym (none-behind b (start_of b k) e) ∙ none-behind b (start_of b i) (rw n at (start-behind b (i - k) k e))
 
 -- Before the end each step goes on, and not past the end.
-next-step : (b : List ℕ) (p : ℕ) (x : Extent) → x ≡ end_of b p → p < length b → (p < reach x (length b)) × (reach x (length b) ≤ length b)
-next-step b p (Whole e) h k = let w = end-within b p e h in omega arith
-next-step b p Cut h k = omega arith
+next-step : (b : List ℕ) (p : ℕ) (x : Option ℕ) → x ≡ end_of b p → p < length b → (p < reach x (length b)) × (reach x (length b) ≤ length b)
+next-step b p (Some e) h k = let w = end-within b p e h in omega arith
+next-step b p None h k = omega arith
 
 pub next-further : (b : List ℕ) (p : ℕ) → p < length b → (p < next_of b p) × (next_of b p ≤ length b)
 unfolding next_of
 next-further b p h = next-step b p (end_of b p) refl h
 
 -- A step of the walk over a row of parts
-pub row_more : (b : List ℕ) (n p e : ℕ) → 0 < n → Whole e ≡ end_of b p → row_end b (n - 1) e ≡ row_end b n p
+pub row_more : (b : List ℕ) (n p e : ℕ) → 0 < n → Some e ≡ end_of b p → row_end b (n - 1) e ≡ row_end b n p
 unfolding row_end
 row_more b zero p e h k = absurd (omega arith)
 row_more b (suc n) p e h k = let m : suc n - 1 ≡ n = omega arith in rw (m, ← k)
 
-pub row_cut : (b : List ℕ) (n p : ℕ) → 0 < n → Cut ≡ end_of b p → Cut ≡ row_end b n p
+pub row_cut : (b : List ℕ) (n p : ℕ) → 0 < n → None ≡ end_of b p → None ≡ row_end b n p
 unfolding row_end
 row_cut b zero p h k = absurd (omega arith)
 row_cut b (suc n) p h k = rw (← k) refl
 
-pub row-none : (b : List ℕ) (p : ℕ) → Whole p ≡ row_end b 0 p
+pub row-none : (b : List ℕ) (p : ℕ) → Some p ≡ row_end b 0 p
 unfolding row_end
 row-none b p = refl
 
 -- A record that is all there ends within the bytes, behind its two words.
-row_step : (b : List ℕ) (n p e : ℕ) (x : Extent) →
+row_step : (b : List ℕ) (n p e : ℕ) (x : Option ℕ) →
     x ≡ end_of b p →
-    Whole e ≡ go_on_lem x (row_end b n) →
-    ((q : ℕ) → q ≤ length b → Whole e ≡ row_end b n q → (q ≤ e) × (e ≤ length b)) →
+    Some e ≡ go_on_lem x (row_end b n) →
+    ((q : ℕ) → q ≤ length b → Some e ≡ row_end b n q → (q ≤ e) × (e ≤ length b)) →
     (p ≤ e) × (e ≤ length b)
-row_step b n p e (Whole q) h k f =
+row_step b n p e (Some q) h k f =
     let w = end-within b p q h in
     let v = f q w.1 k in
     omega arith
-row_step b n p e Cut h k f = let z : ◌≡◌ {A = ℕ} 0 1 = cc in absurd (omega arith)
+row_step b n p e None h k f = let z : ◌≡◌ {A = ℕ} 0 1 = cc in absurd (omega arith)
 
-row_within : (b : List ℕ) (n p e : ℕ) → p ≤ length b → Whole e ≡ row_end b n p → (p ≤ e) × (e ≤ length b)
+row_within : (b : List ℕ) (n p e : ℕ) → p ≤ length b → Some e ≡ row_end b n p → (p ≤ e) × (e ≤ length b)
 unfolding row_end
 row_within b zero p e h k = let q : e ≡ p = cc in omega arith
 row_within b (suc n) p e h k = row_step b n p e (end_of b p) refl k (λ q. row_within b n q e)
 
 record-step : (c : Bool) (b : List ℕ) (n e : ℕ) → (c ≡ false → 8 ≤ length b) →
-    Whole e ≡ pick c Cut (row_end b n 8) →
+    Some e ≡ pick c None (row_end b n 8) →
     (8 ≤ e) × (e ≤ length b)
 record-step true b n e h k = let z : ◌≡◌ {A = ℕ} 0 1 = cc in absurd (omega arith)
 record-step false b n e h k = row_within b n 8 e (h refl) k
 
-pub record-within : (b : List ℕ) (e : ℕ) → Whole e ≡ record_end_lem b → (8 ≤ e) × (e ≤ length b)
+pub record-within : (b : List ℕ) (e : ℕ) → Some e ≡ record_end_lem b → (8 ≤ e) × (e ≤ length b)
 unfolding record_end_lem
 record-within b e h = record-step (ltb (length b) 8) b (word_at b 1) e (ltb-false (length b) 8) h

@@ -10,19 +10,12 @@ ghost use Rattle.cases.specs.Records.{end_of, next_of, body_of, part_of, record_
 ghost use Rattle.cases.specs.Answers.{agrees, is_number, head_matches_lem, refusal_matches_lem, is_formed_lem, told_of};
 
 use standard::words::{four_at, word_at};
-use standard::{Maybe, Refusal};
+use standard::Refusal;
 
 // What a head's field says where it is not compared: the greatest number
 pub const ANY: usize = 18446744073709551615;
 // A head is five numbers.
 pub const HEAD: usize = 40;
-
-// How far what begins at a place reaches; nothing where it is not all there.
-#[derive(Clone, Copy)]
-pub enum Extent {
-    Whole(usize),
-    Cut,
-}
 
 // How a record came out.
 #[derive(Clone, Copy)]
@@ -41,42 +34,42 @@ fn eight_at(b: &[u8], p: usize) -> usize
 }
 
 // Where the part that begins at p ends.
-pub fn part_end(b: &[u8], p: usize) -> Extent
+pub fn part_end(b: &[u8], p: usize) -> Option<usize>
     ensures { result ≡ end_of b.now p }
 {
     let len = b.len();
     if len < 4 {
-        return Extent::Cut;
+        return None;
     }
     if len - 4 < p {
-        return Extent::Cut;
+        return None;
     }
     let size = four_at(b, p);
     if len - 4 - p < size {
-        Extent::Cut
+        None
     } else {
-        Extent::Whole(p + 4 + size)
+        Some(p + 4 + size)
     }
 }
 
 // How many bytes the record takes that begins the bytes.
-pub fn record_end(b: &[u8]) -> Extent
+pub fn record_end(b: &[u8]) -> Option<usize>
     ensures { result ≡ record_end_lem b.now }
 {
     if b.len() < 8 {
-        return Extent::Cut;
+        return None;
     }
     let mut left = word_at(b, 1);
     let mut at = 8;
     while left > 0 {
         let end = part_end(b, at);
         match end {
-            Extent::Whole(e) => at = e,
-            Extent::Cut => return Extent::Cut,
+            Some(e) => at = e,
+            None => return None,
         }
         left -= 1;
     }
-    Extent::Whole(at)
+    Some(at)
 }
 
 // Where the next part begins.
@@ -85,8 +78,8 @@ fn next_start(b: &[u8], p: usize) -> usize
 {
     let end = part_end(b, p);
     match end {
-        Extent::Whole(e) => e,
-        Extent::Cut => b.len(),
+        Some(e) => e,
+        None => b.len(),
     }
 }
 
@@ -96,11 +89,11 @@ fn body_at(b: &[u8], p: usize) -> &[u8]
 {
     let end = part_end(b, p);
     match end {
-        Extent::Whole(e) => {
+        Some(e) => {
             let from = p + 4;
             &b[from..e]
         }
-        Extent::Cut => &b[..0],
+        None => &b[..0],
     }
 }
 
@@ -131,13 +124,13 @@ pub fn number_at(row: &[u8], i: usize) -> usize
 }
 
 // The number that a part says, which then has eight bytes.
-pub fn number(part: &[u8]) -> Maybe
+pub fn number(part: &[u8]) -> Option<usize>
     ensures { result ≡ number_of part.now }
 {
     if part.len() == 8 {
-        Maybe::Just(eight_at(part, 0))
+        Some(eight_at(part, 0))
     } else {
-        Maybe::Nothing
+        None
     }
 }
 

@@ -11,41 +11,41 @@ use lib.ListN.{length}
 use lib.Dec.{ltb}
 use Rattle.standard.specs.Choice.{pick}
 use Rattle.standard.specs.declared.Head.{Head}
-use Rattle.standard.specs.declared.Told.{Told}
 use Rattle.standard.specs.declared.Refusal.{Refusal}
 use Rattle.standard.specs.declared.Refusal.TheVariants.{TooLarge, BadState, BuilderFull}
 use Rattle.decode.specs.Builder.{step}
 use Rattle.decode.specs.Held.{put, Run, none, more, old, taken, register_item}
 use Rattle.decode.specs.Heads.{Calls, start, call}
 use Rattle.decode.specs.declared.builder.Progress.{Progress}
-use Rattle.decode.specs.declared.builder.Step.{Step}
 use Rattle.decode.specs.declared.decoder.SszDecoderBuilder.{SszDecoderBuilder}
 use Rattle.decode.specs.declared.decoder.Registered.{Registered}
 use Rattle.decode.proofs.Register.{refused_fine}
 use Rattle.decode.proofs.Reached.{Long, run_recalled}
 use Rattle.decode.proofs.BadState.{register-bad_iff}
 use Rattle.decode.proofs.Heads.{item-registered}
+use Rattle.std.specs.declared.result.Result.{Result}
+use Rattle.std.specs.declared.result.Result.TheVariants.{Ok, Err}
 
 -- What an accepted call says.
-record Taken (c d : Bool) (s : Step) (h : Head) (b : List ℕ) (x y : SszDecoderBuilder) : Type 0 where
+record Taken (c d : Bool) (s : Result Progress Refusal) (h : Head) (b : List ℕ) (x y : SszDecoderBuilder) : Type 0 where
   short : c ≡ false
   few : d ≡ true
   progress : Progress
-  stepped : s ≡ Step.Next progress
+  stepped : s ≡ Ok progress
   state_is : y ≡ put h b x
 
-old_fine : {A : Type 0} (x y : SszDecoderBuilder) (r : Refusal) → old x r ≡ record { state = y; told = Told.Fine } → A
+old_fine : {A : Type 0} (x y : SszDecoderBuilder) (r : Refusal) → old x r ≡ record { state = y; told = Ok tt } → A
 old_fine x y r e = refused_fine r (ap (λ (z : Registered). z.told) e)
 
-taken-says : (c d : Bool) (s : Step) (h : Head) (b : List ℕ) (x y : SszDecoderBuilder)
-    → pick c (old x TooLarge) (pick d (taken s h b x) (old x (BuilderFull 64))) ≡ record { state = y; told = Told.Fine } → Taken c d s h b x y
+taken-says : (c d : Bool) (s : Result Progress Refusal) (h : Head) (b : List ℕ) (x y : SszDecoderBuilder)
+    → pick c (old x TooLarge) (pick d (taken s h b x) (old x (BuilderFull 64))) ≡ record { state = y; told = Ok tt } → Taken c d s h b x y
 taken-says true d s h b x y e = old_fine x y TooLarge e
 taken-says false false s h b x y e = old_fine x y (BuilderFull 64) e
-taken-says false true (Step.Next q) h b x y e =
+taken-says false true (Ok q) h b x y e =
     record { short = refl; few = refl; progress = q; stepped = refl; state_is = ap (λ (z : Registered). z.state) (sym e) }
-taken-says false true (Step.Refused r) h b x y e = old_fine x y r e
+taken-says false true (Err r) h b x y e = old_fine x y r e
 
-called : (h : Head) (b : List ℕ) (p : Progress) (x y : SszDecoderBuilder) → Run b p x → register_item h b x ≡ record { state = y; told = Told.Fine }
+called : (h : Head) (b : List ℕ) (p : Progress) (x y : SszDecoderBuilder) → Run b p x → register_item h b x ≡ record { state = y; told = Ok tt }
     → Taken (ltb 4294967295 (length b)) (ltb x.count 64) (step h b p) h b x y
 unfolding register_item
 called h b p x y r e = taken-says (ltb 4294967295 (length b)) (ltb x.count 64) (step h b p) h b x y (rw (run_recalled r) at e)
@@ -67,7 +67,7 @@ calls_run {b} (call h {x} {y} c e) =
 pub run_calls : {b : List ℕ} {p : Progress} {x : SszDecoderBuilder} → Run b p x → Calls b x
 run_calls none = start
 run_calls {b} (more h {p} {q} {x} r small few e) =
-    call h {x = x} {y = put h b x} (run_calls r) (item-registered h b p x r small few ∙ ap (λ (s : Step). taken s h b x) e)
+    call h {x = x} {y = put h b x} (run_calls r) (item-registered h b p x r small few ∙ ap (λ (s : Result Progress Refusal). taken s h b x) e)
 
 -- 23, in terms of the calls alone.
 pub never-called_iff : (b : List ℕ) (x : SszDecoderBuilder) → Long x → (h : Head) → (register_item h b x ≡ old x BadState) ↔ (Calls b x → ⊥)

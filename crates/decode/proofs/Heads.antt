@@ -6,15 +6,16 @@ use native.Mathlib.Omega.{arith}
 use borrow.Author.Tests.{lt-ltb, le-ltb}
 use lib.ListN.{length}
 use Rattle.standard.specs.declared.Head.{Head}
-use Rattle.standard.specs.declared.Told.{Told}
 use Rattle.decode.specs.Builder.{fresh, step, follow, register}
 use Rattle.decode.specs.Held.{new, put, Run, none, more, taken, register_item}
 use Rattle.decode.specs.Heads.{if_fine, register_all_lem, told_by, put_all, state_of}
 use Rattle.decode.specs.declared.builder.Progress.{Progress}
-use Rattle.decode.specs.declared.builder.Step.{Step}
 use Rattle.decode.specs.declared.decoder.SszDecoderBuilder.{SszDecoderBuilder}
 use Rattle.decode.proofs.Register.{follow-next}
 use Rattle.decode.proofs.Reached.{run_recalled}
+use Rattle.std.specs.declared.result.Result.{Result}
+use Rattle.std.specs.declared.result.Result.TheVariants.{Ok, Err}
+use Rattle.standard.specs.declared.Refusal.{Refusal}
 
 -- One registration, in a state that a run reaches.
 pub item-registered : (h : Head) (b : List ℕ) (p : Progress) (x : SszDecoderBuilder) → Run b p x → length b < 2 ^ 32 → x.count < 64
@@ -23,11 +24,11 @@ unfolding register_item
 item-registered h b p x r small few = rw (run_recalled r, le-ltb 4294967295 (length b) (omega arith), lt-ltb _ _ few)
 
 -- All of them: what is told,
-told-next : (s : Step) (h : Head) (hs : List Head) (b : List ℕ) (x : SszDecoderBuilder)
-    → ((y : Progress) → s ≡ Step.Next y → (register_all_lem hs b (put h b x)).told ≡ told_by (register hs b y))
+told-next : (s : Result Progress Refusal) (h : Head) (hs : List Head) (b : List ℕ) (x : SszDecoderBuilder)
+    → ((y : Progress) → s ≡ Ok y → (register_all_lem hs b (put h b x)).told ≡ told_by (register hs b y))
     → (if_fine (taken s h b x).told (register_all_lem hs b (taken s h b x).state) (taken s h b x)).told ≡ told_by (follow s (register hs b))
-told-next (Step.Next y) h hs b x k = k y refl
-told-next (Step.Refused r) h hs b x k = refl
+told-next (Ok y) h hs b x k = k y refl
+told-next (Err r) h hs b x k = refl
 
 module _ (b : List ℕ) (small : length b < 2 ^ 32) where
   pub registers_told : (hs : List Head) (p : Progress) (x : SszDecoderBuilder) → Run b p x → x.count + length hs ≤ 64
@@ -38,11 +39,11 @@ module _ (b : List ℕ) (small : length b < 2 ^ 32) where
       let one : x.count < 64 = omega arith in
       rw (item-registered h b p x r small one)
       (told-next (step h b p) h hs b x
-      (λ (y : Progress) (e : step h b p ≡ Step.Next y). registers_told hs y (put h b x) (more h r small one e) (omega arith)))
+      (λ (y : Progress) (e : step h b p ≡ Ok y). registers_told hs y (put h b x) (more h r small one e) (omega arith)))
 
   -- and the state that they reach, where all are accepted.
   pub registers_state : (hs : List Head) (p q : Progress) (x : SszDecoderBuilder) → Run b p x → x.count + length hs ≤ 64
-      → register hs b p ≡ Step.Next q → (register_all_lem hs b x ≡ record { state = put_all hs b x; told = Told.Fine }) × Run b q (put_all hs b x)
+      → register hs b p ≡ Ok q → (register_all_lem hs b x ≡ record { state = put_all hs b x; told = Ok tt }) × Run b q (put_all hs b x)
   unfolding register_all_lem register put_all
   registers_state [] p q x r few e = let s : p ≡ q = cc in (refl, rw s at r)
   registers_state (h ∷ hs) p q x r few e =
@@ -57,8 +58,8 @@ unfolding put_all
 put_last [] h b x = refl
 put_last (k ∷ hs) h b x = put_last hs h b (put k b x)
 
-register-last : (hs : List Head) (h : Head) (b : List ℕ) (p q r : Progress) → register hs b p ≡ Step.Next q → step h b q ≡ Step.Next r
-    → register (hs ++ (h ∷ [])) b p ≡ Step.Next r
+register-last : (hs : List Head) (h : Head) (b : List ℕ) (p q r : Progress) → register hs b p ≡ Ok q → step h b q ≡ Ok r
+    → register (hs ++ (h ∷ [])) b p ≡ Ok r
 unfolding register
 register-last [] h b p q r e f = let s : p ≡ q = cc in rw (s, f)
 register-last (k ∷ hs) h b p q r e f =
@@ -69,7 +70,7 @@ register-last (k ∷ hs) h b p q r e f =
 pub record Fresh (b : List ℕ) (p : Progress) (x : SszDecoderBuilder) : Type 0 where
   pub heads : List Head
   pub state_is : x ≡ state_of heads b
-  pub registered : register heads b fresh ≡ Step.Next p
+  pub registered : register heads b fresh ≡ Ok p
 
 pub run_fresh : {b : List ℕ} {p : Progress} {x : SszDecoderBuilder} → Run b p x → Fresh b p x
 unfolding put_all register

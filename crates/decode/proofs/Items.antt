@@ -6,11 +6,14 @@ use borrow.Author.Tests.{ltb-true, ltb-false}
 use lib.ListN.{get_or}
 use lib.Dec.{ltb}
 use Rattle.standard.specs.Choice.{pick}
-use Rattle.standard.specs.declared.Told.{Told}
 use Rattle.standard.specs.declared.Refusal.TheVariants.{BadState}
 use Rattle.decode.specs.Reader.{item_told_lem}
 use Rattle.decode.specs.declared.decoder.SszDecoder.{SszDecoder}
 use Rattle.decode.proofs.Register.{refused_fine, past_fine}
+use Rattle.std.specs.declared.result.Result.{Result}
+use Rattle.std.specs.declared.result.Result.TheVariants.{Ok, Err}
+use Rattle.std.specs.Prelude.{⊤}
+use Rattle.standard.specs.declared.Refusal.{Refusal}
 
 -- The range of the item i is one of len bytes.
 pub record Within (d : SszDecoder) (i len : ℕ) : Type 0 where
@@ -19,11 +22,11 @@ pub record Within (d : SszDecoder) (i len : ℕ) : Type 0 where
   pub upright : get_or d.starts i 0 ≤ get_or d.ends i 0
   pub inside : get_or d.ends i 0 ≤ len
 
-pick_fine : (c : Bool) (u : Told) → pick c u (Told.Refused BadState) ≡ Told.Fine → (c ≡ true) × (u ≡ Told.Fine)
+pick_fine : (c : Bool) (u : Result ⊤ Refusal) → pick c u (Err BadState) ≡ Ok tt → (c ≡ true) × (u ≡ Ok tt)
 pick_fine true u e = (refl, e)
 pick_fine false u e = refused_fine BadState e
 
-pub item_fine : (d : SszDecoder) (i len : ℕ) → item_told_lem d i len ≡ Told.Fine → Within d i len
+pub item_fine : (d : SszDecoder) (i len : ℕ) → item_told_lem d i len ≡ Ok tt → Within d i len
 unfolding item_told_lem
 item_fine d i len e =
     let p = pick_fine (ltb i d.count) _ e in

@@ -16,12 +16,14 @@ use Rattle.standard.specs.Types.{width}
 use Rattle.standard.specs.declared.Head.{Head}
 use Rattle.standard.specs.declared.Head.TheVariants.{Fixed, Variable}
 use Rattle.decode.specs.declared.builder.Progress.{Progress}
-use Rattle.decode.specs.declared.builder.Step.{Step}
 use Rattle.decode.specs.declared.decoder.SszDecoderBuilder.{SszDecoderBuilder}
 use Rattle.decode.specs.Builder.{fresh, step, follow}
 use Rattle.decode.specs.Held.{new, open_end, start_of, end_of, put, Run, none, more, zeros, recall, walk, recalled}
 use Rattle.decode.proofs.Register.{follow-next, register-step, step-fixed, step_variable}
 use Rattle.decode.proofs.Walk.{Tested, recall-says, recalled-says, recalled-tested, step_pos}
+use Rattle.std.specs.declared.result.Result.{Result}
+use Rattle.std.specs.declared.result.Result.TheVariants.{Ok, Err}
+use Rattle.standard.specs.declared.Refusal.{Refusal}
 
 -- The record of every builder has 64 entries of each kind.
 pub record Long (x : SszDecoderBuilder) : Type 0 where
@@ -29,8 +31,8 @@ pub record Long (x : SszDecoderBuilder) : Type 0 where
   pub ends-long : length x.ends ≡ 64
 
 -- An item that was registered is recalled.
-recall-put : (h : Head) (b : List ℕ) (p q : Progress) → length b < 2 ^ 32 → step h b p ≡ Step.Next q
-    → recall (start_of h b p.pos) (end_of h (p.pos + width h)) b p ≡ Step.Next q
+recall-put : (h : Head) (b : List ℕ) (p q : Progress) → length b < 2 ^ 32 → step h b p ≡ Ok q
+    → recall (start_of h b p.pos) (end_of h (p.pos + width h)) b p ≡ Ok q
 unfolding recall width
 recall-put (Fixed n) b p q small e =
     let s = step-fixed b p q n e in
@@ -42,18 +44,18 @@ recall-put Variable b p q small e =
     let s = step_variable b p q e in
     rw (eq-eqb _ _ refl) (register-step Variable b p (omega (arith, s.0)) small ∙ e)
 
-recall-at : (h : Head) (b : List ℕ) (p q : Progress) (m : ℕ) → p.pos ≡ m → length b < 2 ^ 32 → step h b p ≡ Step.Next q
-    → recall (start_of h b m) (end_of h (m + width h)) b p ≡ Step.Next q
+recall-at : (h : Head) (b : List ℕ) (p q : Progress) (m : ℕ) → p.pos ≡ m → length b < 2 ^ 32 → step h b p ≡ Ok q
+    → recall (start_of h b m) (end_of h (m + width h)) b p ≡ Ok q
 recall-at h b p q m a small e = rw (← a) (recall-put h b p q small e)
 
 -- A walk with one item more.
-follow-end : (s : Step) → follow s (λ (y : Progress). Step.Next y) ≡ s
-follow-end (Step.Next y) = refl
-follow-end (Step.Refused r) = refl
+follow-end : (s : Result Progress Refusal) → follow s (λ (y : Progress). Ok y) ≡ s
+follow-end (Ok y) = refl
+follow-end (Err r) = refl
 
-follow_again : (s : Step) (f g k : Progress → Step) → ((y : Progress) → f y ≡ follow (g y) k) → follow s f ≡ follow (follow s g) k
-follow_again (Step.Next y) f g k h = h y
-follow_again (Step.Refused r) f g k h = refl
+follow_again : (s : Result Progress Refusal) (f g k : Progress → (Result Progress Refusal)) → ((y : Progress) → f y ≡ follow (g y) k) → follow s f ≡ follow (follow s g) k
+follow_again (Ok y) f g k h = h y
+follow_again (Err r) f g k h = refl
 
 walk_put : (ss es : List ℕ) (n s e : ℕ) (b : List ℕ) (x : Progress) → n < length ss → n < length es
     → walk (set ss n s) (set es n e) (suc n) b x ≡ follow (walk ss es n b x) (recall s e b)
@@ -106,14 +108,14 @@ run_long (more h r small few e) =
     record { starts-long = simp length-set g.starts-long; ends-long = simp length-set g.ends-long }
 
 module _ (b : List ℕ) (p q : Progress) (x : SszDecoderBuilder) (h : Head) (l : Long x) (t : Tested x b p) (small : length b < 2 ^ 32)
-    (few : x.count < 64) (e : step h b p ≡ Step.Next q) where
+    (few : x.count < 64) (e : step h b p ≡ Ok q) where
   in_starts : x.count < length x.starts
   in_starts = let k = l.starts-long in omega arith
 
   in_ends : x.count < length x.ends
   in_ends = let k = l.ends-long in omega arith
 
-  walked_put : walk (put h b x).starts (put h b x).ends (suc x.count) b fresh ≡ Step.Next q
+  walked_put : walk (put h b x).starts (put h b x).ends (suc x.count) b fresh ≡ Ok q
   walked_put =
       let w = walk_put x.starts x.ends x.count (start_of h b x.pos) (end_of h (x.pos + width h)) b fresh in_starts in_ends in
       w ∙ rw t.walked (recall-at h b p q x.pos t.arrives small e)
@@ -159,7 +161,7 @@ module _ (b : List ℕ) (pos : ℕ) (ss es : List ℕ) (p : Progress) (ls : leng
     at-end = let k = t.few in omega arith
 
     -- the walk without the last item, and that item
-    parted : follow (walk (set ss n 0) (set es n 0) n b fresh) (recall (get_or ss n 0) (get_or es n 0) b) ≡ Step.Next p
+    parted : follow (walk (set ss n 0) (set es n 0) n b fresh) (recall (get_or ss n 0) (get_or es n 0) b) ≡ Ok p
     parted =
         let i : n < length (set ss n 0) = rw length-set at-start in
         let j : n < length (set es n 0) = rw length-set at-end in
@@ -167,7 +169,7 @@ module _ (b : List ℕ) (pos : ℕ) (ss es : List ℕ) (p : Progress) (ls : leng
         sym w ∙ rw (put_back ss n at-start, put_back es n at-end) t.walked
 
     -- the state before it
-    tested-before : (z : Progress) → walk (set ss n 0) (set es n 0) n b fresh ≡ Step.Next z → Tested (state n z.pos (set ss n 0) (set es n 0)) b z
+    tested-before : (z : Progress) → walk (set ss n 0) (set es n 0) n b fresh ≡ Ok z → Tested (state n z.pos (set ss n 0) (set es n 0)) b z
     tested-before z w =
         let k = t.few in
         record {
@@ -178,7 +180,7 @@ module _ (b : List ℕ) (pos : ℕ) (ss es : List ℕ) (p : Progress) (ls : leng
           arrives = refl;
         }
 
-    run_more : (z : Progress) → Run b z (state n z.pos (set ss n 0) (set es n 0)) → recall (get_or ss n 0) (get_or es n 0) b z ≡ Step.Next p
+    run_more : (z : Progress) → Run b z (state n z.pos (set ss n 0) (set es n 0)) → recall (get_or ss n 0) (get_or es n 0) b z ≡ Ok p
         → Run b p (state (suc n) pos ss es)
     run_more z r e =
         let g = recall-says b z p (get_or ss n 0) (get_or es n 0) e in
@@ -198,11 +200,11 @@ run_of b (suc n) pos ss es p ls le t =
     run_more b pos ss es p ls le n t q.0 r q.2
 
 -- The test of a state passes, with this progress, just if a run reaches it.
-pub reached_iff : (b : List ℕ) (p : Progress) (x : SszDecoderBuilder) → Long x → (recalled x b ≡ Step.Next p) ↔ Run b p x
+pub reached_iff : (b : List ℕ) (p : Progress) (x : SszDecoderBuilder) → Long x → (recalled x b ≡ Ok p) ↔ Run b p x
 reached_iff b p x l = (
   λ e. run_of b x.count x.pos x.starts x.ends p l.starts-long l.ends-long (recalled-says x b p e),
   λ r. recalled-tested x b p (run_tested r),
 )
 
-pub run_recalled : {b : List ℕ} {p : Progress} {x : SszDecoderBuilder} → Run b p x → recalled x b ≡ Step.Next p
+pub run_recalled : {b : List ℕ} {p : Progress} {x : SszDecoderBuilder} → Run b p x → recalled x b ≡ Ok p
 run_recalled {b} {p} {x} r = recalled-tested x b p (run_tested r)

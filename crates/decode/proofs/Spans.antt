@@ -12,7 +12,6 @@ use Rattle.standard.specs.Types.{width}
 use Rattle.standard.specs.Parts.{span_of, next, split, InRange}
 use Rattle.standard.specs.declared.Head.{Head}
 use Rattle.standard.specs.declared.Head.TheVariants.{Fixed, Variable}
-use Rattle.standard.specs.declared.Told.{Told}
 use Rattle.standard.specs.declared.Refusal.TheVariants.{BadState}
 use Rattle.standard.proofs.Join.{span_ranges}
 use Rattle.decode.specs.Builder.{fresh, register, build, lay_out_lem}
@@ -20,12 +19,12 @@ use Rattle.decode.specs.Held.{new, open_end, put, Run, none}
 use Rattle.decode.specs.Reader.{first_start, close_ends_lem, ranges, built_as, build_items, item_told_lem, item_of}
 use Rattle.decode.specs.Heads.{register_all_lem, put_all, state_of, froms, tos, opens, pieces}
 use Rattle.decode.specs.declared.builder.Progress.{Progress}
-use Rattle.decode.specs.declared.builder.Step.{Step}
 use Rattle.decode.specs.declared.decoder.SszDecoderBuilder.{SszDecoderBuilder}
 use Rattle.decode.specs.declared.decoder.SszDecoder.{SszDecoder}
 use Rattle.decode.proofs.Register.{ended_fine, layout-ranges}
 use Rattle.decode.proofs.Reached.{run_recalled}
 use Rattle.decode.proofs.Heads.{registers_state}
+use Rattle.std.specs.declared.result.Result.TheVariants.{Ok, Err}
 
 -- The record after a row of heads.
 put_count : (hs : List Head) (b : List ℕ) (x : SszDecoderBuilder) → (put_all hs b x).count ≡ x.count + length hs
@@ -113,7 +112,7 @@ module _ (hs : List Head) (b : List ℕ) (small : length b < 2 ^ 32) (few : leng
       }
 
   -- Building the state of these heads tells what laying them out over the bytes tells, and gives their spans.
-  module _ (p : Progress) (e : register hs b fresh ≡ Step.Next p) where
+  module _ (p : Progress) (e : register hs b fresh ≡ Ok p) where
     reaches : Run b p (state_of hs b)
     reaches = (registers_state b small hs fresh p new none (omega arith) e).1
 
@@ -151,7 +150,7 @@ module _ (hs : List Head) (b : List ℕ) (d : SszDecoder) (g : Spans hs b d) (r 
   item-at : ItemAt b (get_or d.starts i 0) (get_or d.ends i 0) (get_or (pieces (split hs b 0)) i [])
   item-at = rw (start-at, end-at) (span_item hs b 0 i r h)
 
-  item-there : item_told_lem d i (length b) ≡ Told.Fine
+  item-there : item_told_lem d i (length b) ≡ Ok tt
   unfolding item_told_lem
   item-there =
       let c = g.count_is in
@@ -159,24 +158,24 @@ module _ (hs : List Head) (b : List ℕ) (d : SszDecoder) (g : Spans hs b d) (r 
       rw (lt-ltb i d.count (omega arith), lt-ltb i 64 (omega arith), le-ltb _ _ t.upright, le-ltb _ _ t.inside)
 
   -- Each item is there, and it is the part that the split has.
-  pub item_is_part : (item_told_lem d i (length b) ≡ Told.Fine) × (item_of d i b ≡ get_or (pieces (split hs b 0)) i [])
+  pub item_is_part : (item_told_lem d i (length b) ≡ Ok tt) × (item_of d i b ≡ get_or (pieces (split hs b 0)) i [])
   item_is_part = (item-there, rw item-there item-at.bytes)
 
 -- The whole, where the heads are accepted: registered one by one, built, and read item by item, the bytes come apart as the split has
 -- them, and behind the last item there is none.
 pub record Reads (hs : List Head) (b : List ℕ) : Type 0 where
-  pub registered : register_all_lem hs b new ≡ record { state = state_of hs b; told = Told.Fine }
-  pub built : build_items b (state_of hs b) ≡ record { told = Told.Fine; decoder = ranges (state_of hs b) (length b) }
+  pub registered : register_all_lem hs b new ≡ record { state = state_of hs b; told = Ok tt }
+  pub built : build_items b (state_of hs b) ≡ record { told = Ok tt; decoder = ranges (state_of hs b) (length b) }
   pub items : (i : ℕ) → i < length hs
-      → (item_told_lem (ranges (state_of hs b) (length b)) i (length b) ≡ Told.Fine) ×
+      → (item_told_lem (ranges (state_of hs b) (length b)) i (length b) ≡ Ok tt) ×
       (item_of (ranges (state_of hs b) (length b)) i b ≡ get_or (pieces (split hs b 0)) i [])
-  pub past-last : (i : ℕ) → length hs ≤ i → item_told_lem (ranges (state_of hs b) (length b)) i (length b) ≡ Told.Refused BadState
+  pub past-last : (i : ℕ) → length hs ≤ i → item_told_lem (ranges (state_of hs b) (length b)) i (length b) ≡ Err BadState
 
-no_item : (d : SszDecoder) (i len : ℕ) → d.count ≤ i → item_told_lem d i len ≡ Told.Refused BadState
+no_item : (d : SszDecoder) (i len : ℕ) → d.count ≤ i → item_told_lem d i len ≡ Err BadState
 unfolding item_told_lem
 no_item d i len h = rw (le-ltb _ _ h)
 
-pub reads : (hs : List Head) (b : List ℕ) → length b < 2 ^ 32 → length hs ≤ 64 → lay_out_lem hs b ≡ Told.Fine → Reads hs b
+pub reads : (hs : List Head) (b : List ℕ) → length b < 2 ^ 32 → length hs ≤ 64 → lay_out_lem hs b ≡ Ok tt → Reads hs b
 unfolding lay_out_lem
 reads hs b small few e =
     let q = ended_fine (register hs b fresh) (build (length b)) e in

@@ -3,33 +3,35 @@ use Rattle.std.specs.Prelude.{◌≡◌, List, [], ◌∷◌, ℕ, ◌+◌}
 use Rattle.standard.specs.Types.{width}
 use Rattle.standard.specs.Parts.{Part, piece, span_of}
 use Rattle.standard.specs.declared.Head.{Head}
-use Rattle.standard.specs.declared.Told.{Told}
 use Rattle.decode.specs.Held.{new, end_of, put, register_item}
-use Rattle.decode.specs.declared.builder.Step.{Step}
 use Rattle.decode.specs.declared.decoder.SszDecoderBuilder.{SszDecoderBuilder}
 use Rattle.decode.specs.declared.decoder.Registered.{Registered}
+use Rattle.std.specs.declared.result.Result.{Result}
+use Rattle.std.specs.declared.result.Result.TheVariants.{Ok, Err}
+use Rattle.std.specs.Prelude.{⊤}
+use Rattle.standard.specs.declared.Refusal.{Refusal}
 
 -- The states that the builder's own calls over b give, from a new one on, while each is accepted
 pub data Calls (b : List ℕ) : SszDecoderBuilder → Type 0 where
   start : Calls b new
-  call : (h : Head) {x y : SszDecoderBuilder} → Calls b x → register_item h b x ≡ record { state = y; told = Told.Fine } → Calls b y
+  call : (h : Head) {x y : SszDecoderBuilder} → Calls b x → register_item h b x ≡ record { state = y; told = Ok tt } → Calls b y
 
 -- Goes on with the next state, unless there is a refusal.
-abbrev pub if_fine : Told → Registered → Registered → Registered
-if_fine Told.Fine next here = next
-if_fine (Told.Refused r) next here = here
+abbrev pub if_fine : Result ⊤ Refusal → Registered → Registered → Registered
+if_fine (Ok tt) next here = next
+if_fine (Err r) next here = here
 
 -- The heads registered one by one, by the builder's own calls
 unfoldable pub register_all_lem : List Head → List ℕ → SszDecoderBuilder → Registered
-register_all_lem [] b x = record { state = x; told = Told.Fine }
+register_all_lem [] b x = record { state = x; told = Ok tt }
 register_all_lem (h ∷ hs) b x =
     let r = register_item h b x in
     if_fine r.told (register_all_lem hs b r.state) r
 
 -- What the fold over the heads tells
-abbrev pub told_by : Step → Told
-told_by (Step.Next y) = Told.Fine
-told_by (Step.Refused r) = Told.Refused r
+abbrev pub told_by : Result Progress Refusal → Result ⊤ Refusal
+told_by (Ok y) = Ok tt
+told_by (Err r) = Err r
 
 -- The state after these heads
 unfoldable pub put_all : List Head → List ℕ → SszDecoderBuilder → SszDecoderBuilder

@@ -5,14 +5,14 @@ use Rattle.standard.specs.Bytes.{four}
 use Rattle.standard.specs.Types.{width}
 use Rattle.standard.specs.declared.Head.{Head}
 use Rattle.standard.specs.declared.Head.TheVariants.{Fixed, Variable}
-use Rattle.standard.specs.declared.Told.{Told}
 use Rattle.standard.specs.declared.Refusal.{Refusal}
 use Rattle.standard.specs.declared.Refusal.TheVariants.{TooLarge, BadState, BuilderFull}
 use Rattle.decode.specs.declared.builder.Progress.{Progress}
-use Rattle.decode.specs.declared.builder.Step.{Step}
 use Rattle.decode.specs.declared.decoder.SszDecoderBuilder.{SszDecoderBuilder}
 use Rattle.decode.specs.declared.decoder.Registered.{Registered}
 use Rattle.decode.specs.Builder.{fresh, step, register_head_lem, follow}
+use Rattle.std.specs.declared.result.Result.{Result}
+use Rattle.std.specs.declared.result.Result.TheVariants.{Ok, Err}
 
 -- What stands for the end of a variable item until the container is built
 abbrev pub open_end : ℕ
@@ -45,20 +45,20 @@ put h b x =
 -- where the bytes are fewer than 2^32, fewer than 64 items are registered, and the rules of reading accept it.
 pub data Run (b : List ℕ) : Progress → SszDecoderBuilder → Type 0 where
   none : Run b fresh new
-  more : (h : Head) {p q : Progress} {x : SszDecoderBuilder} → Run b p x → length b < 2 ^ 32 → x.count < 64 → step h b p ≡ Step.Next q → Run b q (put h b x)
+  more : (h : Head) {p q : Progress} {x : SszDecoderBuilder} → Run b p x → length b < 2 ^ 32 → x.count < 64 → step h b p ≡ Ok q → Run b q (put h b x)
 
 -- The test of a state: each item of the record is registered anew, and must be as the record says.
-abbrev pub bad : Step
-bad = Step.Refused BadState
+abbrev pub bad : Result Progress Refusal
+bad = Err BadState
 
-unfoldable pub recall : ℕ → ℕ → List ℕ → Progress → Step
+unfoldable pub recall : ℕ → ℕ → List ℕ → Progress → Result Progress Refusal
 recall s e b x =
     pick (eqb e open_end)
     (pick (eqb s (four b x.pos)) (register_head_lem Variable b x) bad)
     (pick (eqb s x.pos) (pick (ltb e s) bad (register_head_lem (Fixed (e - s)) b x)) bad)
 
-unfoldable pub walk : List ℕ → List ℕ → ℕ → List ℕ → Progress → Step
-walk ss es zero b x = Step.Next x
+unfoldable pub walk : List ℕ → List ℕ → ℕ → List ℕ → Progress → Result Progress Refusal
+walk ss es zero b x = Ok x
 walk [] es (suc n) b x = bad
 walk (s ∷ ss) [] (suc n) b x = bad
 walk (s ∷ ss) (e ∷ es) (suc n) b x = follow (recall s e b x) (walk ss es n b)
@@ -67,11 +67,11 @@ unfoldable pub zeros : List ℕ → Bool
 zeros [] = true
 zeros (x ∷ xs) = and_also (eqb x 0) (zeros xs)
 
-abbrev pub arrived : Step → ℕ → Step
-arrived (Step.Next y) p = pick (eqb y.pos p) (Step.Next y) bad
-arrived (Step.Refused r) p = bad
+abbrev pub arrived : Result Progress Refusal → ℕ → Result Progress Refusal
+arrived (Ok y) p = pick (eqb y.pos p) (Ok y) bad
+arrived (Err r) p = bad
 
-unfoldable pub recalled : SszDecoderBuilder → List ℕ → Step
+unfoldable pub recalled : SszDecoderBuilder → List ℕ → Result Progress Refusal
 recalled x b =
     pick (leb x.count 64)
     (pick (zeros (drop x.count x.starts))
@@ -88,20 +88,20 @@ pub record Come (p : Progress) (x : SszDecoderBuilder) (b : List ℕ) : Type 0 w
 
 -- One registration: 23 for a state that no run reaches, 21, 26, then the rules of reading. "refusals return the old state"
 abbrev pub old : SszDecoderBuilder → Refusal → Registered
-old x r = record { state = x; told = Told.Refused r }
+old x r = record { state = x; told = Err r }
 
-abbrev pub taken : Step → Head → List ℕ → SszDecoderBuilder → Registered
-taken (Step.Next y) h b x = record { state = put h b x; told = Told.Fine }
-taken (Step.Refused r) h b x = old x r
+abbrev pub taken : Result Progress Refusal → Head → List ℕ → SszDecoderBuilder → Registered
+taken (Ok y) h b x = record { state = put h b x; told = Ok tt }
+taken (Err r) h b x = old x r
 
 abbrev pub allowed : Progress → Head → List ℕ → SszDecoderBuilder → Registered
 allowed p h b x =
     pick (ltb 4294967295 (length b)) (old x TooLarge)
     (pick (ltb x.count 64) (taken (step h b p) h b x) (old x (BuilderFull 64)))
 
-abbrev pub known : Step → Head → List ℕ → SszDecoderBuilder → Registered
-known (Step.Next p) h b x = allowed p h b x
-known (Step.Refused r) h b x = old x BadState
+abbrev pub known : Result Progress Refusal → Head → List ℕ → SszDecoderBuilder → Registered
+known (Ok p) h b x = allowed p h b x
+known (Err r) h b x = old x BadState
 
 unfoldable pub register_item : Head → List ℕ → SszDecoderBuilder → Registered
 register_item h b x = known (recalled x b) h b x

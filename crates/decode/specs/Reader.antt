@@ -1,16 +1,17 @@
 -- The ranges that a builder gives, and the items that a reader hands out: document 01, module 4. Assumes nothing: these are definitions.
 use Rattle.std.specs.Prelude.{List, [], ◌∷◌, ℕ, zero, suc, ◌-◌, length, replicate, get_or, take, drop, eqb, ltb}
 use Rattle.standard.specs.Choice.{pick}
-use Rattle.standard.specs.declared.Told.{Told}
 use Rattle.standard.specs.declared.Refusal.{Refusal}
 use Rattle.standard.specs.declared.Refusal.TheVariants.{TooLarge, BadState}
 use Rattle.decode.specs.declared.builder.Progress.{Progress}
-use Rattle.decode.specs.declared.builder.Step.{Step}
 use Rattle.decode.specs.declared.decoder.SszDecoderBuilder.{SszDecoderBuilder}
 use Rattle.decode.specs.declared.decoder.SszDecoder.{SszDecoder}
 use Rattle.decode.specs.declared.decoder.Built.{Built}
 use Rattle.decode.specs.Builder.{build}
 use Rattle.decode.specs.Held.{open_end, recalled}
+use Rattle.std.specs.declared.result.Result.{Result}
+use Rattle.std.specs.declared.result.Result.TheVariants.{Ok, Err}
+use Rattle.std.specs.Prelude.{⊤}
 
 -- "Each variable item ends where the next starts, the last at the end": an open end is closed at the next variable item's start
 abbrev pub closed_end_lem : ℕ → ℕ → ℕ
@@ -34,41 +35,41 @@ close_ends_lem (s ∷ ss) (e ∷ es) (suc n) len = closed_end_lem e (first_start
 
 -- A refusal to build gives no ranges.
 abbrev pub not_built_lem : Refusal → Built
-not_built_lem r = record { told = Told.Refused r; decoder = record { count = 0; starts = replicate 64 0; ends = replicate 64 0 } }
+not_built_lem r = record { told = Err r; decoder = record { count = 0; starts = replicate 64 0; ends = replicate 64 0 } }
 
 abbrev pub ranges : SszDecoderBuilder → ℕ → SszDecoder
 ranges x len = record { count = x.count; starts = x.starts; ends = close_ends_lem x.starts x.ends x.count len }
 
-abbrev pub built_as : Told → SszDecoderBuilder → ℕ → Built
-built_as Told.Fine x len = record { told = Told.Fine; decoder = ranges x len }
-built_as (Told.Refused r) x len = not_built_lem r
+abbrev pub built_as : Result ⊤ Refusal → SszDecoderBuilder → ℕ → Built
+built_as (Ok tt) x len = record { told = Ok tt; decoder = ranges x len }
+built_as (Err r) x len = not_built_lem r
 
 -- Building: 23 for a state that no run reaches, 21, then the rules of building
 abbrev pub closable : Progress → List ℕ → SszDecoderBuilder → Built
 closable p b x = pick (ltb 4294967295 (length b)) (not_built_lem TooLarge) (built_as (build (length b) p) x (length b))
 
-abbrev pub build_known : Step → List ℕ → SszDecoderBuilder → Built
-build_known (Step.Next p) b x = closable p b x
-build_known (Step.Refused r) b x = not_built_lem BadState
+abbrev pub build_known : Result Progress Refusal → List ℕ → SszDecoderBuilder → Built
+build_known (Ok p) b x = closable p b x
+build_known (Err r) b x = not_built_lem BadState
 
 unfoldable pub build_items : List ℕ → SszDecoderBuilder → Built
 build_items b x = build_known (recalled x b) b x
 
 -- "past the last it answers 23", and so for "a reader range outside its bytes"
-unfoldable pub item_told_lem : SszDecoder → ℕ → ℕ → Told
+unfoldable pub item_told_lem : SszDecoder → ℕ → ℕ → Result ⊤ Refusal
 item_told_lem d i len =
     pick (ltb i d.count)
     (pick (ltb i 64)
-    (pick (ltb (get_or d.ends i 0) (get_or d.starts i 0)) (Told.Refused BadState)
-    (pick (ltb len (get_or d.ends i 0)) (Told.Refused BadState)
-    Told.Fine))
-    (Told.Refused BadState))
-    (Told.Refused BadState)
+    (pick (ltb (get_or d.ends i 0) (get_or d.starts i 0)) (Err BadState)
+    (pick (ltb len (get_or d.ends i 0)) (Err BadState)
+    (Ok tt)))
+    (Err BadState))
+    (Err BadState)
 
 -- The item is that part of the bytes; beside a refusal it is empty.
-abbrev pub item_part : Told → SszDecoder → ℕ → List ℕ → List ℕ
-item_part Told.Fine d i b = take (get_or d.ends i 0 - get_or d.starts i 0) (drop (get_or d.starts i 0) b)
-item_part (Told.Refused r) d i b = []
+abbrev pub item_part : Result ⊤ Refusal → SszDecoder → ℕ → List ℕ → List ℕ
+item_part (Ok tt) d i b = take (get_or d.ends i 0 - get_or d.starts i 0) (drop (get_or d.starts i 0) b)
+item_part (Err r) d i b = []
 
 abbrev pub item_of : SszDecoder → ℕ → List ℕ → List ℕ
 item_of d i b = item_part (item_told_lem d i (length b)) d i b

@@ -2,23 +2,16 @@
 ghost use Rattle.std.specs.Prelude.{◌≡◌, ◌+◌, ◌≤◌, ◌<◌, ◌^◌, length};
 ghost use Rattle.decode.specs.Builder.{fresh, or_else_just, step, register_head_lem, build};
 
-use crate::{OffsetResult, sanitize_offset};
+use crate::sanitize_offset;
 use standard::words::four_at;
-use standard::{Head, Maybe, Refusal, Told};
+use standard::{Head, Refusal};
 
 // How far registration has come.
 #[derive(Clone, Copy)]
 pub struct Progress {
     pub pos: usize,
-    pub first: Maybe,
-    pub previous: Maybe,
-}
-
-// What a registration gives: how far it has come, or a refusal.
-#[derive(Clone, Copy)]
-pub enum Step {
-    Next(Progress),
-    Refused(Refusal),
+    pub first: Option<usize>,
+    pub previous: Option<usize>,
 }
 
 impl Progress {
@@ -28,37 +21,37 @@ impl Progress {
     {
         Progress {
             pos: 0,
-            first: Maybe::Nothing,
-            previous: Maybe::Nothing,
+            first: None,
+            previous: None,
         }
     }
 }
 
-fn or_just(known: Maybe, n: usize) -> Maybe
+fn or_just(known: Option<usize>, n: usize) -> Option<usize>
     ensures { result ≡ or_else_just known n }
 {
     match known {
-        Maybe::Just(k) => Maybe::Just(k),
-        Maybe::Nothing => Maybe::Just(n),
+        Some(k) => Some(k),
+        None => Some(n),
     }
 }
 
 // Registers an item that takes n bytes.
 #[tactic(auto, unfolding(crate::specs::Builder::step))]
-fn register_fixed(x: Progress, n: usize, bytes: &[u8]) -> Step
+fn register_fixed(x: Progress, n: usize, bytes: &[u8]) -> Result<Progress, Refusal>
     requires { (x.pos ≤ length bytes.now) × (length bytes.now < 2 ^ 32) }
     ensures { result ≡ step (Head.Fixed n) bytes.now x }
 {
     if n > 4294967295 {
-        return Step::Refused(Refusal::OverLimit(n, 4294967295));
+        return Err(Refusal::OverLimit(n, 4294967295));
     }
     let end = x.pos + n;
     if end > bytes.len() {
-        return Step::Refused(Refusal::InvalidByteLength(bytes.len(), end));
+        return Err(Refusal::InvalidByteLength(bytes.len(), end));
     }
     let first = x.first;
     let previous = x.previous;
-    Step::Next(Progress {
+    Ok(Progress {
         pos: end,
         first,
         previous,
@@ -67,7 +60,7 @@ fn register_fixed(x: Progress, n: usize, bytes: &[u8]) -> Step
 
 // Registers an item that an offset stands for. The fixed portion is not known yet.
 #[tactic(auto, unfolding(crate::specs::Builder::step))]
-fn register_variable(x: Progress, bytes: &[u8]) -> Step
+fn register_variable(x: Progress, bytes: &[u8]) -> Result<Progress, Refusal>
     requires { (x.pos ≤ length bytes.now) × (length bytes.now < 2 ^ 32) }
     ensures { result ≡ step Head.Variable bytes.now x }
 {
@@ -75,34 +68,34 @@ fn register_variable(x: Progress, bytes: &[u8]) -> Step
     let len = bytes.len();
     let left = len - pos;
     if left < 4 {
-        return Step::Refused(Refusal::InvalidLengthPrefix(left, 4));
+        return Err(Refusal::InvalidLengthPrefix(left, 4));
     }
     let previous = x.previous;
-    let s = sanitize_offset(four_at(bytes, pos), previous, len, Maybe::Nothing);
+    let s = sanitize_offset(four_at(bytes, pos), previous, len, None);
     match s {
-        OffsetResult::Offset(o) => {
+        Ok(o) => {
             let known = x.first;
             let first = or_just(known, o);
             let next = pos + 4;
-            Step::Next(Progress {
+            Ok(Progress {
                 pos: next,
                 first,
-                previous: Maybe::Just(o),
+                previous: Some(o),
             })
         }
-        OffsetResult::Refused(r) => Step::Refused(r),
+        Err(r) => Err(r),
     }
 }
 
 // Registers an item by its head.
-pub fn register_head(x: Progress, head: Head, bytes: &[u8]) -> Step
+pub fn register_head(x: Progress, head: Head, bytes: &[u8]) -> Result<Progress, Refusal>
     ensures { result ≡ register_head_lem head bytes.now x }
 {
     if x.pos > bytes.len() {
-        return Step::Refused(Refusal::BadState);
+        return Err(Refusal::BadState);
     }
     if bytes.len() > 4294967295 {
-        return Step::Refused(Refusal::TooLarge);
+        return Err(Refusal::TooLarge);
     }
     match head {
         Head::Fixed(n) => register_fixed(x, n, bytes),
@@ -112,25 +105,25 @@ pub fn register_head(x: Progress, head: Head, bytes: &[u8]) -> Step
 
 // Ends the registration over len bytes.
 #[tactic(auto, unfolding(crate::specs::Builder::build))]
-pub fn finalize(x: Progress, len: usize) -> Told
+pub fn finalize(x: Progress, len: usize) -> Result<(), Refusal>
     ensures { result ≡ build len x }
 {
     let first = x.first;
     match first {
-        Maybe::Just(o) => {
+        Some(o) => {
             if o < x.pos {
-                Told::Refused(Refusal::OffsetIntoFixedPortion(o))
+                Err(Refusal::OffsetIntoFixedPortion(o))
             } else if o > x.pos {
-                Told::Refused(Refusal::OffsetSkipsVariableBytes(o))
+                Err(Refusal::OffsetSkipsVariableBytes(o))
             } else {
-                Told::Fine
+                Ok(())
             }
         }
-        Maybe::Nothing => {
+        None => {
             if x.pos == len {
-                Told::Fine
+                Ok(())
             } else {
-                Told::Refused(Refusal::InvalidByteLength(len, x.pos))
+                Err(Refusal::InvalidByteLength(len, x.pos))
             }
         }
     }

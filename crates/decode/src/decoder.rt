@@ -6,9 +6,9 @@ ghost use Rattle.decode.specs.Builder.{fresh};
 ghost use Rattle.decode.specs.Held.{new, start_of, end_of, put, zeros, recall, walk, arrived, recalled, Come, old, allowed, register_item, head_for};
 ghost use Rattle.decode.specs.Reader.{not_built_lem, closed_end_lem, start_from_lem, close_ends_lem, closable, build_items, item_told_lem, item_of};
 
-use crate::builder::{Progress, Step, finalize, register_head};
+use crate::builder::{Progress, finalize, register_head};
 use standard::words::four_at;
-use standard::{Head, Refusal, Told};
+use standard::{Head, Refusal};
 
 pub const MAX_ITEMS: usize = 64;
 // Stands for the end of a variable item until the container is built. No fixed item can end there.
@@ -27,7 +27,7 @@ pub struct SszDecoderBuilder {
 #[derive(Clone, Copy)]
 pub struct Registered {
     pub state: SszDecoderBuilder,
-    pub told: Told,
+    pub told: Result<(), Refusal>,
 }
 
 // Where each item lies in the bytes.
@@ -41,7 +41,7 @@ pub struct SszDecoder {
 // The ranges of all items; none beside a refusal.
 #[derive(Clone, Copy)]
 pub struct Built {
-    pub told: Told,
+    pub told: Result<(), Refusal>,
     pub decoder: SszDecoder,
 }
 
@@ -61,7 +61,7 @@ fn is_zero_from(a: [usize; 64], from: usize) -> bool
 
 // Registers anew an item that the record tells of.
 #[tactic(auto, unfolding(crate::specs::Held::recall))]
-fn recall_item(x: Progress, start: usize, end: usize, bytes: &[u8]) -> Step
+fn recall_item(x: Progress, start: usize, end: usize, bytes: &[u8]) -> Result<Progress, Refusal>
     ensures { result ≡ recall start end bytes.now x }
 {
     let pos = x.pos;
@@ -69,19 +69,19 @@ fn recall_item(x: Progress, start: usize, end: usize, bytes: &[u8]) -> Step
         if start == four_at(bytes, pos) {
             return register_head(x, Head::Variable, bytes);
         }
-        return Step::Refused(Refusal::BadState);
+        return Err(Refusal::BadState);
     }
     if start != pos {
-        return Step::Refused(Refusal::BadState);
+        return Err(Refusal::BadState);
     }
     if end < start {
-        return Step::Refused(Refusal::BadState);
+        return Err(Refusal::BadState);
     }
     register_head(x, Head::Fixed(end - start), bytes)
 }
 
 // Registers anew all the items that the record tells of.
-fn recall_items(starts: [usize; 64], ends: [usize; 64], count: usize, bytes: &[u8]) -> Step
+fn recall_items(starts: [usize; 64], ends: [usize; 64], count: usize, bytes: &[u8]) -> Result<Progress, Refusal>
     requires { count ≤ 64 }
     ensures { result ≡ walk starts ends count bytes.now fresh }
 {
@@ -90,31 +90,31 @@ fn recall_items(starts: [usize; 64], ends: [usize; 64], count: usize, bytes: &[u
     while i < count {
         let s = recall_item(x, starts[i], ends[i], bytes);
         match s {
-            Step::Next(y) => {
+            Ok(y) => {
                 x = y;
             }
-            Step::Refused(r) => {
-                return Step::Refused(r);
+            Err(r) => {
+                return Err(r);
             }
         }
         i += 1;
     }
-    Step::Next(x)
+    Ok(x)
 }
 
 // Whether the items have come to the state's own position.
-fn arrive(s: Step, pos: usize) -> Step
+fn arrive(s: Result<Progress, Refusal>, pos: usize) -> Result<Progress, Refusal>
     ensures { result ≡ arrived s pos }
 {
     match s {
-        Step::Next(x) => {
+        Ok(x) => {
             if x.pos == pos {
-                Step::Next(x)
+                Ok(x)
             } else {
-                Step::Refused(Refusal::BadState)
+                Err(Refusal::BadState)
             }
         }
-        Step::Refused(_) => Step::Refused(Refusal::BadState),
+        Err(_) => Err(Refusal::BadState),
     }
 }
 
@@ -142,7 +142,7 @@ fn refused(x: SszDecoderBuilder, r: Refusal) -> Registered
 {
     Registered {
         state: x,
-        told: Told::Refused(r),
+        told: Err(r),
     }
 }
 
@@ -151,7 +151,7 @@ fn not_built(r: Refusal) -> Built
     ensures { result ≡ not_built_lem r }
 {
     Built {
-        told: Told::Refused(r),
+        told: Err(r),
         decoder: SszDecoder {
             count: 0,
             starts: [0; 64],
@@ -205,22 +205,22 @@ impl SszDecoderBuilder {
 
     // How far the registrations over these bytes have come that reach this state; refused if none do.
     #[tactic(auto, unfolding(crate::specs::Held::recalled))]
-    fn recall(self, bytes: &[u8]) -> Step
+    fn recall(self, bytes: &[u8]) -> Result<Progress, Refusal>
         ensures { result ≡ recalled self bytes.now }
     {
         let count = self.count;
         if count > MAX_ITEMS {
-            return Step::Refused(Refusal::BadState);
+            return Err(Refusal::BadState);
         }
         let starts = self.starts;
         let no_starts = is_zero_from(starts, count);
         if !no_starts {
-            return Step::Refused(Refusal::BadState);
+            return Err(Refusal::BadState);
         }
         let ends = self.ends;
         let no_ends = is_zero_from(ends, count);
         if !no_ends {
-            return Step::Refused(Refusal::BadState);
+            return Err(Refusal::BadState);
         }
         let s = recall_items(starts, ends, count, bytes);
         arrive(s, self.pos)
@@ -261,14 +261,14 @@ impl SszDecoderBuilder {
         }
         let s = register_head(x, head, bytes);
         match s {
-            Step::Next(y) => {
+            Ok(y) => {
                 let state = self.put(head, y.pos, bytes);
                 Registered {
                     state,
-                    told: Told::Fine,
+                    told: Ok(()),
                 }
             }
-            Step::Refused(r) => refused(self, r),
+            Err(r) => refused(self, r),
         }
     }
 
@@ -278,8 +278,8 @@ impl SszDecoderBuilder {
     {
         let s = self.recall(bytes);
         match s {
-            Step::Next(x) => self.admit(x, head, bytes),
-            Step::Refused(_) => refused(self, Refusal::BadState),
+            Ok(x) => self.admit(x, head, bytes),
+            Err(_) => refused(self, Refusal::BadState),
         }
     }
 
@@ -324,7 +324,7 @@ impl SszDecoderBuilder {
         }
         let told = finalize(x, len);
         match told {
-            Told::Fine => {
+            Ok(()) => {
                 let count = self.count;
                 let starts = self.starts;
                 let open = self.ends;
@@ -335,11 +335,11 @@ impl SszDecoderBuilder {
                     ends,
                 };
                 Built {
-                    told: Told::Fine,
+                    told: Ok(()),
                     decoder,
                 }
             }
-            Told::Refused(r) => not_built(r),
+            Err(r) => not_built(r),
         }
     }
 
@@ -350,8 +350,8 @@ impl SszDecoderBuilder {
     {
         let s = self.recall(bytes);
         match s {
-            Step::Next(x) => self.close(x, bytes),
-            Step::Refused(_) => not_built(Refusal::BadState),
+            Ok(x) => self.close(x, bytes),
+            Err(_) => not_built(Refusal::BadState),
         }
     }
 }
@@ -359,25 +359,25 @@ impl SszDecoderBuilder {
 impl SszDecoder {
     // Whether bytes of this length have the item: past the last, or where its range is not one of theirs, it is 23.
     #[tactic(auto, unfolding(crate::specs::Reader::item_told_lem))]
-    pub fn item_told(self, index: usize, len: usize) -> Told
+    pub fn item_told(self, index: usize, len: usize) -> Result<(), Refusal>
         ensures { result ≡ item_told_lem self index len }
     {
         if index >= self.count {
-            return Told::Refused(Refusal::BadState);
+            return Err(Refusal::BadState);
         }
         if index >= MAX_ITEMS {
-            return Told::Refused(Refusal::BadState);
+            return Err(Refusal::BadState);
         }
         let starts = self.starts;
         let ends = self.ends;
         let end = ends[index];
         if end < starts[index] {
-            return Told::Refused(Refusal::BadState);
+            return Err(Refusal::BadState);
         }
         if end > len {
-            return Told::Refused(Refusal::BadState);
+            return Err(Refusal::BadState);
         }
-        Told::Fine
+        Ok(())
     }
 
     // The item, as a part of the caller's own bytes; the empty part at their start where `item_told` refuses.
@@ -387,14 +387,14 @@ impl SszDecoder {
     {
         let told = self.item_told(index, bytes.len());
         match told {
-            Told::Fine => {
+            Ok(()) => {
                 let starts = self.starts;
                 let ends = self.ends;
                 let start = starts[index];
                 let end = ends[index];
                 &bytes[start..end]
             }
-            Told::Refused(_) => &bytes[..0],
+            Err(_) => &bytes[..0],
         }
     }
 }

@@ -10,57 +10,50 @@ ghost use Rattle.decode.specs.Offsets.{is_below_lem, skips, is_above_lem, read_o
 ghost use Rattle.decode.specs.Unions.{split_union, union_body_lem};
 
 use standard::words::four_at;
-use standard::{Maybe, Refusal};
-use union_selector::{SelectorResult, UnionSelector};
+use standard::Refusal;
+use union_selector::UnionSelector;
 
 pub const BYTES_PER_LENGTH_OFFSET: usize = 4;
 
-// An offset, or why there is none.
-#[derive(Clone, Copy)]
-pub enum OffsetResult {
-    Offset(usize),
-    Refused(Refusal),
-}
-
 // Reads the offset that begins the bytes.
-pub fn read_offset(bytes: &[u8]) -> OffsetResult
+pub fn read_offset(bytes: &[u8]) -> Result<usize, Refusal>
     ensures { result ≡ read_offset_lem bytes.now }
 {
     let len = bytes.len();
     if len < BYTES_PER_LENGTH_OFFSET {
-        OffsetResult::Refused(Refusal::InvalidLengthPrefix(len, BYTES_PER_LENGTH_OFFSET))
+        Err(Refusal::InvalidLengthPrefix(len, BYTES_PER_LENGTH_OFFSET))
     } else {
-        OffsetResult::Offset(four_at(bytes, 0))
+        Ok(four_at(bytes, 0))
     }
 }
 
-fn is_below(offset: usize, bound: Maybe) -> bool
+fn is_below(offset: usize, bound: Option<usize>) -> bool
     ensures { result ≡ is_below_lem offset bound }
 {
     match bound {
-        Maybe::Just(n) => offset < n,
-        Maybe::Nothing => false,
+        Some(n) => offset < n,
+        None => false,
     }
 }
 
-fn is_above(bound: Maybe, offset: usize) -> bool
+fn is_above(bound: Option<usize>, offset: usize) -> bool
     ensures { result ≡ is_above_lem bound offset }
 {
     match bound {
-        Maybe::Just(n) => n > offset,
-        Maybe::Nothing => false,
+        Some(n) => n > offset,
+        None => false,
     }
 }
 
 // Whether a first offset leaves bytes out behind the fixed ones, where these are known.
-fn does_skip(offset: usize, previous: Maybe, fixed: Maybe) -> bool
+fn does_skip(offset: usize, previous: Option<usize>, fixed: Option<usize>) -> bool
     ensures { result ≡ skips offset previous fixed }
 {
     match previous {
-        Maybe::Just(_) => false,
-        Maybe::Nothing => match fixed {
-            Maybe::Just(n) => offset != n,
-            Maybe::Nothing => false,
+        Some(_) => false,
+        None => match fixed {
+            Some(n) => offset != n,
+            None => false,
         },
     }
 }
@@ -68,36 +61,36 @@ fn does_skip(offset: usize, previous: Maybe, fixed: Maybe) -> bool
 // The source's four tests, in its order.
 pub fn sanitize_offset(
     offset: usize,
-    previous_offset: Maybe,
+    previous_offset: Option<usize>,
     num_bytes: usize,
-    num_fixed_bytes: Maybe,
-) -> OffsetResult
+    num_fixed_bytes: Option<usize>,
+) -> Result<usize, Refusal>
     ensures { result ≡ sanitize_offset_lem offset previous_offset num_bytes num_fixed_bytes }
 {
     let into = is_below(offset, num_fixed_bytes);
     if into {
-        return OffsetResult::Refused(Refusal::OffsetIntoFixedPortion(offset));
+        return Err(Refusal::OffsetIntoFixedPortion(offset));
     }
     let leaves = does_skip(offset, previous_offset, num_fixed_bytes);
     if leaves {
-        return OffsetResult::Refused(Refusal::OffsetSkipsVariableBytes(offset));
+        return Err(Refusal::OffsetSkipsVariableBytes(offset));
     }
     if offset > num_bytes {
-        return OffsetResult::Refused(Refusal::OffsetOutOfBounds(offset));
+        return Err(Refusal::OffsetOutOfBounds(offset));
     }
     let falls = is_above(previous_offset, offset);
     if falls {
-        return OffsetResult::Refused(Refusal::OffsetsAreDecreasing(offset));
+        return Err(Refusal::OffsetsAreDecreasing(offset));
     }
-    OffsetResult::Offset(offset)
+    Ok(offset)
 }
 
 // The selector that begins a union's bytes. The body behind it is `union_body`: an enum holds no part of a slice.
-pub fn split_union_bytes(bytes: &[u8]) -> SelectorResult
+pub fn split_union_bytes(bytes: &[u8]) -> Result<UnionSelector, Refusal>
     ensures { result ≡ split_union bytes.now }
 {
     if bytes.len() == 0 {
-        SelectorResult::Refused(Refusal::OutOfBoundsByte(0))
+        Err(Refusal::OutOfBoundsByte(0))
     } else {
         UnionSelector::new(bytes[0])
     }

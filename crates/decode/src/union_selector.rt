@@ -10,21 +10,14 @@ pub const MAX_UNION_SELECTOR: u8 = 127;
 #[derive(Clone, Copy)]
 pub struct UnionSelector(u8);
 
-// A selector, or why there is none.
-#[derive(Clone, Copy)]
-pub enum SelectorResult {
-    Selector(UnionSelector),
-    Refused(Refusal),
-}
-
 impl UnionSelector {
-    pub fn new(selector: u8) -> SelectorResult
+    pub fn new(selector: u8) -> Result<UnionSelector, Refusal>
         ensures { result ≡ selector_of selector }
     {
         if selector <= MAX_UNION_SELECTOR {
-            SelectorResult::Selector(UnionSelector(selector))
+            Ok(UnionSelector(selector))
         } else {
-            SelectorResult::Refused(Refusal::UnionSelectorInvalid(selector))
+            Err(Refusal::UnionSelectorInvalid(selector))
         }
     }
 

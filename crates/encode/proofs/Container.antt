@@ -19,20 +19,19 @@ use Rattle.encode.specs.Encoder.{container as empty, after, append_fixed_lem, ap
 use Rattle.encode.specs.Finish.{finalize}
 use Rattle.encode.specs.Whole.{going, append_all_lem, closed, ending, encoded, Fitting}
 use Rattle.encode.specs.declared.encoder.SszEncoder.{SszEncoder}
-use Rattle.encode.specs.declared.encoder.Appended.TheVariants.{Next}
-use Rattle.encode.specs.declared.encoder.Finalized.TheVariants.{Length}
+use Rattle.std.specs.declared.result.Result.TheVariants.{Ok}
 
 -- One part, where there is room.
 module _ (x : SszEncoder) (s f v : List ℕ) where
   fixed-next : x.fixed_used + length s ≤ length f → x.variable_used ≤ length v
-      → append_fixed_lem x s f v ≡ Next (after x (x.fixed_used + length s) x.variable_used)
+      → append_fixed_lem x s f v ≡ Ok (after x (x.fixed_used + length s) x.variable_used)
   unfolding append_fixed_lem
   fixed-next h k =
       let i : x.fixed_used ≤ length f = omega arith in
       rw (le-leb _ _ i, le-leb _ _ k, le-leb _ _ h)
 
   variable_next : x.fixed_used + 4 ≤ length f → x.variable_used + length s ≤ length v → x.offset + x.variable_used ≤ 4294967295
-      → append_variable_lem x s f v ≡ Next (after x (x.fixed_used + 4) (x.variable_used + length s))
+      → append_variable_lem x s f v ≡ Ok (after x (x.fixed_used + 4) (x.variable_used + length s))
   unfolding append_variable_lem
   variable_next h k o =
       let i : x.fixed_used ≤ length f = omega arith in
@@ -94,7 +93,7 @@ module _ (xs : List Part) (f v : List ℕ) (g : Fitting xs f v) where
       { front = omega (arith, g.front); back = omega (arith, g.back); small = omega (arith, g.small) } in
       simp (zero-add, add-zero) at (appends xs (empty (fixed_lengths xs)) f v a)
 
-  finalized : finalize last (sets f 0 (fronts xs (fixed_lengths xs))) (sets v 0 (backs xs)) ≡ Length (length (join xs))
+  finalized : finalize last (sets f 0 (fronts xs (fixed_lengths xs))) (sets v 0 (backs xs)) ≡ Ok (length (join xs))
   unfolding last finalize
   finalized =
       let l = length-join xs in
@@ -109,7 +108,7 @@ module _ (xs : List Part) (f v : List ℕ) (g : Fitting xs f v) where
       (take_at (backs xs) (drop (0 + length (backs xs)) v) (length (backs xs)) refl)
 
   -- The answer is the length of the parts' join,
-  pub encoded-length : closed (encoded xs f v) ≡ Length (length (join xs))
+  pub encoded-length : closed (encoded xs f v) ≡ Ok (length (join xs))
   encoded-length = rw all-appended finalized
 
   -- and the fixed buffer has the join at its start, and is else kept.
@@ -122,7 +121,7 @@ module _ (xs : List Part) (f v : List ℕ) (g : Fitting xs f v) where
 
 -- Encoding the parts of a container's value writes its serialization.
 pub encodes : (t : ℕ) (ts : Tys) (vs : Vals ts) (f v : List ℕ) → Fitting (parts ts vs) f v
-    → (closed (encoded (parts ts vs) f v) ≡ Length (length (serialize (container t ts) vs))) ×
+    → (closed (encoded (parts ts vs) f v) ≡ Ok (length (serialize (container t ts) vs))) ×
     (ending (encoded (parts ts vs) f v) ≡ sets f 0 (serialize (container t ts) vs))
 unfolding serialize
 encodes t ts vs f v g = (encoded-length (parts ts vs) f v g, encoded_buffer (parts ts vs) f v g)

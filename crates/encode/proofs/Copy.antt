@@ -3,9 +3,10 @@ use mathlib.Core.Path.{◌≡◌, refl}
 use mathlib.Core.List.{List, []}
 use Prim.Native.Nat.{ℕ}
 use Rattle.encode.specs.Encoder.{appended}
-use Rattle.encode.specs.declared.encoder.Appended.{Appended}
-use Rattle.encode.specs.declared.encoder.Appended.TheVariants.{Next, Refused}
+use Rattle.std.specs.declared.result.Result.{Result}
+use Rattle.std.specs.declared.result.Result.TheVariants.{Ok, Err}
+use Rattle.standard.specs.declared.Refusal.{Refusal}
 
-pub appended-none : (r : Appended) (o : List ℕ) (at : ℕ) → o ≡ appended r o at []
-appended-none (Next y) o at = refl
-appended-none (Refused r) o at = refl
+pub appended-none : (r : Result SszEncoder Refusal) (o : List ℕ) (at : ℕ) → o ≡ appended r o at []
+appended-none (Ok y) o at = refl
+appended-none (Err r) o at = refl

@@ -10,20 +10,18 @@ use Rattle.standard.specs.declared.Refusal.{Refusal}
 use Rattle.encode.specs.Encoder.{append_fixed_lem, append_variable_lem, append, appended, front_of, back_of}
 use Rattle.encode.specs.Finish.{finalize, finished}
 use Rattle.encode.specs.declared.encoder.SszEncoder.{SszEncoder}
-use Rattle.encode.specs.declared.encoder.Appended.{Appended}
-use Rattle.encode.specs.declared.encoder.Appended.TheVariants.{Refused}
-use Rattle.encode.specs.declared.encoder.Finalized.{Finalized}
-use Rattle.encode.specs.declared.encoder.Finalized.TheVariants.{Refused as Stopped}
+use Rattle.std.specs.declared.result.Result.{Result}
+use Rattle.std.specs.declared.result.Result.TheVariants.{Err}
 
-kept : (a : Appended) (r : Refusal) (o : List ℕ) (at : ℕ) (s : List ℕ) → a ≡ Refused r → appended a o at s ≡ o
-kept a r o at s e = ap (λ (b : Appended). appended b o at s) e
+kept : (a : Result SszEncoder Refusal) (r : Refusal) (o : List ℕ) (at : ℕ) (s : List ℕ) → a ≡ Err r → appended a o at s ≡ o
+kept a r o at s e = ap (λ (b : Result SszEncoder Refusal). appended b o at s) e
 
 module _ (x : SszEncoder) (s f v : List ℕ) (r : Refusal) where
-  pub append-fixed_refused : append_fixed_lem x s f v ≡ Refused r → appended (append_fixed_lem x s f v) f x.fixed_used s ≡ f
+  pub append-fixed_refused : append_fixed_lem x s f v ≡ Err r → appended (append_fixed_lem x s f v) f x.fixed_used s ≡ f
   append-fixed_refused e = kept (append_fixed_lem x s f v) r f x.fixed_used s e
 
   pub append_variable_refused :
-      append_variable_lem x s f v ≡ Refused r
+      append_variable_lem x s f v ≡ Err r
       → (appended (append_variable_lem x s f v) f x.fixed_used (le 4 (x.offset + x.variable_used)) ≡ f) ×
       (appended (append_variable_lem x s f v) v x.variable_used s ≡ v)
   append_variable_refused e = (
@@ -33,7 +31,7 @@ module _ (x : SszEncoder) (s f v : List ℕ) (r : Refusal) where
 
   -- Of either kind
   pub append_refused :
-      (k : Bool) → append k x s f v ≡ Refused r
+      (k : Bool) → append k x s f v ≡ Err r
       → (appended (append k x s f v) f x.fixed_used (front_of k x s) ≡ f) × (appended (append k x s f v) v x.variable_used (back_of k s) ≡ v)
   append_refused k e = (
     kept (append k x s f v) r f x.fixed_used (front_of k x s) e,
@@ -41,6 +39,6 @@ module _ (x : SszEncoder) (s f v : List ℕ) (r : Refusal) where
   )
 
 pub finalize_refused :
-    (x : SszEncoder) (f v : List ℕ) (r : Refusal) → finalize x f v ≡ Stopped r
+    (x : SszEncoder) (f v : List ℕ) (r : Refusal) → finalize x f v ≡ Err r
     → finished (finalize x f v) f x.fixed_used (take x.variable_used v) ≡ f
-finalize_refused x f v r e = ap (λ (a : Finalized). finished a f x.fixed_used (take x.variable_used v)) e
+finalize_refused x f v r e = ap (λ (a : Result ℕ Refusal). finished a f x.fixed_used (take x.variable_used v)) e

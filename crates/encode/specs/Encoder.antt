@@ -5,8 +5,9 @@ use Rattle.standard.specs.Choice.{pick, and_also}
 use Rattle.standard.specs.Bytes.{le}
 use Rattle.standard.specs.declared.Refusal.TheVariants.{TooLarge, NoRoom, BadState}
 use Rattle.encode.specs.declared.encoder.SszEncoder.{SszEncoder}
-use Rattle.encode.specs.declared.encoder.Appended.{Appended}
-use Rattle.encode.specs.declared.encoder.Appended.TheVariants.{Next, Refused}
+use Rattle.std.specs.declared.result.Result.{Result}
+use Rattle.std.specs.declared.result.Result.TheVariants.{Ok, Err}
+use Rattle.standard.specs.declared.Refusal.{Refusal}
 
 -- A fixed portion of n bytes, and nothing used
 abbrev pub container : ℕ → SszEncoder
@@ -21,34 +22,34 @@ abbrev pub holds : SszEncoder → List ℕ → List ℕ → Bool
 holds x f v = and_also (leb x.fixed_used (length f)) (leb x.variable_used (length v))
 
 -- An item of fixed size: 22 (bytes used after it, room)
-unfoldable pub append_fixed_lem : SszEncoder → List ℕ → List ℕ → List ℕ → Appended
+unfoldable pub append_fixed_lem : SszEncoder → List ℕ → List ℕ → List ℕ → Result SszEncoder Refusal
 append_fixed_lem x s f v =
     pick (holds x f v)
     (pick (leb (x.fixed_used + length s) (length f))
-    (Next (after x (x.fixed_used + length s) x.variable_used))
-    (Refused (NoRoom (x.fixed_used + length s) (length f))))
-    (Refused BadState)
+    (Ok (after x (x.fixed_used + length s) x.variable_used))
+    (Err (NoRoom (x.fixed_used + length s) (length f))))
+    (Err BadState)
 
 -- An item of variable size: "21 if the offset to write (fixed size plus variable bytes used) is 2^32 or more", then 22, "the fixed one first"
-unfoldable pub append_variable_lem : SszEncoder → List ℕ → List ℕ → List ℕ → Appended
+unfoldable pub append_variable_lem : SszEncoder → List ℕ → List ℕ → List ℕ → Result SszEncoder Refusal
 append_variable_lem x s f v =
     pick (holds x f v)
     (pick (leb (x.offset + x.variable_used) 4294967295)
     (pick (leb (x.fixed_used + 4) (length f))
     (pick (leb (x.variable_used + length s) (length v))
-    (Next (after x (x.fixed_used + 4) (x.variable_used + length s)))
-    (Refused (NoRoom (x.variable_used + length s) (length v))))
-    (Refused (NoRoom (x.fixed_used + 4) (length f))))
-    (Refused TooLarge))
-    (Refused BadState)
+    (Ok (after x (x.fixed_used + 4) (x.variable_used + length s)))
+    (Err (NoRoom (x.variable_used + length s) (length v))))
+    (Err (NoRoom (x.fixed_used + 4) (length f))))
+    (Err TooLarge))
+    (Err BadState)
 
 -- A buffer afterwards: the bytes stored from the place at on, the rest kept; on a refusal all is kept
-abbrev pub appended : Appended → List ℕ → ℕ → List ℕ → List ℕ
-appended (Next y) o at s = sets o at s
-appended (Refused r) o at s = o
+abbrev pub appended : Result SszEncoder Refusal → List ℕ → ℕ → List ℕ → List ℕ
+appended (Ok y) o at s = sets o at s
+appended (Err r) o at s = o
 
 -- Either kind: what is answered, and what goes into each buffer
-abbrev pub append : Bool → SszEncoder → List ℕ → List ℕ → List ℕ → Appended
+abbrev pub append : Bool → SszEncoder → List ℕ → List ℕ → List ℕ → Result SszEncoder Refusal
 append true x s f v = append_fixed_lem x s f v
 append false x s f v = append_variable_lem x s f v
 

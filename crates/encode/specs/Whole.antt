@@ -7,10 +7,8 @@ use Rattle.standard.specs.declared.Refusal.{Refusal}
 use Rattle.encode.specs.Encoder.{container, append, appended, front_of, back_of}
 use Rattle.encode.specs.Finish.{finalize, finished}
 use Rattle.encode.specs.declared.encoder.SszEncoder.{SszEncoder}
-use Rattle.encode.specs.declared.encoder.Appended.{Appended}
-use Rattle.encode.specs.declared.encoder.Appended.TheVariants.{Next, Refused}
-use Rattle.encode.specs.declared.encoder.Finalized.{Finalized}
-use Rattle.encode.specs.declared.encoder.Finalized.TheVariants.{Refused as Stopped}
+use Rattle.std.specs.declared.result.Result.{Result}
+use Rattle.std.specs.declared.result.Result.TheVariants.{Ok, Err}
 
 -- An encoder with its two buffers, or the first refusal with the buffers as they were left
 pub data Held : Type 0 where
@@ -21,9 +19,9 @@ abbrev pub is_fixed_lem : Head → Bool
 is_fixed_lem (Fixed n) = true
 is_fixed_lem Variable = false
 
-abbrev pub onward : Appended → List ℕ → List ℕ → (SszEncoder → Held) → Held
-onward (Next y) f v k = k y
-onward (Refused r) f v k = stopped r f v
+abbrev pub onward : Result SszEncoder Refusal → List ℕ → List ℕ → (SszEncoder → Held) → Held
+onward (Ok y) f v k = k y
+onward (Err r) f v k = stopped r f v
 
 -- The parts appended in order
 unfoldable pub append_all_lem : List Part → SszEncoder → List ℕ → List ℕ → Held
@@ -35,9 +33,9 @@ append_all_lem (piece h s ∷ xs) x f v =
     onward r f' v' (λ y. append_all_lem xs y f' v')
 
 -- What `finalize` then answers, and the fixed buffer after it
-abbrev pub closed : Held → Finalized
+abbrev pub closed : Held → Result ℕ Refusal
 closed (going x f v) = finalize x f v
-closed (stopped r f v) = Stopped r
+closed (stopped r f v) = Err r
 
 abbrev pub ending : Held → List ℕ
 ending (going x f v) = finished (finalize x f v) f x.fixed_used (take x.variable_used v)

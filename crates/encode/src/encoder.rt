@@ -17,20 +17,6 @@ pub struct SszEncoder {
     pub variable_used: usize,
 }
 
-// The next state, or why there is none.
-#[derive(Clone, Copy)]
-pub enum Appended {
-    Next(SszEncoder),
-    Refused(Refusal),
-}
-
-// How many bytes of the fixed buffer are the container's, or why there are none.
-#[derive(Clone, Copy)]
-pub enum Finalized {
-    Length(usize),
-    Refused(Refusal),
-}
-
 // Stores the bytes of src from at on.
 fn copy_into(out: &mut [u8], at: usize, src: &[u8])
     requires { at + length src.now ≤ length out.old }
@@ -70,24 +56,24 @@ impl SszEncoder {
 
     // Appends an item of fixed size: its bytes go into the fixed buffer.
     #[tactic(auto, unfolding(crate::specs::Encoder::append_fixed_lem))]
-    pub fn append_fixed(self, item: &[u8], fixed: &mut [u8], variable: &[u8]) -> Appended
+    pub fn append_fixed(self, item: &[u8], fixed: &mut [u8], variable: &[u8]) -> Result<SszEncoder, Refusal>
         ensures answer { result ≡ append_fixed_lem self item.now fixed.old variable.now }
         ensures front { fixed.new ≡ appended result fixed.old self.fixed_used item.now }
     {
         let used = self.fixed_used;
         let held = self.variable_used;
         if used > fixed.len() {
-            return Appended::Refused(Refusal::BadState);
+            return Err(Refusal::BadState);
         }
         if held > variable.len() {
-            return Appended::Refused(Refusal::BadState);
+            return Err(Refusal::BadState);
         }
         let end = used + item.len();
         if end > fixed.len() {
-            return Appended::Refused(Refusal::NoRoom(end, fixed.len()));
+            return Err(Refusal::NoRoom(end, fixed.len()));
         }
         copy_into(fixed, used, item);
-        Appended::Next(SszEncoder {
+        Ok(SszEncoder {
             offset: self.offset,
             fixed_used: end,
             variable_used: held,
@@ -96,7 +82,7 @@ impl SszEncoder {
 
     // Appends an item of variable size: its offset goes into the fixed buffer, its bytes into the variable one.
     #[tactic(auto, unfolding(crate::specs::Encoder::append_variable_lem))]
-    pub fn append_variable(self, item: &[u8], fixed: &mut [u8], variable: &mut [u8]) -> Appended
+    pub fn append_variable(self, item: &[u8], fixed: &mut [u8], variable: &mut [u8]) -> Result<SszEncoder, Refusal>
         ensures answer { result ≡ append_variable_lem self item.now fixed.old variable.old }
         ensures front { fixed.new ≡ appended result fixed.old self.fixed_used (le 4 (self.offset + self.variable_used)) }
         ensures back { variable.new ≡ appended result variable.old self.variable_used item.now }
@@ -104,26 +90,26 @@ impl SszEncoder {
         let used = self.fixed_used;
         let held = self.variable_used;
         if used > fixed.len() {
-            return Appended::Refused(Refusal::BadState);
+            return Err(Refusal::BadState);
         }
         if held > variable.len() {
-            return Appended::Refused(Refusal::BadState);
+            return Err(Refusal::BadState);
         }
         let small = is_offset(self.offset, held);
         if !small {
-            return Appended::Refused(Refusal::TooLarge);
+            return Err(Refusal::TooLarge);
         }
         let front = used + super::BYTES_PER_LENGTH_OFFSET;
         if front > fixed.len() {
-            return Appended::Refused(Refusal::NoRoom(front, fixed.len()));
+            return Err(Refusal::NoRoom(front, fixed.len()));
         }
         let back = held + item.len();
         if back > variable.len() {
-            return Appended::Refused(Refusal::NoRoom(back, variable.len()));
+            return Err(Refusal::NoRoom(back, variable.len()));
         }
         put_four(fixed, used, self.offset + held);
         copy_into(variable, held, item);
-        Appended::Next(SszEncoder {
+        Ok(SszEncoder {
             offset: self.offset,
             fixed_used: front,
             variable_used: back,
@@ -137,7 +123,7 @@ impl SszEncoder {
         item: &[u8],
         fixed: &mut [u8],
         variable: &mut [u8],
-    ) -> Appended
+    ) -> Result<SszEncoder, Refusal>
         ensures answer { result ≡ append is_ssz_fixed_len self item.now fixed.old variable.old }
         ensures front { fixed.new ≡ appended result fixed.old self.fixed_used (front_of is_ssz_fixed_len self item.now) }
         ensures back { variable.new ≡ appended result variable.old self.variable_used (back_of is_ssz_fixed_len item.now) }
@@ -151,23 +137,23 @@ impl SszEncoder {
 
     // Moves the variable parts behind the fixed ones.
     #[tactic(auto, unfolding(crate::specs::Finish::finalize))]
-    pub fn finalize(self, fixed: &mut [u8], variable: &[u8]) -> Finalized
+    pub fn finalize(self, fixed: &mut [u8], variable: &[u8]) -> Result<usize, Refusal>
         ensures answer { result ≡ finalize self fixed.old variable.now }
         ensures front { fixed.new ≡ finished result fixed.old self.fixed_used (take self.variable_used variable.now) }
     {
         let used = self.fixed_used;
         let held = self.variable_used;
         if used > fixed.len() {
-            return Finalized::Refused(Refusal::BadState);
+            return Err(Refusal::BadState);
         }
         if held > variable.len() {
-            return Finalized::Refused(Refusal::BadState);
+            return Err(Refusal::BadState);
         }
         let end = used + held;
         if end > fixed.len() {
-            return Finalized::Refused(Refusal::NoRoom(end, fixed.len()));
+            return Err(Refusal::NoRoom(end, fixed.len()));
         }
         copy_into(fixed, used, &variable[..held]);
-        Finalized::Length(end)
+        Ok(end)
     }
 }

@@ -6,7 +6,7 @@ pub mod encoder;
 ghost use Rattle.std.specs.Prelude.{◌≡◌};
 ghost use Rattle.encode.specs.Lengths.{encode_length_lem};
 
-use standard::{Refusal, Told};
+use standard::Refusal;
 
 pub const BYTES_PER_LENGTH_OFFSET: usize = 4;
 // The greatest length that an offset can say.
@@ -15,7 +15,7 @@ pub const MAX_LENGTH_VALUE: usize = 4294967295;
 // The bytes of a length, all zero beside a refusal: an enum holds no array.
 #[derive(Clone, Copy)]
 pub struct Encoded {
-    pub told: Told,
+    pub told: Result<(), Refusal>,
     pub bytes: [u8; 4],
 }
 
@@ -25,7 +25,7 @@ pub fn encode_length(len: usize) -> Encoded
 {
     if len <= MAX_LENGTH_VALUE {
         Encoded {
-            told: Told::Fine,
+            told: Ok(()),
             bytes: [
                 (len % 256) as u8,
                 (len / 256 % 256) as u8,
@@ -35,7 +35,7 @@ pub fn encode_length(len: usize) -> Encoded
         }
     } else {
         Encoded {
-            told: Told::Refused(Refusal::TooLarge),
+            told: Err(Refusal::TooLarge),
             bytes: [0; 4],
         }
     }

@@ -21,12 +21,14 @@ use Rattle.layout.specs.Legal.{LegalNode, Legal}
 use Rattle.layout.specs.Steps.{Known, leaf_len_lem, sizes_of, Lengthened, Ended}
 use Rattle.layout.specs.declared.Node.{Node}
 use Rattle.layout.specs.declared.Sizes.{Sizes}
-use Rattle.layout.specs.declared.Checked.{Checked}
-use Rattle.layout.specs.declared.Checked.TheVariants.{Bad, Upto}
 use Rattle.layout.proofs.Facts.{trees-get, fields_at, fields-none, filled-get, filled-set, head_len, as_container, legal_node}
 use Rattle.layout.proofs.Tables.{Adding, adding-next, adding-end, bad-upto, may_lower, refs-wrong, refs-lower, refs-cut}
 use Rattle.layout.proofs.Tables.{Counted, counted-says, element-lower, known_len, known-head, known_small}
 use Rattle.layout.proofs.Trees.{legal_tree, len_small, leaf-length, vector_len, all-portion}
+use Rattle.std.specs.declared.result.Result.{Result}
+use Rattle.std.specs.declared.result.Result.TheVariants.{Ok, Err}
+use Rattle.standard.specs.declared.Refusal.{Refusal}
+use Rattle.standard.specs.declared.Refusal.TheVariants.{BadLayout}
 
 width_small : (m : ℕ) → m < 2 ^ 32 → width (head_of m) < 2 ^ 32
 unfolding width
@@ -79,7 +81,7 @@ module _ (l : List ℕ) (t known a₀ n : ℕ) (lens : List ℕ) (a left sum : �
     (p : 0 < left) (e : f ≡ word_at l a) (i : t ≤ known) where
   -- a word that names no lower type
   module _ (j : a < count l) (ok : Bool) (m : ok ≡ may_name_lem f t false) where
-    pub taking_wrong : ok ≡ false → Bad a ≡ refs l t false a₀ n
+    pub taking_wrong : ok ≡ false → Err (BadLayout a) ≡ refs l t false a₀ n
     taking_wrong u = refs-wrong l t false a left _ p s.adding.tests f ok j e m u
 
     module _ (u : ok ≡ true) where
@@ -134,7 +136,7 @@ module _ (l : List ℕ) (t known a₀ n : ℕ) (lens : List ℕ) (a left sum : �
               record { found = taking_kept lens' q; adding = taking_adding; same = sym (with_variable fixed sum _) ∙ taking_first Variable (rw z at taking_head) }
 
 pub taking_end : (l : List ℕ) (t known a₀ n : ℕ) (lens : List ℕ) (a left sum : ℕ) (fixed : Bool) → Taking l t known a₀ n lens a left sum fixed →
-    left ≤ 0 → record { end = Upto a; portion = sum; length = pick fixed sum 0 } ≡ sizes_of (refs l t false a₀ n) (fields l (trees l t) a₀ n)
+    left ≤ 0 → record { end = Ok a; portion = sum; length = pick fixed sum 0 } ≡ sizes_of (refs l t false a₀ n) (fields l (trees l t) a₀ n)
 unfolding head sizes_of
 taking_end l t known a₀ n lens a left sum fixed s h =
     let q = rw (fields-none l (trees l t) a left h) at s.same in
@@ -142,18 +144,18 @@ taking_end l t known a₀ n lens a left sum fixed s h =
     let d = adding-end l t a₀ n a left sum s.adding h in
     rw (← d.0, ← d.1, y)
 
-pub no-sizes : (x : Checked) (w : ℕ) (ts : Tys) → Bad w ≡ x → record { end = Bad w; portion = 0; length = 0 } ≡ sizes_of x ts
+pub no-sizes : (x : Result ℕ Refusal) (w : ℕ) (ts : Tys) → Err (BadLayout w) ≡ x → record { end = Err (BadLayout w); portion = 0; length = 0 } ≡ sizes_of x ts
 unfolding sizes_of
 no-sizes x w ts h = rw (← h)
 
 -- Of fields whose words are accepted, all sizes are those of the fields.
-pub sizes-end : (x : Checked) (ts : Tys) (s : Sizes) → s ≡ sizes_of x ts → s.end ≡ x
+pub sizes-end : (x : Result ℕ Refusal) (ts : Tys) (s : Sizes) → s ≡ sizes_of x ts → s.end ≡ x
 unfolding sizes_of
-sizes-end (Bad w) ts s e = ap (λ (y : Sizes). y.end) e
-sizes-end (Upto i) ts s e = ap (λ (y : Sizes). y.end) e
+sizes-end (Err (BadLayout w)) ts s e = ap (λ (y : Sizes). y.end) e
+sizes-end (Ok i) ts s e = ap (λ (y : Sizes). y.end) e
 
-module _ (x : Checked) (ts : Tys) (s : Sizes) (i : ℕ) (e : s ≡ sizes_of x ts) (u : x ≡ Upto i) where
-  sizes-known : s ≡ record { end = Upto i; portion = portion (heads ts); length = len_of (head_all ts) }
+module _ (x : Result ℕ Refusal) (ts : Tys) (s : Sizes) (i : ℕ) (e : s ≡ sizes_of x ts) (u : x ≡ Ok i) where
+  sizes-known : s ≡ record { end = Ok i; portion = portion (heads ts); length = len_of (head_all ts) }
   unfolding sizes_of
   sizes-known = rw u at e
 
@@ -166,12 +168,12 @@ module _ (x : Checked) (ts : Tys) (s : Sizes) (i : ℕ) (e : s ≡ sizes_of x ts
 -- The length of a container is that of its fields.
 pub sizes_len : (l : List ℕ) (t : ℕ) (r : Node) (s : Sizes) (i : ℕ) → r ≡ node_of l t → r.kind ≡ 6 →
     s ≡ sizes_of (refs l t false (r.at + 2) r.second) (fields l (trees l t) (r.at + 2) r.second) →
-    refs l t false (r.at + 2) r.second ≡ Upto i → s.length ≡ len_of (head (tree_of l t))
+    refs l t false (r.at + 2) r.second ≡ Ok i → s.length ≡ len_of (head (tree_of l t))
 unfolding head
 sizes_len l t r s i e h q u = rw (as_container l t r e h) (sizes-length _ _ s i q u)
 
 -- Of a legal container the words are accepted.
-pub legal-refs : (l : List ℕ) (t : ℕ) (r : Node) → LegalNode l t r → r.kind ≡ 6 → refs l t false (r.at + 2) r.second ≡ Upto (r.at + 2 + r.second)
+pub legal-refs : (l : List ℕ) (t : ℕ) (r : Node) → LegalNode l t r → r.kind ≡ 6 → refs l t false (r.at + 2) r.second ≡ Ok (r.at + 2 + r.second)
 legal-refs l t r g h = refs-lower l t r.second (r.at + 2) (g.lower h) (g.within (omega arith) (omega arith))
 
 -- A length that is found is remembered.
@@ -187,7 +189,7 @@ lengthened l known t r lens f i j b h =
 pub found-set : (l : List ℕ) (t v : ℕ) (lens : List ℕ) → lens ≡ filled l t → t < 64 → v ≡ len_of (head (tree_of l t)) → set lens t v ≡ filled l (t + 1)
 found-set l t v lens f b h = rw (h, f, add-one) (filled-set l t b)
 
-pub sizes-small : (x : Checked) (ts : Tys) (s : Sizes) (i : ℕ) → s ≡ sizes_of x ts → x ≡ Upto i → s.portion ≤ 4294967295 → s.length < 2 ^ 32
+pub sizes-small : (x : Result ℕ Refusal) (ts : Tys) (s : Sizes) (i : ℕ) → s ≡ sizes_of x ts → x ≡ Ok i → s.portion ≤ 4294967295 → s.length < 2 ^ 32
 sizes-small x ts s i e u h = omega (arith, sizes-portion x ts s i e u, sizes-length x ts s i e u, all-portion ts)
 
 -- The type t, whose body starts at the word at.
@@ -197,7 +199,7 @@ module _ (l : List ℕ) (t at : ℕ) (w : at ≡ word_at l (1 + t)) where
   node_here k m p q = rw (p, q, w)
 
   pub container_len : (n : ℕ) (s : Sizes) (i : ℕ) → word_at l at ≡ 6 → n ≡ word_at l (at + 1) →
-      s ≡ sizes_of (refs l t false (at + 2) n) (fields l (trees l t) (at + 2) n) → refs l t false (at + 2) n ≡ Upto i →
+      s ≡ sizes_of (refs l t false (at + 2) n) (fields l (trees l t) (at + 2) n) → refs l t false (at + 2) n ≡ Ok i →
       s.length ≡ len_of (head (tree_of l t))
   container_len n s i k m q u = sizes_len l t (record { kind = word_at l at; at = at; second = n }) s i (node_here _ n refl m) k q u
 
@@ -219,7 +221,7 @@ module _ (l : List ℕ) (t at : ℕ) (w : at ≡ word_at l (1 + t)) where
       (rw (not 0 (omega arith), not 1 (omega arith), not 2 (omega arith), not 3 (omega arith), not 4 (omega arith))) f b
 
 -- The vector t at the word at, whose element f is known: what n elements take of a fixed portion, and how long they are.
-module _ (lens l : List ℕ) (t at e n f : ℕ) (g : Known lens l t) (r : Upto e ≡ refs l t false (at + 1) 1) (k : Upto n ≡ counted l (at + 1) 4294967295)
+module _ (lens l : List ℕ) (t at e n f : ℕ) (g : Known lens l t) (r : Ok e ≡ refs l t false (at + 1) 1) (k : Ok n ≡ counted l (at + 1) 4294967295)
     (q : f ≡ word_at l (at + 1)) where
   pub element-below : f < t
   element-below = rw q (element-lower l t (at + 1) e (sym r)).0
@@ -256,14 +258,14 @@ module _ (lens l : List ℕ) (t at e n f : ℕ) (g : Known lens l t) (r : Upto e
     pub elements-small : n * w ≤ 4294967295 → n * get_or lens f 0 < 2 ^ 32
     elements-small h = omega (arith, elements-less)
 
-    vector-tests : vector_end_lem l t at ≡ pick (leb (n * w) 4294967295) (Upto (at + 3)) (Bad at)
+    vector-tests : vector_end_lem l t at ≡ pick (leb (n * w) 4294967295) (Ok (at + 3)) (Err (BadLayout at))
     unfolding vector_end_lem
     vector-tests = rw (← r, ← k, ← q, trees-get l t f (boolean 0) element-below, ← element-width)
 
-    pub vector_wide : 4294967295 < n * w → Bad at ≡ vector_end_lem l t at
+    pub vector_wide : 4294967295 < n * w → Err (BadLayout at) ≡ vector_end_lem l t at
     vector_wide h = rw (vector-tests, lt-leb _ _ h)
 
-    pub vector-ends : n * w ≤ 4294967295 → Upto (at + 3) ≡ vector_end_lem l t at
+    pub vector-ends : n * w ≤ 4294967295 → Ok (at + 3) ≡ vector_end_lem l t at
     vector-ends h = rw (vector-tests, le-leb _ _ h)
 
 -- A legal vector, whose element has the length k.
@@ -292,17 +294,17 @@ unfolding node_of head
 container_filled l t b k = sym (found-set l t _ _ refl b (rw (as_container l t (node_of l t) refl k)))
 
 -- An end that is none has no number.
-abbrev upto : Checked → ℕ
-upto (Bad w) = 0
-upto (Upto e) = e
+abbrev upto : Result ℕ Refusal → ℕ
+upto (Err (BadLayout w)) = 0
+upto (Ok e) = e
 
-abbrev ends : Checked → Bool
-ends (Bad w) = false
-ends (Upto e) = true
+abbrev ends : Result ℕ Refusal → Bool
+ends (Err (BadLayout w)) = false
+ends (Ok e) = true
 
-ended_at : (x : Checked) → ends x ≡ true → x ≡ Upto (upto x)
-ended_at (Bad w) h = cc
-ended_at (Upto e) h = refl
+ended_at : (x : Result ℕ Refusal) → ends x ≡ true → x ≡ Ok (upto x)
+ended_at (Err (BadLayout w)) h = cc
+ended_at (Ok e) h = refl
 
 -- The head of a vector's element, and what the vector's length makes of the lengths before it, as `vector_end` leaves them.
 module _ (l : List ℕ) (t : ℕ) where
@@ -330,16 +332,16 @@ module _ (l : List ℕ) (t : ℕ) where
 pub ruleset vector_rules = (element_head, vector_filled)
 
 -- A body that does not end leaves nothing found.
-pub ended-bad : (l : List ℕ) (t w : ℕ) (x : Checked) (lens : List ℕ) → Bad w ≡ x → Ended l t x (Bad w) lens
+pub ended-bad : (l : List ℕ) (t w : ℕ) (x : Result ℕ Refusal) (lens : List ℕ) → Err (BadLayout w) ≡ x → Ended l t x (Err (BadLayout w)) lens
 ended-bad l t w x lens h = record { gives = h; found = λ e q. bad-upto w e q }
 
 -- A container whose words are not all there ends nowhere: one of them is the first bad word.
-pub ended-cut : (l : List ℕ) (t at n : ℕ) (x : Checked) (lens : List ℕ) → counted l at 64 ≡ Upto n → count l < at + 2 + n →
+pub ended-cut : (l : List ℕ) (t at n : ℕ) (x : Result ℕ Refusal) (lens : List ℕ) → counted l at 64 ≡ Ok n → count l < at + 2 + n →
     x ≡ refs l t false (at + 2) n → Ended l t (container_end_lem l t at) x lens
 unfolding container_end_lem many
-ended-cut l t at n (Bad w) lens c h e = ended-bad l t w _ lens (rw (c, ← e))
-ended-cut l t at n (Upto i) lens c h e =
+ended-cut l t at n (Err (BadLayout w)) lens c h e = ended-bad l t w _ lens (rw (c, ← e))
+ended-cut l t at n (Ok i) lens c h e =
     absurd (refs-cut l t n (at + 2) i (omega (arith, (counted-says l at 64 n c).there)) h (sym e))
 
-pub ended : (l : List ℕ) (t : ℕ) (x r : Checked) (lens : List ℕ) → r ≡ x → lens ≡ filled l (t + 1) → Ended l t x r lens
+pub ended : (l : List ℕ) (t : ℕ) (x r : Result ℕ Refusal) (lens : List ℕ) → r ≡ x → lens ≡ filled l (t + 1) → Ended l t x r lens
 ended l t x r lens h f = record { gives = h; found = λ e q. f }

@@ -16,10 +16,12 @@ use Rattle.layout.specs.Tree.{node_of, fields, trees, tree_of, len_of, head_of, 
 use Rattle.layout.specs.Table.{onward, count, may_name_lem, refs, counted, many, container_end_lem, list_end_lem, vector_end_lem, leaf_word, leaf_end_lem, body_end_lem, types_end_lem, types_of, table_of, lengths_of}
 use Rattle.layout.specs.Legal.{Lower, LowerOrBare, LegalNode, Legal}
 use Rattle.layout.specs.Steps.{Known, Typed, Tabled}
-use Rattle.layout.specs.declared.Checked.{Checked}
-use Rattle.layout.specs.declared.Checked.TheVariants.{Bad, Upto}
 use Rattle.layout.proofs.Facts.{trees-get, each-kind, fields-none, heads-at, lower-here, lower-rest, filled-get, length-filled, head_len, legal-more}
 use Rattle.layout.proofs.Trees.{legal_tree, len_small}
+use Rattle.std.specs.declared.result.Result.{Result}
+use Rattle.std.specs.declared.result.Result.TheVariants.{Ok, Err}
+use Rattle.standard.specs.declared.Refusal.{Refusal}
+use Rattle.standard.specs.declared.Refusal.TheVariants.{BadLayout}
 
 -- A found length, as a head.
 module _ (lens l : List ℕ) (k : ℕ) (g : Known lens l k) (f : ℕ) (h : f < k) where
@@ -46,22 +48,22 @@ below-nine k h n = omega arith
 
 -- The loop of `refs_end`.
 pub refs_cons : (l : List ℕ) (t : ℕ) (none : Bool) (a left : ℕ) → 0 < left →
-    refs l t none a left ≡ pick (ltb a (count l)) (pick (may_name_lem (word_at l a) t none) (refs l t none (a + 1) (left - 1)) (Bad a)) (Bad (count l))
+    refs l t none a left ≡ pick (ltb a (count l)) (pick (may_name_lem (word_at l a) t none) (refs l t none (a + 1) (left - 1)) (Err (BadLayout a))) (Err (BadLayout (count l)))
 unfolding refs
 refs_cons l t none a zero h = absurd (omega arith)
 refs_cons l t none a (suc n) h = let e : suc n - 1 ≡ n = omega arith in rw e
 
-pub refs-none : (l : List ℕ) (t : ℕ) (none : Bool) (a left : ℕ) → left ≤ 0 → refs l t none a left ≡ Upto a
+pub refs-none : (l : List ℕ) (t : ℕ) (none : Bool) (a left : ℕ) → left ≤ 0 → refs l t none a left ≡ Ok a
 unfolding refs
 refs-none l t none a zero h = refl
 refs-none l t none a (suc n) h = absurd (omega arith)
 
-module _ (l : List ℕ) (t : ℕ) (none : Bool) (a left : ℕ) (x : Checked) (p : 0 < left) (e : refs l t none a left ≡ x) where
-  pub refs_missing : count l ≤ a → Bad (count l) ≡ x
+module _ (l : List ℕ) (t : ℕ) (none : Bool) (a left : ℕ) (x : Result ℕ Refusal) (p : 0 < left) (e : refs l t none a left ≡ x) where
+  pub refs_missing : count l ≤ a → Err (BadLayout (count l)) ≡ x
   refs_missing h = rw (refs_cons l t none a left p, le-ltb _ _ h) at e
 
   module _ (w : ℕ) (ok : Bool) (h : a < count l) (q : w ≡ word_at l a) (r : ok ≡ may_name_lem w t none) where
-    pub refs-wrong : ok ≡ false → Bad a ≡ x
+    pub refs-wrong : ok ≡ false → Err (BadLayout a) ≡ x
     refs-wrong s = rw (refs_cons l t none a left p, lt-ltb _ _ h, ← q, ← r, s) at e
 
     pub refs-next : ok ≡ true → refs l t none (a + 1) (left - 1) ≡ x
@@ -86,24 +88,24 @@ module _ (l : List ℕ) (t a₀ n a left sum f : ℕ) (s : Adding l t a₀ n a l
       record { tests = adding-tests; some = omega arith; place = omega (arith, s.place); bound = omega arith; same = omega arith }
 
 pub adding-end : (l : List ℕ) (t a₀ n a left sum : ℕ) → Adding l t a₀ n a left sum → left ≤ 0 →
-    (Upto a ≡ refs l t false a₀ n) × (sum ≡ portion (heads (fields l (trees l t) a₀ n)))
+    (Ok a ≡ refs l t false a₀ n) × (sum ≡ portion (heads (fields l (trees l t) a₀ n)))
 unfolding heads portion
 adding-end l t a₀ n a left sum s h =
     (sym (refs-none l t false a left h) ∙ s.tests, omega (arith, rw (fields-none l (trees l t) a left h) at s.same))
 
 -- An accepted answer, by its tests.
-upto_left : (c : Bool) (u : Checked) (w e : ℕ) → pick c u (Bad w) ≡ Upto e → (c ≡ true) × (u ≡ Upto e)
+upto_left : (c : Bool) (u : Result ℕ Refusal) (w e : ℕ) → pick c u (Err (BadLayout w)) ≡ Ok e → (c ≡ true) × (u ≡ Ok e)
 upto_left true u w e h = (refl, h)
 upto_left false u w e h = let z : ◌≡◌ {A = ℕ} 0 1 = cc in absurd (omega arith)
 
-upto-onward : (x : Checked) (k : ℕ → Checked) (e : ℕ) → onward x k ≡ Upto e → (i : ℕ) × (x ≡ Upto i) × (k i ≡ Upto e)
-upto-onward (Bad w) k e h = let z : ◌≡◌ {A = ℕ} 0 1 = cc in absurd (omega arith)
-upto-onward (Upto i) k e h = (i, refl, h)
+upto-onward : (x : Result ℕ Refusal) (k : ℕ → (Result ℕ Refusal)) (e : ℕ) → onward x k ≡ Ok e → (i : ℕ) × (x ≡ Ok i) × (k i ≡ Ok e)
+upto-onward (Err (BadLayout w)) k e h = let z : ◌≡◌ {A = ℕ} 0 1 = cc in absurd (omega arith)
+upto-onward (Ok i) k e h = (i, refl, h)
 
-pub upto_inj : (i j : ℕ) → Upto i ≡ Upto j → i ≡ j
+pub upto_inj : (i j : ℕ) → Ok i ≡ Ok j → i ≡ j
 upto_inj i j g = cc
 
-pub bad-upto : {A : Type 0} (i e : ℕ) → Bad i ≡ Upto e → A
+pub bad-upto : {A : Type 0} (i e : ℕ) → Err (BadLayout i) ≡ Ok e → A
 bad-upto i e h = let z : ◌≡◌ {A = ℕ} 0 1 = cc in absurd (omega arith)
 
 both_true : (a b : Bool) → and_also a b ≡ true → (a ≡ true) × (b ≡ true)
@@ -126,7 +128,7 @@ may_bare w t none h q = go (ltb w t) none refl (rw (ne_eqb _ _ q) at h)
     go false false p r = let z : ◌≡◌ {A = ℕ} 0 1 = cc in absurd (omega arith)
 
 -- Accepted references are within the table, and each may stand there.
-refs_say : (l : List ℕ) (t : ℕ) (none : Bool) (n a e : ℕ) → a ≤ count l → refs l t none a n ≡ Upto e →
+refs_say : (l : List ℕ) (t : ℕ) (none : Bool) (n a e : ℕ) → a ≤ count l → refs l t none a n ≡ Ok e →
     (e ≤ count l) × (e ≡ a + n) × ((i : ℕ) → i < n → may_name_lem (word_at l (a + i)) t none ≡ true)
 unfolding refs
 refs_say l t none zero a e k h = (omega (arith, upto_inj a e h), omega (arith, upto_inj a e h), λ i q. absurd (omega arith))
@@ -141,13 +143,13 @@ refs_say l t none (suc n) a e k h =
     all x f zero j = rw add-zero x
     all x f (suc i) j = let s : a + suc i ≡ a + 1 + i = omega arith in rw s (f i (omega arith))
 
-pub refs-cut : (l : List ℕ) (t n a e : ℕ) → a ≤ count l → count l < a + n → refs l t false a n ≡ Upto e → ⊥
+pub refs-cut : (l : List ℕ) (t n a e : ℕ) → a ≤ count l → count l < a + n → refs l t false a n ≡ Ok e → ⊥
 refs-cut l t n a e k h r = let s = refs_say l t false n a e k r in omega (arith, s.0, s.1)
 
 -- And references to lower types within the table are accepted.
-pub refs-lower : (l : List ℕ) (t n a : ℕ) → Lower l t a n → a + n ≤ count l → refs l t false a n ≡ Upto (a + n)
+pub refs-lower : (l : List ℕ) (t n a : ℕ) → Lower l t a n → a + n ≤ count l → refs l t false a n ≡ Ok (a + n)
 unfolding refs
-refs-lower l t zero a g h = ap Upto (omega arith)
+refs-lower l t zero a g h = ap Ok (omega arith)
 refs-lower l t (suc n) a g h =
     let f = lower-here l t a (suc n) g (omega arith) in
     let e : suc n - 1 ≡ n = omega arith in
@@ -169,17 +171,17 @@ pub record Counted (l : List ℕ) (at most n : ℕ) : Type 0 where
   pub some : 1 ≤ n
   pub few : n ≤ most
 
-pub counted-says : (l : List ℕ) (at most n : ℕ) → counted l at most ≡ Upto n → Counted l at most n
+pub counted-says : (l : List ℕ) (at most n : ℕ) → counted l at most ≡ Ok n → Counted l at most n
 unfolding counted
 counted-says l at most n h =
     let w = word_at l (at + 1) in
     let p = upto_left (ltb (at + 1) (count l)) _ (count l) n h in
-    let q = upto_left (and_also (ltb 0 w) (leb w most)) (Upto w) (at + 1) n p.1 in
+    let q = upto_left (and_also (ltb 0 w) (leb w most)) (Ok w) (at + 1) n p.1 in
     let r = both_true (ltb 0 w) (leb w most) q.0 in
     let e : n ≡ w = sym (upto_inj w n q.1) in
     record { there = ltb-true _ _ p.0; word = e; some = rw e (ltb-true _ _ r.0); few = rw e (leb-true _ _ r.1) }
 
-pub many-says : (l : List ℕ) (t at most : ℕ) (none : Bool) (e : ℕ) → many l t at none most ≡ Upto e → Many l t at most none e
+pub many-says : (l : List ℕ) (t at most : ℕ) (none : Bool) (e : ℕ) → many l t at none most ≡ Ok e → Many l t at most none e
 unfolding many
 many-says l t at most none e h =
     let p = upto-onward (counted l at most) (λ n. refs l t none (at + 2) n) e h in
@@ -196,21 +198,21 @@ unfolding LowerOrBare
 many-bare l t at most e m = λ i h q. may_bare _ t true (m.each i h) q
 
 -- An accepted body, by its kind.
-container-says : (l : List ℕ) (t at e : ℕ) → container_end_lem l t at ≡ Upto e →
+container-says : (l : List ℕ) (t at e : ℕ) → container_end_lem l t at ≡ Ok e →
     Many l t at 64 false e × (portion (heads (fields l (trees l t) (at + 2) (word_at l (at + 1)))) < 2 ^ 32)
 unfolding container_end_lem
 container-says l t at e h =
     let p = upto-onward (many l t at false 64) _ e h in
-    let q = upto_left (leb (portion (heads (fields l (trees l t) (at + 2) (word_at l (at + 1))))) 4294967295) (Upto p.0) at e p.2 in
+    let q = upto_left (leb (portion (heads (fields l (trees l t) (at + 2) (word_at l (at + 1))))) 4294967295) (Ok p.0) at e p.2 in
     let w : p.0 ≡ e = upto_inj p.0 e q.1 in
     let s : portion (heads (fields l (trees l t) (at + 2) (word_at l (at + 1)))) ≤ 4294967295 = leb-true _ _ q.0 in
     (rw w at (many-says l t at 64 false p.0 p.1), omega arith)
 
-leaf-says : (l : List ℕ) (at e : ℕ) → leaf_end_lem l at ≡ Upto e → (leaf_word (word_at l at) (word_at l (at + 1)) ≡ true) × (e ≤ count l)
+leaf-says : (l : List ℕ) (at e : ℕ) → leaf_end_lem l at ≡ Ok e → (leaf_word (word_at l at) (word_at l (at + 1)) ≡ true) × (e ≤ count l)
 unfolding leaf_end_lem
 leaf-says l at e h =
     let p = upto_left (ltb (at + 1) (count l)) _ (count l) e h in
-    let q = upto_left (leaf_word (word_at l at) (word_at l (at + 1))) (Upto (at + 2)) (at + 1) e p.1 in
+    let q = upto_left (leaf_word (word_at l at) (word_at l (at + 1))) (Ok (at + 2)) (at + 1) e p.1 in
     (q.0, omega (arith, upto_inj (at + 2) e q.1, ltb-true (at + 1) (count l) p.0))
 
 -- An accepted list or vector: its element's type is lower, and the number behind it is there and ends it.
@@ -219,23 +221,23 @@ pub record Element (l : List ℕ) (t at e : ℕ) : Type 0 where
   pub third : at + 2 < count l
   pub ends : e ≡ at + 3
 
-pub element-lower : (l : List ℕ) (t a e : ℕ) → refs l t false a 1 ≡ Upto e → (word_at l a < t) × (e ≡ a + 1)
+pub element-lower : (l : List ℕ) (t a e : ℕ) → refs l t false a 1 ≡ Ok e → (word_at l a < t) × (e ≡ a + 1)
 unfolding refs
 element-lower l t a e h =
     let p = upto_left (ltb a (count l)) _ (count l) e h in
-    let q = upto_left (may_name_lem (word_at l a) t false) (Upto (a + 1)) a e p.1 in
+    let q = upto_left (may_name_lem (word_at l a) t false) (Ok (a + 1)) a e p.1 in
     (may_lower _ t false q.0 refl, sym (upto_inj (a + 1) e q.1))
 
-list-says : (l : List ℕ) (t at e : ℕ) → list_end_lem l t at ≡ Upto e → Element l t at e
+list-says : (l : List ℕ) (t at e : ℕ) → list_end_lem l t at ≡ Ok e → Element l t at e
 unfolding list_end_lem
 list-says l t at e h =
     let p = upto-onward (refs l t false (at + 1) 1) _ e h in
     let x = element-lower l t (at + 1) p.0 p.1 in
-    let q = upto_left (ltb p.0 (count l)) (Upto (p.0 + 1)) (count l) e p.2 in
+    let q = upto_left (ltb p.0 (count l)) (Ok (p.0 + 1)) (count l) e p.2 in
     let i = ltb-true p.0 (count l) q.0 in
     record { lower = x.0; third = omega (arith, x.1); ends = omega (arith, x.1, upto_inj (p.0 + 1) e q.1) }
 
-vector-says : (l : List ℕ) (t at e : ℕ) → vector_end_lem l t at ≡ Upto e →
+vector-says : (l : List ℕ) (t at e : ℕ) → vector_end_lem l t at ≡ Ok e →
     Element l t at e × (1 ≤ word_at l (at + 2)) × (word_at l (at + 2) * width (head (tree_of l (word_at l (at + 1)))) < 2 ^ 32)
 unfolding vector_end_lem
 vector-says l t at e h =
@@ -246,7 +248,7 @@ vector-says l t at e h =
     let k = counted-says l (at + 1) 4294967295 q.0 q.1 in
     let w = rw two at k.word in
     let size = q.0 * width (head (get_or (trees l t) (word_at l (at + 1)) (boolean 0))) in
-    let r = upto_left (leb size 4294967295) (Upto (at + 3)) at e q.2 in
+    let r = upto_left (leb size 4294967295) (Ok (at + 3)) at e q.2 in
     let s : size ≤ 4294967295 = leb-true size 4294967295 r.0 in (
       record { lower = f; third = omega (arith, k.there); ends = sym (upto_inj (at + 3) e r.1) },
       rw w at k.some,
@@ -256,39 +258,39 @@ vector-says l t at e h =
     narrow : (n m : ℕ) (x y : Ty) → n ≡ m → x ≡ y → n * width (head x) < 2 ^ 32 → m * width (head y) < 2 ^ 32
     narrow n m x y e f h = rw (← e, ← f) h
 
-module _ (l : List ℕ) (t at e : ℕ) (h : body_end_lem l t at ≡ Upto e) where
+module _ (l : List ℕ) (t at e : ℕ) (h : body_end_lem l t at ≡ Ok e) where
   body-there : at < count l
   unfolding body_end_lem
   body-there = ltb-true _ _ (upto_left (ltb at (count l)) _ (count l) e h).0
 
   -- the answer of a leaf's kind, and of an unknown one
-  abbrev at_leaf : ℕ → Checked
-  at_leaf k = pick (eqb k 1) (Upto (at + 1)) (pick (ltb k 6) (leaf_end_lem l at) (Bad at))
+  abbrev at_leaf : ℕ → Result ℕ Refusal
+  at_leaf k = pick (eqb k 1) (Ok (at + 1)) (pick (ltb k 6) (leaf_end_lem l at) (Err (BadLayout at)))
 
   -- the answer of the kind
-  abbrev at-kind : ℕ → Checked
+  abbrev at-kind : ℕ → Result ℕ Refusal
   at-kind k =
       pick (eqb k 6) (container_end_lem l t at)
       (pick (eqb k 7) (many l t at true 128) (pick (eqb k 8) (list_end_lem l t at) (pick (eqb k 9) (vector_end_lem l t at) (at_leaf k))))
 
-  body-kind : (k : ℕ) → word_at l at ≡ k → at-kind k ≡ Upto e
+  body-kind : (k : ℕ) → word_at l at ≡ k → at-kind k ≡ Ok e
   unfolding body_end_lem
   body-kind k q = rw q at (upto_left (ltb at (count l)) _ (count l) e h).1
 
-  six : word_at l at ≡ 6 → container_end_lem l t at ≡ Upto e
+  six : word_at l at ≡ 6 → container_end_lem l t at ≡ Ok e
   six k = body-kind 6 k
 
-  seven : word_at l at ≡ 7 → many l t at true 128 ≡ Upto e
+  seven : word_at l at ≡ 7 → many l t at true 128 ≡ Ok e
   seven k = body-kind 7 k
 
-  eight : word_at l at ≡ 8 → list_end_lem l t at ≡ Upto e
+  eight : word_at l at ≡ 8 → list_end_lem l t at ≡ Ok e
   eight k = body-kind 8 k
 
-  nine : word_at l at ≡ 9 → vector_end_lem l t at ≡ Upto e
+  nine : word_at l at ≡ 9 → vector_end_lem l t at ≡ Ok e
   nine k = body-kind 9 k
 
   -- neither a container, a union, a list nor a vector
-  other : (6 ≤ word_at l at → word_at l at ≤ 9 → ⊥) → at_leaf (word_at l at) ≡ Upto e
+  other : (6 ≤ word_at l at → word_at l at ≤ 9 → ⊥) → at_leaf (word_at l at) ≡ Ok e
   other k =
       rw (
         ne_eqb (word_at l at) 6 (λ (q : word_at l at ≡ 6). k (omega arith) (omega arith)),
@@ -297,7 +299,7 @@ module _ (l : List ℕ) (t at e : ℕ) (h : body_end_lem l t at ≡ Upto e) wher
         ne_eqb (word_at l at) 9 (λ (q : word_at l at ≡ 9). k (omega arith) (omega arith)),
       ) at (body-kind (word_at l at) refl)
 
-  leaf : word_at l at < 6 → (word_at l at ≡ 1 → ⊥) → leaf_end_lem l at ≡ Upto e
+  leaf : word_at l at < 6 → (word_at l at ≡ 1 → ⊥) → leaf_end_lem l at ≡ Ok e
   leaf k n = rw (ne_eqb _ _ n, lt-ltb _ _ k) at (other (λ (i : 6 ≤ word_at l at) j. omega arith))
 
   body-known : word_at l at ≤ 9
@@ -382,7 +384,7 @@ pub record Checking (l lens : List ℕ) (n t at : ℕ) : Type 0 where
   pub same : types_end_lem l (n - t) t at ≡ types_end_lem l n 0 (n + 1)
 
 types_cons : (l : List ℕ) (k t at : ℕ) → 0 < k → types_end_lem l k t at ≡
-    pick (eqb (word_at l (1 + t)) at) (onward (body_end_lem l t at) (λ e. types_end_lem l (k - 1) (t + 1) e)) (Bad (1 + t))
+    pick (eqb (word_at l (1 + t)) at) (onward (body_end_lem l t at) (λ e. types_end_lem l (k - 1) (t + 1) e)) (Err (BadLayout (1 + t)))
 unfolding types_end_lem
 types_cons l zero t at h = absurd (omega arith)
 types_cons l (suc k) t at h = let e : suc k - 1 ≡ k = omega arith in rw e
@@ -392,17 +394,17 @@ module _ (l lens : List ℕ) (n t at : ℕ) (g : Checking l lens n t at) (p : t 
   checking_listed = omega (arith, g.listed)
 
 module _ (l lens : List ℕ) (n t at : ℕ) (g : Checking l lens n t at) (p : t < n) (w : ℕ) (q : w ≡ word_at l (1 + t)) where
-  pub checking_start : (w ≡ at → ⊥) → Bad (1 + t) ≡ types_end_lem l n 0 (n + 1)
+  pub checking_start : (w ≡ at → ⊥) → Err (BadLayout (1 + t)) ≡ types_end_lem l n 0 (n + 1)
   checking_start k = rw (types_cons l (n - t) t at (omega arith), ← q, ne_eqb _ _ k) at g.same
 
   module _ (k : w ≡ at) where
     checking_body : onward (body_end_lem l t at) (λ e. types_end_lem l (n - t - 1) (t + 1) e) ≡ types_end_lem l n 0 (n + 1)
     checking_body = rw (types_cons l (n - t) t at (omega arith), ← q, eq-eqb _ _ k) at g.same
 
-    pub checking_bad : (i : ℕ) → Bad i ≡ body_end_lem l t at → Bad i ≡ types_end_lem l n 0 (n + 1)
+    pub checking_bad : (i : ℕ) → Err (BadLayout i) ≡ body_end_lem l t at → Err (BadLayout i) ≡ types_end_lem l n 0 (n + 1)
     checking_bad i h = rw (← h) at checking_body
 
-    module _ (b : Bytes l) (e : ℕ) (h : Upto e ≡ body_end_lem l t at) where
+    module _ (b : Bytes l) (e : ℕ) (h : Ok e ≡ body_end_lem l t at) where
       pub checking_legal : Legal l (t + 1)
       checking_legal = legal-more l t g.known.legal (body-legal l t at e (sym h) b (checking_listed l lens n t at g p) (sym q ∙ k))
 
@@ -417,24 +419,24 @@ module _ (l lens : List ℕ) (n t at : ℕ) (g : Checking l lens n t at) (p : t 
             same = rw (← h, i) at checking_body;
           }
 
-pub checking_end : (l lens : List ℕ) (n t at : ℕ) → Checking l lens n t at → n ≤ t → (Upto at ≡ types_end_lem l n 0 (n + 1)) × (lens ≡ filled l n)
+pub checking_end : (l lens : List ℕ) (n t at : ℕ) → Checking l lens n t at → n ≤ t → (Ok at ≡ types_end_lem l n 0 (n + 1)) × (lens ≡ filled l n)
 unfolding types_end_lem
 checking_end l lens n t at g h =
     let e : n - t ≡ 0 = omega (arith, g.some) in
     let f : t ≡ n = omega (arith, g.some) in
     (rw e at g.same, rw f at g.known.found)
 
-pub typed-bad : (l : List ℕ) (n i : ℕ) (lens : List ℕ) → Bad i ≡ types_end_lem l n 0 (n + 1) → Typed l n (Bad i) lens
+pub typed-bad : (l : List ℕ) (n i : ℕ) (lens : List ℕ) → Err (BadLayout i) ≡ types_end_lem l n 0 (n + 1) → Typed l n (Err (BadLayout i)) lens
 typed-bad l n i lens h = record { gives = h; found = λ e q. bad-upto i e q }
 
-pub tabled-bad : (l : List ℕ) (i : ℕ) (lens : List ℕ) → Bad i ≡ table_of l → Tabled l (Bad i) lens
+pub tabled-bad : (l : List ℕ) (i : ℕ) (lens : List ℕ) → Err (BadLayout i) ≡ table_of l → Tabled l (Err (BadLayout i)) lens
 tabled-bad l i lens h = record { gives = h; found = λ n q. bad-upto i n q }
 
-pub tabled : (l : List ℕ) (n : ℕ) (lens : List ℕ) → Upto n ≡ table_of l → lens ≡ filled l n → Tabled l (Upto n) lens
+pub tabled : (l : List ℕ) (n : ℕ) (lens : List ℕ) → Ok n ≡ table_of l → lens ≡ filled l n → Tabled l (Ok n) lens
 tabled l n lens h f = record { gives = h; found = λ m q. rw (← upto_inj n m q) f }
 
 -- The types of an accepted table are legal.
-types-legal : (l : List ℕ) (k t at e : ℕ) → Bytes l → t + k < count l → Legal l t → types_end_lem l k t at ≡ Upto e → Legal l (t + k)
+types-legal : (l : List ℕ) (k t at e : ℕ) → Bytes l → t + k < count l → Legal l t → types_end_lem l k t at ≡ Ok e → Legal l (t + k)
 unfolding types_end_lem
 types-legal l zero t at e b i g h = rw add-zero g
 types-legal l (suc k) t at e b i g h =
@@ -449,13 +451,13 @@ unfolding Legal
 no-types l t h = absurd (omega arith)
 
 -- The number of types, where there is one.
-pub types_say : (l : List ℕ) (n : ℕ) → types_of l ≡ Upto n → (1 ≤ n) × (n ≤ 64) × (n < count l)
+pub types_say : (l : List ℕ) (n : ℕ) → types_of l ≡ Ok n → (1 ≤ n) × (n ≤ 64) × (n < count l)
 unfolding types_of
 types_say l n h =
     let p = upto_left (eqb (length l % 4) 0) _ (count l) n h in
     let q = upto_left (ltb 0 (count l)) _ 0 n p.1 in
     let r = upto_left (and_also (ltb 0 (word_at l 0)) (leb (word_at l 0) 64)) _ 0 n q.1 in
-    let s = upto_left (ltb (word_at l 0) (count l)) (Upto (word_at l 0)) (count l) n r.1 in
+    let s = upto_left (ltb (word_at l 0) (count l)) (Ok (word_at l 0)) (count l) n r.1 in
     let w = both_true (ltb 0 (word_at l 0)) (leb (word_at l 0) 64) r.0 in
     let e : word_at l 0 ≡ n = upto_inj (word_at l 0) n s.1 in
     let some : 1 ≤ word_at l 0 = omega (arith, ltb-true 0 (word_at l 0) w.0) in
@@ -468,12 +470,12 @@ pub nothing_known : (l : List ℕ) → Known (replicate 64 0) l 0
 unfolding filled lengths
 nothing_known l = record { found = refl; legal = no-types l; few = omega arith }
 
-pub table_legal : (l : List ℕ) (n : ℕ) → Bytes l → table_of l ≡ Upto n → Legal l n × (1 ≤ n) × (n ≤ 64)
+pub table_legal : (l : List ℕ) (n : ℕ) → Bytes l → table_of l ≡ Ok n → Legal l n × (1 ≤ n) × (n ≤ 64)
 unfolding table_of
 table_legal l n b h =
     let p = upto-onward (types_of l) _ n h in
     let q = upto-onward (types_end_lem l p.0 0 (p.0 + 1)) _ n p.2 in
-    let r = upto_left (eqb q.0 (count l)) (Upto p.0) q.0 n q.2 in
+    let r = upto_left (eqb q.0 (count l)) (Ok p.0) q.0 n q.2 in
     let e : p.0 ≡ n = upto_inj p.0 n r.1 in
     let s = types_say l p.0 p.1 in
     let none : Legal l 0 = no-types l in
@@ -481,7 +483,7 @@ table_legal l n b h =
     (rw z at (types-legal l p.0 0 (p.0 + 1) q.0 b (omega (arith, s.2)) none q.1), omega (arith, s.0), omega (arith, s.1))
 
 -- What `table_of` leaves.
-pub table_known : (l lens : List ℕ) (n : ℕ) → Bytes l → table_of l ≡ Upto n → lens ≡ lengths_of (table_of l) l → Known lens l n × (1 ≤ n)
+pub table_known : (l lens : List ℕ) (n : ℕ) → Bytes l → table_of l ≡ Ok n → lens ≡ lengths_of (table_of l) l → Known lens l n × (1 ≤ n)
 table_known l lens n b h e =
     let g = table_legal l n b h in
     (record { found = e ∙ rw h; legal = g.0; few = g.2 }, g.1)

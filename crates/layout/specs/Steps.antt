@@ -7,8 +7,10 @@ use Rattle.layout.specs.Table.{types_end_lem, table_of}
 use Rattle.layout.specs.Legal.{Legal}
 use Rattle.layout.specs.declared.Node.{Node}
 use Rattle.layout.specs.declared.Sizes.{Sizes}
-use Rattle.layout.specs.declared.Checked.{Checked}
-use Rattle.layout.specs.declared.Checked.TheVariants.{Bad, Upto}
+use Rattle.std.specs.declared.result.Result.{Result}
+use Rattle.std.specs.declared.result.Result.TheVariants.{Ok, Err}
+use Rattle.standard.specs.declared.Refusal.{Refusal}
+use Rattle.standard.specs.declared.Refusal.TheVariants.{BadLayout}
 
 -- The first k types of the table l are legal, and their lengths stand in lens.
 pub record Known (lens l : List ℕ) (k : ℕ) : Type 0 where
@@ -22,9 +24,9 @@ leaf_len_lem n = len_of (head (leaf_of 0 n))
 
 -- Where the words of some fields end, what the fields take of a fixed portion, and their length, where 0 stands for variable size; or the
 -- first bad word alone
-unfoldable pub sizes_of : Checked → Tys → Sizes
-sizes_of (Bad w) ts = record { end = Bad w; portion = 0; length = 0 }
-sizes_of (Upto e) ts = record { end = Upto e; portion = portion (heads ts); length = len_of (head_all ts) }
+unfoldable pub sizes_of : Result ℕ Refusal → Tys → Sizes
+sizes_of (Err (BadLayout w)) ts = record { end = Err (BadLayout w); portion = 0; length = 0 }
+sizes_of (Ok e) ts = record { end = Ok e; portion = portion (heads ts); length = len_of (head_all ts) }
 
 -- r is the length of the type t, and lens' has it.
 pub record Lengthened (l : List ℕ) (known t r : ℕ) (lens' : List ℕ) : Type 0 where
@@ -32,16 +34,16 @@ pub record Lengthened (l : List ℕ) (known t r : ℕ) (lens' : List ℕ) : Type
   pub found : lens' ≡ filled l (pick (ltb t known) known (known + 1))
 
 -- r is where the body of the type t ends, or what is wrong, as x says; if it ends, lens' has its length too.
-pub record Ended (l : List ℕ) (t : ℕ) (x r : Checked) (lens' : List ℕ) : Type 0 where
+pub record Ended (l : List ℕ) (t : ℕ) (x r : Result ℕ Refusal) (lens' : List ℕ) : Type 0 where
   pub gives : r ≡ x
-  pub found : (e : ℕ) → r ≡ Upto e → lens' ≡ filled l (t + 1)
+  pub found : (e : ℕ) → r ≡ Ok e → lens' ≡ filled l (t + 1)
 
 -- r is where the n types end; if they do, lens' has their lengths.
-pub record Typed (l : List ℕ) (n : ℕ) (r : Checked) (lens' : List ℕ) : Type 0 where
+pub record Typed (l : List ℕ) (n : ℕ) (r : Result ℕ Refusal) (lens' : List ℕ) : Type 0 where
   pub gives : r ≡ types_end_lem l n 0 (n + 1)
-  pub found : (e : ℕ) → r ≡ Upto e → lens' ≡ filled l n
+  pub found : (e : ℕ) → r ≡ Ok e → lens' ≡ filled l n
 
 -- r is what the table l says; if it is legal, lens' has its types' lengths.
-pub record Tabled (l : List ℕ) (r : Checked) (lens' : List ℕ) : Type 0 where
+pub record Tabled (l : List ℕ) (r : Result ℕ Refusal) (lens' : List ℕ) : Type 0 where
   pub gives : r ≡ table_of l
-  pub found : (n : ℕ) → r ≡ Upto n → lens' ≡ filled l n
+  pub found : (n : ℕ) → r ≡ Ok n → lens' ≡ filled l n

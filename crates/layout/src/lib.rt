@@ -6,12 +6,11 @@ ghost use Rattle.standard.specs.Bytes.{word_at};
 ghost use Rattle.standard.specs.Types.{is_width, width};
 ghost use Rattle.layout.specs.Tree.{node_of, fields, trees, head_of};
 ghost use Rattle.layout.specs.Table.{count, may_name_lem, refs, counted, many, container_end_lem, list_end_lem, vector_end_lem, leaf_word, leaf_end_lem, body_end_lem, types_end_lem, types_of, table_of, lengths_of, told_of};
-ghost use Rattle.layout.specs.declared.Checked.TheVariants.{Bad};
 ghost use Rattle.layout.specs.Legal.{Legal};
 ghost use Rattle.layout.specs.Steps.{Known, leaf_len_lem, sizes_of, Lengthened, Ended, Typed, Tabled};
 
 use standard::words::{four_at, word_at};
-use standard::{Refusal, Told};
+use standard::Refusal;
 
 // What stands in an option's place where it has no body.
 pub const NO_BODY: usize = 4294967295;
@@ -24,18 +23,11 @@ pub struct Node {
     pub second: usize,
 }
 
-// What the check of a table finds: the first bad word, or how far it is well.
-#[derive(Clone, Copy)]
-pub enum Checked {
-    Bad(usize),
-    Upto(usize),
-}
-
 // Where the words of some fields end, or the first bad one; what the fields take of a fixed portion, and how long they are, 0 if one of them is
 // of variable size.
 #[derive(Clone, Copy)]
 struct Sizes {
-    end: Checked,
+    end: Result<usize, Refusal>,
     portion: usize,
     length: usize,
 }
@@ -85,7 +77,7 @@ fn may_name(w: usize, t: usize, none: bool) -> bool
 }
 
 // The n words from a0 on are there, and name types below t, or no body where that may be.
-fn refs_end(layout: &[u8], t: usize, none: bool, a0: usize, n: usize) -> Checked
+fn refs_end(layout: &[u8], t: usize, none: bool, a0: usize, n: usize) -> Result<usize, Refusal>
     ensures { result ≡ refs layout.now t none a0 n }
 {
     let words = layout.len() / 4;
@@ -93,50 +85,50 @@ fn refs_end(layout: &[u8], t: usize, none: bool, a0: usize, n: usize) -> Checked
     let mut left = n;
     while left > 0 {
         if a >= words {
-            return Checked::Bad(words);
+            return Err(Refusal::BadLayout(words));
         }
         let w = word_at(layout, a);
         let ok = may_name(w, t, none);
         if !ok {
-            return Checked::Bad(a);
+            return Err(Refusal::BadLayout(a));
         }
         a += 1;
         left -= 1;
     }
-    Checked::Upto(a)
+    Ok(a)
 }
 
 // A number of 1 to most at the word behind at.
 #[tactic(auto, unfolding(crate::specs::Table::counted, crate::specs::Table::count))]
-fn count_at(layout: &[u8], at: usize, most: usize) -> Checked
+fn count_at(layout: &[u8], at: usize, most: usize) -> Result<usize, Refusal>
     requires { at ≤ 2 ^ 61 }
     ensures { result ≡ counted layout.now at most }
 {
     let words = layout.len() / 4;
     let next = at + 1;
     if next >= words {
-        return Checked::Bad(words);
+        return Err(Refusal::BadLayout(words));
     }
     let n = word_at(layout, next);
     if n == 0 {
-        return Checked::Bad(next);
+        return Err(Refusal::BadLayout(next));
     }
     if n > most {
-        return Checked::Bad(next);
+        return Err(Refusal::BadLayout(next));
     }
-    Checked::Upto(n)
+    Ok(n)
 }
 
 // The options of the union t at the word at: their number, and as many references.
 #[tactic(auto, unfolding(crate::specs::Table::many))]
-fn union_end(layout: &[u8], t: usize, at: usize) -> Checked
+fn union_end(layout: &[u8], t: usize, at: usize) -> Result<usize, Refusal>
     requires { at ≤ 2 ^ 61 }
     ensures { result ≡ many layout.now t at true 128 }
 {
     let options = count_at(layout, at, 128);
     match options {
-        Checked::Bad(w) => Checked::Bad(w),
-        Checked::Upto(n) => refs_end(layout, t, true, at + 2, n),
+        Err(e) => Err(e),
+        Ok(n) => refs_end(layout, t, true, at + 2, n),
     }
 }
 
@@ -210,23 +202,23 @@ fn keep(lens: &mut [u32; 64], t: usize, n: Node)
 
 // A leaf with one word behind its kind; its length goes to `lens`.
 #[tactic(auto, unfolding(crate::specs::Table::leaf_end_lem, crate::specs::Table::count))]
-fn leaf_end(lens: &mut [u32; 64], layout: &[u8], t: usize, kind: usize, at: usize) -> Checked
+fn leaf_end(lens: &mut [u32; 64], layout: &[u8], t: usize, kind: usize, at: usize) -> Result<usize, Refusal>
     requires { Known lens.old layout.now t × (t < 64) × (at < 2 ^ 32) × (at ≡ word_at layout.now (1 + t)) × (kind ≡ word_at layout.now at) × (kind < 6) }
     ensures { Ended layout.now t (leaf_end_lem layout.now at) result lens.new }
 {
     let words = layout.len() / 4;
     let next = at + 1;
     if next >= words {
-        return Checked::Bad(words);
+        return Err(Refusal::BadLayout(words));
     }
     let second = word_in(layout, next);
     let ok = leaf_ok(kind, second);
     if !ok {
-        return Checked::Bad(next);
+        return Err(Refusal::BadLayout(next));
     }
     let n = Node { kind, at, second };
     keep(lens, t, n);
-    Checked::Upto(next + 1)
+    Ok(next + 1)
 }
 
 // The fixed length of the type t: remembered below `known`, or worked out.
@@ -272,7 +264,7 @@ fn no_fields(w: usize) -> Sizes
     ensures { result ≡ record { end = Bad w; portion = 0; length = 0 } }
 {
     Sizes {
-        end: Checked::Bad(w),
+        end: Err(Refusal::BadLayout(w)),
         portion: 0,
         length: 0,
     }
@@ -312,7 +304,7 @@ fn fields_len(
     }
     let length = if fixed { portion } else { 0 };
     Sizes {
-        end: Checked::Upto(a),
+        end: Ok(a),
         portion,
         length,
     }
@@ -320,14 +312,14 @@ fn fields_len(
 
 // The container t at the word at: a number of fields, their words, and a fixed portion that fits an offset; its length goes to `lens`.
 #[tactic(auto, using(crate::proofs::Lengths::container_filled), unfolding(crate::specs::Table::container_end_lem, crate::specs::Table::many, crate::specs::Table::counted, crate::specs::Steps::sizes_of))]
-fn container_end(lens: &mut [u32; 64], layout: &[u8], t: usize, at: usize) -> Checked
+fn container_end(lens: &mut [u32; 64], layout: &[u8], t: usize, at: usize) -> Result<usize, Refusal>
     requires { Known lens.old layout.now t × (t < 64) × (at < 2 ^ 32) × (at ≡ word_at layout.now (1 + t)) × (word_at layout.now at ≡ 6) }
     ensures { Ended layout.now t (container_end_lem layout.now t at) result lens.new }
 {
     let fields = count_at(layout, at, 64);
     match fields {
-        Checked::Bad(w) => Checked::Bad(w),
-        Checked::Upto(n) => {
+        Err(e) => Err(e),
+        Ok(n) => {
             let first = at + 2;
             // only where a word is missing is each looked for
             if first + n > layout.len() / 4 {
@@ -336,13 +328,13 @@ fn container_end(lens: &mut [u32; 64], layout: &[u8], t: usize, at: usize) -> Ch
             let sizes = fields_len(lens, t, layout, t, first, n);
             let end = sizes.end;
             match end {
-                Checked::Bad(w) => Checked::Bad(w),
-                Checked::Upto(e) => {
+                Err(e) => Err(e),
+                Ok(e) => {
                     if sizes.portion > 4294967295 {
-                        return Checked::Bad(at);
+                        return Err(Refusal::BadLayout(at));
                     }
                     lens[t] = sizes.length as u32;
-                    Checked::Upto(e)
+                    Ok(e)
                 }
             }
         }
@@ -351,19 +343,19 @@ fn container_end(lens: &mut [u32; 64], layout: &[u8], t: usize, at: usize) -> Ch
 
 // The list t at the word at: its element's type, and any greatest count.
 #[tactic(auto, unfolding(crate::specs::Table::list_end_lem, crate::specs::Table::count))]
-fn list_end(layout: &[u8], t: usize, at: usize) -> Checked
+fn list_end(layout: &[u8], t: usize, at: usize) -> Result<usize, Refusal>
     requires { at ≤ 2 ^ 61 }
     ensures { result ≡ list_end_lem layout.now t at }
 {
     let words = layout.len() / 4;
     let named = refs_end(layout, t, false, at + 1, 1);
     match named {
-        Checked::Bad(w) => Checked::Bad(w),
-        Checked::Upto(e) => {
+        Err(e) => Err(e),
+        Ok(e) => {
             if e < words {
-                Checked::Upto(e + 1)
+                Ok(e + 1)
             } else {
-                Checked::Bad(words)
+                Err(Refusal::BadLayout(words))
             }
         }
     }
@@ -372,25 +364,25 @@ fn list_end(layout: &[u8], t: usize, at: usize) -> Checked
 // The vector t at the word at: its element's type, a count of at least 1, and a fixed portion that fits an offset; its length goes to `lens`.
 // An element of variable size has the length 0 there, and so has the vector.
 #[tactic(auto, using(crate::proofs::Lengths::vector_rules), unfolding(crate::specs::Table::vector_end_lem))]
-fn vector_end(lens: &mut [u32; 64], layout: &[u8], t: usize, at: usize) -> Checked
+fn vector_end(lens: &mut [u32; 64], layout: &[u8], t: usize, at: usize) -> Result<usize, Refusal>
     requires { Known lens.old layout.now t × (t < 64) × (at < 2 ^ 32) × (at ≡ word_at layout.now (1 + t)) × (word_at layout.now at ≡ 9) }
     ensures { Ended layout.now t (vector_end_lem layout.now t at) result lens.new }
 {
     let named = refs_end(layout, t, false, at + 1, 1);
     match named {
-        Checked::Bad(w) => Checked::Bad(w),
-        Checked::Upto(_) => {
+        Err(e) => Err(e),
+        Ok(_) => {
             let elements = count_at(layout, at + 1, 4294967295);
             match elements {
-                Checked::Bad(w) => Checked::Bad(w),
-                Checked::Upto(n) => {
+                Err(e) => Err(e),
+                Ok(n) => {
                     let f = word_at(layout, at + 1);
                     let len = lens[f] as usize;
                     if n * width_of(len) > 4294967295 {
-                        return Checked::Bad(at);
+                        return Err(Refusal::BadLayout(at));
                     }
                     lens[t] = (n * len) as u32;
-                    Checked::Upto(at + 3)
+                    Ok(at + 3)
                 }
             }
         }
@@ -399,13 +391,13 @@ fn vector_end(lens: &mut [u32; 64], layout: &[u8], t: usize, at: usize) -> Check
 
 // Where the body of type t ends, which starts at the word at; its length goes to `lens`.
 #[tactic(auto, unfolding(crate::specs::Table::body_end_lem, crate::specs::Table::count))]
-fn body_end(lens: &mut [u32; 64], layout: &[u8], t: usize, at: usize) -> Checked
+fn body_end(lens: &mut [u32; 64], layout: &[u8], t: usize, at: usize) -> Result<usize, Refusal>
     requires { Known lens.old layout.now t × (t < 64) × (at < 2 ^ 32) × (at ≡ word_at layout.now (1 + t)) }
     ensures { Ended layout.now t (body_end_lem layout.now t at) result lens.new }
 {
     let words = layout.len() / 4;
     if at >= words {
-        return Checked::Bad(words);
+        return Err(Refusal::BadLayout(words));
     }
     let kind = word_in(layout, at);
     if kind == 6 {
@@ -413,7 +405,7 @@ fn body_end(lens: &mut [u32; 64], layout: &[u8], t: usize, at: usize) -> Checked
     }
     if kind == 1 {
         lens[t] = 1;
-        return Checked::Upto(at + 1);
+        return Ok(at + 1);
     }
     if kind < 6 {
         return leaf_end(lens, layout, t, kind, at);
@@ -429,11 +421,11 @@ fn body_end(lens: &mut [u32; 64], layout: &[u8], t: usize, at: usize) -> Checked
     if kind == 9 {
         return vector_end(lens, layout, t, at);
     }
-    Checked::Bad(at)
+    Err(Refusal::BadLayout(at))
 }
 
 // Where the n types end, whose bodies follow the contents; their lengths go to `lens`.
-fn types_end(lens: &mut [u32; 64], layout: &[u8], n: usize) -> Checked
+fn types_end(lens: &mut [u32; 64], layout: &[u8], n: usize) -> Result<usize, Refusal>
     requires { Known lens.old layout.now 0 × (n ≤ 64) × (n < count layout.now) }
     ensures { Typed layout.now n result lens.new }
 {
@@ -443,65 +435,65 @@ fn types_end(lens: &mut [u32; 64], layout: &[u8], n: usize) -> Checked
         let next = 1 + t;
         let w = word_in(layout, next);
         if w != at {
-            return Checked::Bad(next);
+            return Err(Refusal::BadLayout(next));
         }
         let c = body_end(lens, layout, t, at);
         match c {
-            Checked::Bad(i) => {
-                return Checked::Bad(i);
+            Err(Refusal::BadLayout(i)) => {
+                return Err(Refusal::BadLayout(i));
             }
-            Checked::Upto(e) => {
+            Ok(e) => {
                 at = e;
             }
         }
         t += 1;
     }
-    Checked::Upto(at)
+    Ok(at)
 }
 
 // The first tests: whole words, the number of types, and that each has a start word.
 #[tactic(auto, unfolding(crate::specs::Table::types_of, crate::specs::Table::count))]
-fn types_of(layout: &[u8]) -> Checked
+fn types_of(layout: &[u8]) -> Result<usize, Refusal>
     ensures { result ≡ types_of layout.now }
 {
     let words = layout.len() / 4;
     if layout.len() % 4 != 0 {
-        return Checked::Bad(words);
+        return Err(Refusal::BadLayout(words));
     }
     if words == 0 {
-        return Checked::Bad(0);
+        return Err(Refusal::BadLayout(0));
     }
     let n = word_at(layout, 0);
     if n == 0 {
-        return Checked::Bad(0);
+        return Err(Refusal::BadLayout(0));
     }
     if n > 64 {
-        return Checked::Bad(0);
+        return Err(Refusal::BadLayout(0));
     }
     if n >= words {
-        return Checked::Bad(words);
+        return Err(Refusal::BadLayout(words));
     }
-    Checked::Upto(n)
+    Ok(n)
 }
 
 // The whole table, from lengths that are all 0.
 #[tactic(auto, unfolding(crate::specs::Table::table_of, crate::specs::Table::count))]
-fn table_end(lens: &mut [u32; 64], layout: &[u8]) -> Checked
+fn table_end(lens: &mut [u32; 64], layout: &[u8]) -> Result<usize, Refusal>
     requires { Known lens.old layout.now 0 }
     ensures { Tabled layout.now result lens.new }
 {
     let begun = types_of(layout);
     match begun {
-        Checked::Bad(w) => Checked::Bad(w),
-        Checked::Upto(n) => {
+        Err(e) => Err(e),
+        Ok(n) => {
             let c = types_end(lens, layout, n);
             match c {
-                Checked::Bad(w) => Checked::Bad(w),
-                Checked::Upto(e) => {
+                Err(e) => Err(e),
+                Ok(e) => {
                     if e == layout.len() / 4 {
-                        Checked::Upto(n)
+                        Ok(n)
                     } else {
-                        Checked::Bad(e)
+                        Err(Refusal::BadLayout(e))
                     }
                 }
             }
@@ -510,29 +502,29 @@ fn table_end(lens: &mut [u32; 64], layout: &[u8]) -> Checked
 }
 
 // The number of types of a legal table, or the first bad word. `lens` gets the types' lengths, and 0 for all others.
-pub fn table_of(lens: &mut [u32; 64], layout: &[u8]) -> Checked
+pub fn table_of(lens: &mut [u32; 64], layout: &[u8]) -> Result<usize, Refusal>
     ensures value { result ≡ table_of layout.now }
     ensures lens_after { lens.new ≡ lengths_of (table_of layout.now) layout.now }
 {
     *lens = [0; 64];
     let c = table_end(lens, layout);
     match c {
-        Checked::Bad(w) => {
+        Err(Refusal::BadLayout(w)) => {
             *lens = [0; 64];
-            Checked::Bad(w)
+            Err(Refusal::BadLayout(w))
         }
-        Checked::Upto(n) => Checked::Upto(n),
+        Ok(n) => Ok(n),
     }
 }
 
 // The check of a layout table: 20 with the first bad word.
-pub fn layout_check(layout: &[u8]) -> Told
+pub fn layout_check(layout: &[u8]) -> Result<(), Refusal>
     ensures { result ≡ told_of (table_of layout.now) }
 {
     let mut lens = [0u32; 64];
     let c = table_of(&mut lens, layout);
     match c {
-        Checked::Bad(w) => Told::Refused(Refusal::BadLayout(w)),
-        Checked::Upto(_) => Told::Fine,
+        Err(e) => Err(e),
+        Ok(_) => Ok(()),
     }
 }

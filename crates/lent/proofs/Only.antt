@@ -2,7 +2,6 @@
 -- said of the postconditions themselves, for the same arguments at entry; of those over a reference, of the equation that they promise: d is what
 -- the method by value answers. Assumes nothing.
 use mathlib.Core.Path.{◌≡◌, ap}
-use Rattle.standard.specs.declared.Told.{Told}
 use Rattle.standard.proofs.Only.{Only, only_answer}
 use Rattle.bitfield.specs.declared.BitList.{BitList}
 use Rattle.bitfield.specs.declared.BitVector.{BitVector}
@@ -21,13 +20,16 @@ use Rattle.lent.proofs.vector.after_not.Kinds as vector_after_not_kinds
 use Rattle.lent.proofs.vector.after_not.Reads as vector_after_not_reads
 use Rattle.lent.proofs.vector.after_difference.Kinds as vector_after_difference_kinds
 use Rattle.lent.proofs.vector.after_difference.Reads as vector_after_difference_reads
+use Rattle.std.specs.declared.result.Result.{Result}
+use Rattle.std.specs.Prelude.{⊤}
+use Rattle.standard.specs.declared.Refusal.{Refusal}
 
-pub list_left_only : (d : ListResult) (b c : BitList) (t u : Told) → list_left b t ≡ d → list_left c u ≡ d → (b ≡ c) × (t ≡ u)
+pub list_left_only : (d : ListResult) (b c : BitList) (t u : Result ⊤ Refusal) → list_left b t ≡ d → list_left c u ≡ d → (b ≡ c) × (t ≡ u)
 list_left_only d b c t u p q =
     let s = only_answer d (list_left b t) (list_left c u) p q in
     (ap (λ (r : ListResult). r.field) s, ap (λ (r : ListResult). r.told) s)
 
-pub vector_left_only : (d : VectorResult) (b c : BitVector) (t u : Told) → vector_left b t ≡ d → vector_left c u ≡ d → (b ≡ c) × (t ≡ u)
+pub vector_left_only : (d : VectorResult) (b c : BitVector) (t u : Result ⊤ Refusal) → vector_left b t ≡ d → vector_left c u ≡ d → (b ≡ c) × (t ≡ u)
 vector_left_only d b c t u p q =
     let s = only_answer d (vector_left b t) (vector_left c u) p q in
     (ap (λ (r : VectorResult). r.field) s, ap (λ (r : VectorResult). r.told) s)

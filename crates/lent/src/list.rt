@@ -4,10 +4,9 @@ ghost use Rattle.bitfield.specs.Lists.{list_set, list_not, list_difference};
 ghost use Rattle.lent.specs.Left.{list_left};
 
 use bitfield::{BitList, ListResult};
-use standard::Told;
 
 // Makes bit i the value. Beside a refusal all is as it was.
-pub fn set(b: &mut BitList, i: usize, value: bool) -> Told
+pub fn set(b: &mut BitList, i: usize, value: bool) -> Result<(), Refusal>
     ensures { list_left b.new result ≡ list_set b.old i value }
 {
     let made = (*b).set(i, value);
@@ -16,7 +15,7 @@ pub fn set(b: &mut BitList, i: usize, value: bool) -> Told
 }
 
 // Turns every bit. Beside a refusal all is as it was.
-pub fn not_inplace(b: &mut BitList) -> Told
+pub fn not_inplace(b: &mut BitList) -> Result<(), Refusal>
     ensures { list_left b.new result ≡ list_not b.old }
 {
     let made = (*b).not();
@@ -25,7 +24,7 @@ pub fn not_inplace(b: &mut BitList) -> Told
 }
 
 // Takes away the bits that the other one has. Beside a refusal all is as it was.
-pub fn difference_inplace(b: &mut BitList, other: BitList) -> Told
+pub fn difference_inplace(b: &mut BitList, other: BitList) -> Result<(), Refusal>
     ensures { list_left b.new result ≡ list_difference b.old other }
 {
     let made = (*b).difference(other);

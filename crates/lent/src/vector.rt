@@ -4,10 +4,9 @@ ghost use Rattle.bitfield.specs.Vectors.{vector_set, vector_not, vector_differen
 ghost use Rattle.lent.specs.Left.{vector_left};
 
 use bitfield::{BitVector, VectorResult};
-use standard::Told;
 
 // Makes bit i the value. Beside a refusal all is as it was.
-pub fn set(b: &mut BitVector, i: usize, value: bool) -> Told
+pub fn set(b: &mut BitVector, i: usize, value: bool) -> Result<(), Refusal>
     ensures { vector_left b.new result ≡ vector_set b.old i value }
 {
     let made = (*b).set(i, value);
@@ -16,7 +15,7 @@ pub fn set(b: &mut BitVector, i: usize, value: bool) -> Told
 }
 
 // Turns every bit. Beside a refusal all is as it was.
-pub fn not_inplace(b: &mut BitVector) -> Told
+pub fn not_inplace(b: &mut BitVector) -> Result<(), Refusal>
     ensures { vector_left b.new result ≡ vector_not b.old }
 {
     let made = (*b).not();
@@ -25,7 +24,7 @@ pub fn not_inplace(b: &mut BitVector) -> Told
 }
 
 // Takes away the bits that the other one has. Beside a refusal all is as it was.
-pub fn difference_inplace(b: &mut BitVector, other: BitVector) -> Told
+pub fn difference_inplace(b: &mut BitVector, other: BitVector) -> Result<(), Refusal>
     ensures { vector_left b.new result ≡ vector_difference b.old other }
 {
     let made = (*b).difference(other);

@@ -12,8 +12,7 @@ mod vectors;
 
 ghost use Rattle.std.specs.Prelude.{◌≡◌, ◌≤◌, length};
 
-use cases::{Extent, number, part, record_end};
-use standard::Maybe;
+use cases::{number, part, record_end};
 use standard::words::word_at;
 use std::io::Read;
 use std::rt::Files;
@@ -51,12 +50,12 @@ fn read_plan(rt: &impl Files, b: &mut [u8]) -> usize
     }
 }
 
-fn run(plan: &[u8], contents: &mut [u32], bodies: &mut [u8], out: &mut [u8]) -> Maybe {
-    let Extent::Whole(_) = record_end(plan) else {
-        return Maybe::Nothing;
+fn run(plan: &[u8], contents: &mut [u32], bodies: &mut [u8], out: &mut [u8]) -> Option<usize> {
+    let Some(_) = record_end(plan) else {
+        return None;
     };
-    let Maybe::Just(rounds) = number(part(plan, 0)) else {
-        return Maybe::Nothing;
+    let Some(rounds) = number(part(plan, 0)) else {
+        return None;
     };
     let op = word_at(plan, 0);
     if op < 30 {
@@ -68,10 +67,10 @@ fn run(plan: &[u8], contents: &mut [u32], bodies: &mut [u8], out: &mut [u8]) -> 
     messages::run(op, plan, contents, bodies, out, rounds)
 }
 
-fn print(rt: &impl Print, sum: Maybe) -> io::Result<()> {
+fn print(rt: &impl Print, sum: Option<usize>) -> io::Result<()> {
     match sum {
-        Maybe::Just(n) => println!(rt; "{n}"),
-        Maybe::Nothing => println!(rt; "bad plan"),
+        Some(n) => println!(rt; "{n}"),
+        None => println!(rt; "bad plan"),
     }
 }
 

@@ -2,8 +2,6 @@
 use crate::sums::{byte_in, least, plus};
 use cases::part;
 use message::{Answer, Listed, Unfolded};
-use standard::Maybe;
-use value::Written;
 
 fn checked(layout: &[u8], message: &[u8]) -> usize {
     let answer = message::check(layout, message);
@@ -38,8 +36,8 @@ fn unfolded(
 fn written(layout: &[u8], contents: &[u32], bodies: &[u8], out: &mut [u8], round: usize) -> usize {
     let answer = value::write(layout, contents, bodies, out);
     match answer {
-        Written::Length(n) => plus(n, byte_in(out, round)),
-        Written::Refused(_) => 0,
+        Ok(n) => plus(n, byte_in(out, round)),
+        Err(_) => 0,
     }
 }
 
@@ -93,17 +91,17 @@ pub(crate) fn run(
     bodies: &mut [u8],
     out: &mut [u8],
     rounds: usize,
-) -> Maybe {
+) -> Option<usize> {
     let layout = part(plan, 1);
     let message = part(plan, 2);
     if op < 74 {
-        return Maybe::Just(read(op, layout, message, contents, bodies, rounds));
+        return Some(read(op, layout, message, contents, bodies, rounds));
     }
     let form = message::unfold(layout, message, contents, bodies);
     let Unfolded::Sizes(w, b) = form else {
-        return Maybe::Nothing;
+        return None;
     };
     let words = least(w, contents.len());
     let bytes = least(b, bodies.len());
-    Maybe::Just(write(layout, &contents[..words], &bodies[..bytes], out, rounds))
+    Some(write(layout, &contents[..words], &bodies[..bytes], out, rounds))
 }

@@ -1,8 +1,6 @@
 // What a round adds to the sum: lengths and counts, and a byte of what was made, another one in each round. A refusal adds nothing.
 ghost use Rattle.std.specs.Prelude.{◌≤◌};
 
-use bitfield::CountResult;
-use standard::Told;
 
 pub(crate) fn plus(a: usize, b: usize) -> usize {
     a.wrapping_add(b)
@@ -18,17 +16,17 @@ pub(crate) fn byte_in(b: &[u8], round: usize) -> usize {
     if i < b.len() { wide(b[i]) } else { 0 }
 }
 
-pub(crate) fn of_held(told: Told, bytes: &[u8; 256], len: usize, round: usize) -> usize {
+pub(crate) fn of_held(told: Result<(), Refusal>, bytes: &[u8; 256], len: usize, round: usize) -> usize {
     match told {
-        Told::Fine => plus(len, byte_in(bytes, round)),
-        Told::Refused(_) => 0,
+        Ok(()) => plus(len, byte_in(bytes, round)),
+        Err(_) => 0,
     }
 }
 
-pub(crate) fn of_count(answer: CountResult) -> usize {
+pub(crate) fn of_count(answer: Result<usize, Refusal>) -> usize {
     match answer {
-        CountResult::Count(n) => n,
-        CountResult::Refused(_) => 0,
+        Ok(n) => n,
+        Err(_) => 0,
     }
 }
 

@@ -2,7 +2,6 @@
 use crate::sums::{byte_in, of_count, of_held, plus};
 use bitfield::{BitVector, VectorResult};
 use cases::{number, part};
-use standard::Maybe;
 
 // What the operations work on: two fields of n bits, the first one's serialization, and how far to shift.
 #[derive(Clone, Copy)]
@@ -49,12 +48,12 @@ fn repeat(op: usize, x: Operands, bytes: &[u8], out: &mut [u8], rounds: usize) -
     sum
 }
 
-pub(crate) fn run(op: usize, plan: &[u8], out: &mut [u8], rounds: usize) -> Maybe {
-    let Maybe::Just(n) = number(part(plan, 1)) else {
-        return Maybe::Nothing;
+pub(crate) fn run(op: usize, plan: &[u8], out: &mut [u8], rounds: usize) -> Option<usize> {
+    let Some(n) = number(part(plan, 1)) else {
+        return None;
     };
-    let Maybe::Just(places) = number(part(plan, 4)) else {
-        return Maybe::Nothing;
+    let Some(places) = number(part(plan, 4)) else {
+        return None;
     };
     let bytes = part(plan, 2);
     let one = BitVector::from_bytes(bytes, n);
@@ -67,5 +66,5 @@ pub(crate) fn run(op: usize, plan: &[u8], out: &mut [u8], rounds: usize) -> Mayb
         n,
         places,
     };
-    Maybe::Just(repeat(op, x, bytes, out, rounds))
+    Some(repeat(op, x, bytes, out, rounds))
 }

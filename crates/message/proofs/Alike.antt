@@ -14,7 +14,6 @@ use Rattle.standard.specs.Choice.{pick}
 use Rattle.standard.specs.Bytes.{word_at}
 use Rattle.standard.specs.Types.{Ty, head, width}
 use Rattle.standard.specs.declared.Head.TheVariants.{Fixed}
-use Rattle.standard.specs.declared.Told.{Told}
 use Rattle.standard.specs.declared.Refusal.{Refusal}
 use Rattle.standard.proofs.Elements.{copies}
 use Rattle.decode.specs.Builder.{lay_out_lem}
@@ -23,8 +22,6 @@ use Rattle.layout.specs.declared.Node.{Node}
 use Rattle.message.specs.Read.{one, plus, and_then, elements, vector_told_lem, read_exact, read_item, read_fields}
 use Rattle.message.specs.Steps.{Under, Row, Alike, Found, row_of, heads_of, is_plain}
 use Rattle.message.specs.declared.items.Inside.{Inside}
-use Rattle.message.specs.declared.elements.Elements.{Elements}
-use Rattle.message.specs.declared.elements.Elements.TheVariants.{Many}
 use Rattle.message.specs.declared.Answer.TheVariants.{Accepted, Refused}
 use Rattle.message.proofs.Answers.{single, then_accepts}
 use Rattle.message.proofs.Rows.{under-head}
@@ -32,6 +29,7 @@ use Rattle.message.proofs.Copies.{Laid, laid-fixed, vector-laid, elements_laid}
 use Rattle.message.proofs.Repeats.{else_list, shared-copies, shared-heads, element-below, element-word, element-head, element-heads}
 use Rattle.message.proofs.Repeats.{element-some, element-row, list_read, vector-read}
 use Rattle.message.proofs.Bodies.{plain_type, exact_read}
+use Rattle.std.specs.declared.result.Result.TheVariants.{Ok, Err}
 
 -- n elements of k bytes, of which only the length is asked
 plain-each :
@@ -107,15 +105,15 @@ module _ (lens l : List ℕ) (t : ℕ) (n : Node) (e : n ≡ node_of l t) (g : U
 
   -- A vector of m elements
   module _ (q : n.kind ≡ 9) (m : ℕ) (i : m ≡ word_at l (n.at + 2)) (b : List ℕ) where
-    pub vector-alike : m < 2 ^ 32 → Told.Fine ≡ vector_told_lem (head (tree_of l n.second)) m b → Alike lens l t (n.at + 1) m n.second b
+    pub vector-alike : m < 2 ^ 32 → (Ok tt) ≡ vector_told_lem (head (tree_of l n.second)) m b → Alike lens l t (n.at + 1) m n.second b
     vector-alike h d = elements-alike m b h (vector-laid _ m b (sym d))
 
     pub vector_on :
-        Told.Fine ≡ vector_told_lem (head (tree_of l n.second)) m b → (s : ℕ)
+        (Ok tt) ≡ vector_told_lem (head (tree_of l n.second)) m b → (s : ℕ)
         → and_then (one 0 0) (read_fields (row_of l t (n.at + 1) 0 m) b 0 s) ≡ read_item (tree_of l t) b s
     vector_on d s = rw (vector-read lens l t n e g k q b s, ← i, ← d)
 
-    pub vector_stop : (r : Refusal) → Told.Refused r ≡ vector_told_lem (head (tree_of l n.second)) m b → (s : ℕ) → Refused r t s ≡ read_item (tree_of l t) b s
+    pub vector_stop : (r : Refusal) → Err r ≡ vector_told_lem (head (tree_of l n.second)) m b → (s : ℕ) → Refused r t s ≡ read_item (tree_of l t) b s
     vector_stop r d s = rw (vector-read lens l t n e g k q b s, ← i, ← d)
 
   -- A list whose elements have the length w
@@ -123,10 +121,10 @@ module _ (lens l : List ℕ) (t : ℕ) (n : Node) (e : n ≡ node_of l t) (g : U
     list-says : elements (head_of w) limit b ≡ elements (head (tree_of l n.second)) (word_at l (n.at + 2)) b
     list-says = rw (j, element-head lens l t n e g k, i)
 
-    pub list_stop : (r : Refusal) → Elements.Refused r ≡ elements (head_of w) limit b → (s : ℕ) → Refused r t s ≡ read_item (tree_of l t) b s
+    pub list_stop : (r : Refusal) → Err r ≡ elements (head_of w) limit b → (s : ℕ) → Refused r t s ≡ read_item (tree_of l t) b s
     list_stop r d s = rw (list_read lens l t n e g k (else_list lens l t n e g k q) b s, ← d ∙ list-says)
 
-    module _ (m : ℕ) (d : Many m ≡ elements (head_of w) limit b) where
+    module _ (m : ℕ) (d : Ok m ≡ elements (head_of w) limit b) where
       pub list-alike : limit < 2 ^ 32 → Alike lens l t (n.at + 1) m n.second b
       list-alike h =
           let x = elements_laid (head (tree_of l n.second)) (word_at l (n.at + 2)) b m (element-some lens l t n e g k) (sym (d ∙ list-says)) in

@@ -5,16 +5,15 @@ use Prim.Native.Nat.{ℕ}
 use native.Mathlib.Nat.{zero-add, add_assoc}
 use native.Mathlib.Omega.{arith}
 use Rattle.standard.specs.Choice.{pick}
-use Rattle.standard.specs.declared.Told.{Told}
 use Rattle.standard.specs.declared.Refusal.{Refusal}
-use Rattle.bitfield.specs.declared.BodyBits.{BodyBits}
 use Rattle.message.specs.Read.{raw_bytes_lem, one, plus, and_then, built, of_vector_lem, of_list, of_elements}
 use Rattle.message.specs.Steps.{IsAccepted}
 use Rattle.message.specs.declared.Counts.{Counts}
-use Rattle.message.specs.declared.elements.Elements.{Elements}
-use Rattle.message.specs.declared.elements.Elements.TheVariants.{Many}
 use Rattle.message.specs.declared.Answer.{Answer}
 use Rattle.message.specs.declared.Answer.TheVariants.{Accepted, Refused}
+use Rattle.std.specs.declared.result.Result.{Result}
+use Rattle.std.specs.declared.result.Result.TheVariants.{Ok, Err}
+use Rattle.std.specs.Prelude.{⊤}
 
 -- no item
 abbrev pub none : Counts
@@ -79,22 +78,22 @@ pub behind-accepted : (a : Counts) (y : Answer) (c : Counts) → and_then (Accep
 behind-accepted a (Refused r t s) c e = not_accepted r t s c e
 behind-accepted a (Accepted b) c e = (b, refl, sym (accepted-same (plus a b) c e))
 
-pub built-accepted : (d : Told) (t s : ℕ) (x : Answer) (c : Counts) → built d t s x ≡ Accepted c → (d ≡ Told.Fine) × (x ≡ Accepted c)
-built-accepted (Told.Refused r) t s x c e = not_accepted r t s c e
-built-accepted Told.Fine t s x c e = (refl, e)
+pub built-accepted : (d : Result ⊤ Refusal) (t s : ℕ) (x : Answer) (c : Counts) → built d t s x ≡ Accepted c → (d ≡ Ok tt) × (x ≡ Accepted c)
+built-accepted (Err r) t s x c e = not_accepted r t s c e
+built-accepted (Ok tt) t s x c e = (refl, e)
 
-pub vector-accepted : (d : Told) (t s n : ℕ) (c : Counts) → of_vector_lem d t s n ≡ Accepted c → (d ≡ Told.Fine) × (c ≡ single 0 n)
-vector-accepted (Told.Refused r) t s n c e = not_accepted r t s c e
-vector-accepted Told.Fine t s n c e = (refl, sym (accepted-same (single 0 n) c e))
+pub vector-accepted : (d : Result ⊤ Refusal) (t s n : ℕ) (c : Counts) → of_vector_lem d t s n ≡ Accepted c → (d ≡ Ok tt) × (c ≡ single 0 n)
+vector-accepted (Err r) t s n c e = not_accepted r t s c e
+vector-accepted (Ok tt) t s n c e = (refl, sym (accepted-same (single 0 n) c e))
 
-pub list-accepted : (d : BodyBits) (t s : ℕ) (c : Counts) → of_list d t s ≡ Accepted c → (k : ℕ) × (d ≡ BodyBits.Bits k) × (c ≡ single 1 (raw_bytes_lem k))
-list-accepted (BodyBits.Refused r) t s c e = not_accepted r t s c e
-list-accepted (BodyBits.Bits k) t s c e = (k, refl, sym (accepted-same (single 1 (raw_bytes_lem k)) c e))
+pub list-accepted : (d : Result ℕ Refusal) (t s : ℕ) (c : Counts) → of_list d t s ≡ Accepted c → (k : ℕ) × (d ≡ Ok k) × (c ≡ single 1 (raw_bytes_lem k))
+list-accepted (Err r) t s c e = not_accepted r t s c e
+list-accepted (Ok k) t s c e = (k, refl, sym (accepted-same (single 1 (raw_bytes_lem k)) c e))
 
 pub many-accepted :
-    (d : Elements) (t s : ℕ) (x : ℕ → Answer) (c : Counts) → of_elements d t s x ≡ Accepted c → (n : ℕ) × (d ≡ Many n) × (x n ≡ Accepted c)
-many-accepted (Elements.Refused r) t s x c e = not_accepted r t s c e
-many-accepted (Many n) t s x c e = (n, refl, e)
+    (d : Result ℕ Refusal) (t s : ℕ) (x : ℕ → Answer) (c : Counts) → of_elements d t s x ≡ Accepted c → (n : ℕ) × (d ≡ Ok n) × (x n ≡ Accepted c)
+many-accepted (Err r) t s x c e = not_accepted r t s c e
+many-accepted (Ok n) t s x c e = (n, refl, e)
 
 -- An acceptance without its counts.
 pub then_both : (x y : Answer) → IsAccepted (and_then x y) → IsAccepted x × IsAccepted y
@@ -102,13 +101,13 @@ then_both (Accepted c) (Accepted d) h = (tt, tt)
 then_both (Accepted c) (Refused r t s) h = absurd h
 then_both (Refused r t s) y h = absurd h
 
-pub built-both : (d : Told) (t s : ℕ) (x : Answer) → IsAccepted (built d t s x) → (d ≡ Told.Fine) × IsAccepted x
-built-both Told.Fine t s x h = (refl, h)
-built-both (Told.Refused r) t s x h = absurd h
+pub built-both : (d : Result ⊤ Refusal) (t s : ℕ) (x : Answer) → IsAccepted (built d t s x) → (d ≡ Ok tt) × IsAccepted x
+built-both (Ok tt) t s x h = (refl, h)
+built-both (Err r) t s x h = absurd h
 
-pub many-both : (d : Elements) (t s : ℕ) (x : ℕ → Answer) → IsAccepted (of_elements d t s x) → (n : ℕ) × (d ≡ Many n) × IsAccepted (x n)
-many-both (Many n) t s x h = (n, refl, h)
-many-both (Elements.Refused r) t s x h = absurd h
+pub many-both : (d : Result ℕ Refusal) (t s : ℕ) (x : ℕ → Answer) → IsAccepted (of_elements d t s x) → (n : ℕ) × (d ≡ Ok n) × IsAccepted (x n)
+many-both (Ok n) t s x h = (n, refl, h)
+many-both (Err r) t s x h = absurd h
 
 -- Laws of adding up.
 pub plus_none : (c : Counts) → plus none c ≡ c

@@ -16,13 +16,11 @@ use Rattle.standard.specs.Types.{Ty, Opts, number, boolean, fixed_bytes, free_by
 use Rattle.standard.specs.Parts.{span_of, part, InRange}
 use Rattle.standard.specs.declared.Head.TheVariants.{Fixed}
 use Rattle.standard.specs.declared.Span.{Span}
-use Rattle.standard.specs.declared.Told.{Told}
 use Rattle.standard.specs.declared.Refusal.{Refusal}
 use Rattle.standard.specs.declared.Refusal.TheVariants.{OutOfBoundsByte, UnionSelectorInvalid, InvalidByteLength, OverLimit}
 use Rattle.decode.specs.Builder.{lay_out_lem}
 use Rattle.decode.specs.Unions.{selector_of, split_union}
 use Rattle.decode.specs.declared.union_selector.UnionSelector.{UnionSelector}
-use Rattle.decode.specs.declared.union_selector.SelectorResult.{SelectorResult}
 use Rattle.layout.specs.Tree.{node_of, leaf_of, options, trees, tree_of, len_of}
 use Rattle.layout.specs.Legal.{LowerOrBare}
 use Rattle.layout.specs.declared.Node.{Node}
@@ -38,6 +36,7 @@ use Rattle.message.proofs.Answers.{then_assoc}
 use Rattle.message.proofs.Bounds.{counts_small}
 use Rattle.message.proofs.Sums.{Summed, spread, spread-small, summed-own, summed-small, summed-item}
 use Rattle.message.proofs.Rows.{Lies, node_legal, under-below, row-none, row_first, row_below, row_under, row_next, row-heads, container_tree, container-named, first-ranges, first_fits, span_ok, span_lies}
+use Rattle.std.specs.declared.result.Result.TheVariants.{Ok, Err}
 
 plus-zero : (a : Counts) → plus a (record { records = 0; words = 0; bytes = 0 }) ≡ a
 plus-zero a = simp add-zero
@@ -217,11 +216,11 @@ module _ (lens l : List ℕ) (t : ℕ) (n : Node) (e : n ≡ node_of l t) (g : U
     unfolding read_item
     container-read = rw (container_tree l t n e k)
 
-    pub container-on : Told.Fine ≡ lay_out_lem (heads_of l t (n.at + 2) 1 n.second) b →
+    pub container-on : (Ok tt) ≡ lay_out_lem (heads_of l t (n.at + 2) 1 n.second) b →
         and_then (one 0 0) (read_fields (row_of l t (n.at + 2) 1 n.second) b 0 s) ≡ read_item (tree_of l t) b s
     container-on h = rw (container-read, ← h)
 
-    pub container_stop : (r : Refusal) → Told.Refused r ≡ lay_out_lem (heads_of l t (n.at + 2) 1 n.second) b → Refused r t s ≡ read_item (tree_of l t) b s
+    pub container_stop : (r : Refusal) → Err r ≡ lay_out_lem (heads_of l t (n.at + 2) 1 n.second) b → Refused r t s ≡ read_item (tree_of l t) b s
     container_stop r h = rw (container-read, ← h)
 
 -- A union: the walk along the options finds the word that the selector points to.
@@ -301,8 +300,8 @@ module _ (l : List ℕ) (lower : List Ty) (b : List ℕ) (t s : ℕ) where
 
       go : (c d : Bool) → pick c (Refused (OutOfBoundsByte 0) t s)
           (pick d (read_option (options l lower a 0 n) x b t s) (Refused (UnionSelectorInvalid x) t s)) ≡
-          chosen (choice_of (pick c (SelectorResult.Refused (OutOfBoundsByte 0))
-          (pick d (SelectorResult.Selector (record { 0 = x })) (SelectorResult.Refused (UnionSelectorInvalid x)))) l a n (length b)) lower b t s
+          chosen (choice_of (pick c (Err (OutOfBoundsByte 0))
+          (pick d (Ok (record { 0 = x })) (Err (UnionSelectorInvalid x)))) l a n (length b)) lower b t s
       go true d = refl
       go false true = inside
       go false false = refl
@@ -332,8 +331,8 @@ choose_by l a n b = go (eqb (length b) 0) (leb (get_or b 0 0) 127)
     x : ℕ
     x = get_or b 0 0
 
-    go : (c d : Bool) → choice_of (pick c (SelectorResult.Refused (OutOfBoundsByte 0))
-        (pick d (SelectorResult.Selector (record { 0 = x })) (SelectorResult.Refused (UnionSelectorInvalid x)))) l a n (length b) ≡
+    go : (c d : Bool) → choice_of (pick c (Err (OutOfBoundsByte 0))
+        (pick d (Ok (record { 0 = x })) (Err (UnionSelectorInvalid x)))) l a n (length b) ≡
         pick c (Choice.Wrong (OutOfBoundsByte 0)) (pick d (pick (ltb x n) (option_at_lem (word_at l (a + x)) (length b))
         (Choice.Wrong (UnionSelectorInvalid x))) (Choice.Wrong (UnionSelectorInvalid x)))
     go true d = refl
@@ -373,11 +372,11 @@ body-says l a n b o e =
     let r = body-option (word_at l (a + get_or b 0 0)) (length b) o q.1 in
     (q.0, r.0, r.1, q.2)
 
-pub split-some : (b : List ℕ) (k : UnionSelector) → split_union b ≡ SelectorResult.Selector k → 1 ≤ length b
+pub split-some : (b : List ℕ) (k : UnionSelector) → split_union b ≡ Ok k → 1 ≤ length b
 split-some b k e = go (eqb (length b) 0) refl e
   where
-    go : (c : Bool) → eqb (length b) 0 ≡ c → pick c (SelectorResult.Refused (OutOfBoundsByte 0)) (selector_of (get_or b 0 0)) ≡
-        SelectorResult.Selector k → 1 ≤ length b
+    go : (c : Bool) → eqb (length b) 0 ≡ c → pick c (Err (OutOfBoundsByte 0)) (selector_of (get_or b 0 0)) ≡
+        Ok k → 1 ≤ length b
     go true p h = let z : ◌≡◌ {A = ℕ} 0 1 = cc in absurd (omega arith)
     go false p h = let y : length b ≡ 0 → ⊥ = eqb-false _ _ p in omega arith
 

@@ -19,10 +19,6 @@ use Rattle.standard.proofs.Elements.{All, copies, all-copies, heads-copies}
 use Rattle.standard.proofs.Laws.{fixed-some, legal-copies}
 use Rattle.decode.specs.Builder.{lay_out_lem}
 use Rattle.bitfield.specs.Body.{bit_list_body, bit_vector_body, bytes_for_lem, marked_at, highest, all_bits, list_bits_lem, within}
-use Rattle.bitfield.specs.declared.BodyBits.{BodyBits}
-use Rattle.standard.specs.declared.Told.{Told}
-use Rattle.bitfield.specs.declared.Top.{Top}
-use Rattle.bitfield.specs.declared.Top.TheVariants.{At, Nothing}
 use Rattle.layout.specs.Tree.{node_of, leaf_of, fields, options, trees, tree_of}
 use Rattle.layout.specs.Legal.{Lower, LowerOrBare, LegalNode, Legal}
 use Rattle.layout.specs.declared.Node.{Node}
@@ -33,6 +29,9 @@ use Rattle.message.specs.declared.Counts.{Counts}
 use Rattle.message.specs.declared.Answer.TheVariants.{Accepted}
 use Rattle.message.proofs.Answers.{none, single, not_accepted, accepted-same, pick-left, pick_right, pick-cases, pick-holds, left-accepted, right_accepted, leaf-accepted, then_accepted, behind-accepted, built-accepted, vector-accepted, list-accepted, many-accepted}
 use Rattle.message.proofs.Copies.{read-copies, Laid, laid_out, vector-laid, elements_laid}
+use Rattle.std.specs.declared.option.Option.{Option}
+use Rattle.std.specs.declared.result.Result.TheVariants.{Ok}
+use Rattle.std.specs.declared.option.Option.TheVariants.{Some, None}
 
 -- How many levels a type has
 unfoldable mutual
@@ -111,25 +110,25 @@ tree_depth l zero t g h = absurd (omega arith)
 tree_depth l (suc n) t g h = node_depth l t (λ u k. tree_depth l n u (λ v q. g v (omega arith)) (omega arith)) (g t h)
 
 -- Accepted bodies of bits have their length.
-pub vector-length : (b : List ℕ) (n : ℕ) → 1 ≤ n → bit_vector_body b n ≡ Told.Fine → length b ≡ bytes_for_lem n
+pub vector-length : (b : List ℕ) (n : ℕ) → 1 ≤ n → bit_vector_body b n ≡ Ok tt → length b ≡ bytes_for_lem n
 unfolding bit_vector_body
 vector-length b n h e =
     let f = rw (ne_eqb n 0 (omega arith)) at e in
-    eqb-true _ _ (pick-left (eqb (length b) (bytes_for_lem n)) (within b n) _ Told.Fine (λ q. let z : ◌≡◌ {A = ℕ} 0 1 = cc in omega arith) f).0
+    eqb-true _ _ (pick-left (eqb (length b) (bytes_for_lem n)) (within b n) _ (Ok tt) (λ q. let z : ◌≡◌ {A = ℕ} 0 1 = cc in omega arith) f).0
 
-marked-length : (x : Top) (given n k : ℕ) → marked_at x given n ≡ BodyBits.Bits k → given ≡ k / 8 + 1
-marked-length Nothing given n k e = let z : ◌≡◌ {A = ℕ} 0 1 = cc in absurd (omega arith)
-marked-length (At j) given n k e =
-    let p = pick-left (eqb given (j / 8 + 1)) (list_bits_lem j n) _ (BodyBits.Bits k) (λ q. let z : ◌≡◌ {A = ℕ} 0 1 = cc in omega arith) e in
-    let r = pick-left (leb j n) (BodyBits.Bits j) _ (BodyBits.Bits k) (λ q. let z : ◌≡◌ {A = ℕ} 0 1 = cc in omega arith) p.1 in
+marked-length : (x : Option ℕ) (given n k : ℕ) → marked_at x given n ≡ Ok k → given ≡ k / 8 + 1
+marked-length None given n k e = let z : ◌≡◌ {A = ℕ} 0 1 = cc in absurd (omega arith)
+marked-length (Some j) given n k e =
+    let p = pick-left (eqb given (j / 8 + 1)) (list_bits_lem j n) _ (Ok k) (λ q. let z : ◌≡◌ {A = ℕ} 0 1 = cc in omega arith) e in
+    let r = pick-left (leb j n) (Ok j) _ (Ok k) (λ q. let z : ◌≡◌ {A = ℕ} 0 1 = cc in omega arith) p.1 in
     let m : j ≡ k = cc r.1 in
     rw (← m) (eqb-true _ _ p.0)
 
-pub list_length : (b : List ℕ) (n k : ℕ) → bit_list_body b n ≡ BodyBits.Bits k → length b ≡ k / 8 + 1
+pub list_length : (b : List ℕ) (n k : ℕ) → bit_list_body b n ≡ Ok k → length b ≡ k / 8 + 1
 unfolding bit_list_body
 list_length b n k e =
     marked-length (highest (all_bits b)) (length b) n k
-    (pick_right (eqb (length b) 0) _ (marked_at (highest (all_bits b)) (length b) n) (BodyBits.Bits k) (λ q. let z : ◌≡◌ {A = ℕ} 0 1 = cc in omega arith) e).1
+    (pick_right (eqb (length b) 0) _ (marked_at (highest (all_bits b)) (length b) n) (Ok k) (λ q. let z : ◌≡◌ {A = ℕ} 0 1 = cc in omega arith) e).1
 
 -- At most n records and n words, and m bytes
 abbrev pub Within : Counts → ℕ → ℕ → Type 0

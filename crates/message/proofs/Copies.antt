@@ -19,7 +19,6 @@ use Rattle.standard.specs.Parts.{join, span_of, part, next, InRange}
 use Rattle.standard.specs.Serialize.{Val, Vals, OkAll, parts}
 use Rattle.standard.specs.declared.Head.{Head}
 use Rattle.standard.specs.declared.Head.TheVariants.{Fixed, Variable}
-use Rattle.standard.specs.declared.Told.{Told}
 use Rattle.standard.specs.declared.Refusal.{Refusal}
 use Rattle.standard.specs.declared.Refusal.TheVariants.{InvalidLengthPrefix, OffsetOutOfBounds, InvalidListFixedBytesLen}
 use Rattle.standard.proofs.Elements.{copies, heads-copies, as_list, portion-copies}
@@ -32,9 +31,11 @@ use Rattle.message.specs.Listing.{list_each, list_item_lem, list_fields_lem}
 use Rattle.message.specs.Form.{in_order, contents, contents_all, bodies, bodies_all}
 use Rattle.message.specs.Unfold.{each_from, unfold_words, unfold_bytes, words_fields, bytes_fields}
 use Rattle.message.specs.declared.Answer.{Answer}
-use Rattle.message.specs.declared.elements.Elements.{Elements}
-use Rattle.message.specs.declared.elements.Elements.TheVariants.{Many}
 use Rattle.message.proofs.Answers.{pick-left, pick_right}
+use Rattle.std.specs.declared.result.Result.{Result}
+use Rattle.std.specs.declared.result.Result.TheVariants.{Ok, Err}
+use Rattle.std.specs.declared.option.Option.TheVariants.{Some}
+use Rattle.std.specs.Prelude.{⊤}
 
 -- What is said of n elements is said of n fields.
 module _ (e : Ty) where
@@ -81,7 +82,7 @@ pub record Laid (hs : List Head) (b : List ℕ) : Type 0 where
   pub ranges : InRange hs b 0 0
   pub first : next hs b 0 ≡ portion hs
 
-pub laid_out : (hs : List Head) (b : List ℕ) → lay_out_lem hs b ≡ Told.Fine → Laid hs b
+pub laid_out : (hs : List Head) (b : List ℕ) → lay_out_lem hs b ≡ Ok tt → Laid hs b
 laid_out hs b e = record { ranges = layout-ranges hs b e; first = layout-next hs b e }
 
 -- n elements of k bytes lie in n * k bytes, and back.
@@ -105,43 +106,43 @@ unfolding width
 laid-fixed n k b g = sym (next-fixed n k b 0) ∙ g.first ∙ portion-copies n (Fixed k)
 
 -- A vector.
-pub vector-laid : (h : Head) (n : ℕ) (b : List ℕ) → vector_told_lem h n b ≡ Told.Fine → Laid (replicate n h) b
+pub vector-laid : (h : Head) (n : ℕ) (b : List ℕ) → vector_told_lem h n b ≡ Ok tt → Laid (replicate n h) b
 unfolding vector_told_lem
 vector-laid (Fixed k) n b e =
-    fixed-laid n k b (eqb-true _ _ (pick-left (eqb (length b) (n * k)) Told.Fine _ Told.Fine (λ q. let z : ◌≡◌ {A = ℕ} 0 1 = cc in omega arith) e).0)
+    fixed-laid n k b (eqb-true _ _ (pick-left (eqb (length b) (n * k)) (Ok tt) _ (Ok tt) (λ q. let z : ◌≡◌ {A = ℕ} 0 1 = cc in omega arith) e).0)
 vector-laid Variable n b e = laid_out (replicate n Variable) b e
 
-pub laid-vector : (h : Head) (n : ℕ) (b : List ℕ) → length b < 2 ^ 32 → Laid (replicate n h) b → vector_told_lem h n b ≡ Told.Fine
+pub laid-vector : (h : Head) (n : ℕ) (b : List ℕ) → length b < 2 ^ 32 → Laid (replicate n h) b → vector_told_lem h n b ≡ Ok tt
 unfolding vector_told_lem
 laid-vector (Fixed k) n b small g = rw (eq-eqb _ _ (laid-fixed n k b g))
 laid-vector Variable n b small g = layout-passes (replicate n Variable) b small g.ranges g.first
 
 -- A list. What a count within the limit says.
-within-many : (m limit n : ℕ) → within m limit ≡ Many n → (m ≡ n) × (n ≤ limit)
+within-many : (m limit n : ℕ) → within m limit ≡ Ok n → (m ≡ n) × (n ≤ limit)
 within-many m limit n e =
-    let p = pick-left (leb m limit) (Many m) _ (Many n) (λ q. let z : ◌≡◌ {A = ℕ} 0 1 = cc in omega arith) e in
+    let p = pick-left (leb m limit) (Ok m) _ (Ok n) (λ q. let z : ◌≡◌ {A = ℕ} 0 1 = cc in omega arith) e in
     let q : m ≡ n = cc p.1 in
     (q, rw q at (leb-true m limit p.0))
 
-not_fine : (r : Refusal) → Told.Refused r ≡ Told.Fine → ⊥
+not_fine : (r : Refusal) → Err r ≡ Ok tt → ⊥
 not_fine r e = let z : ◌≡◌ {A = ℕ} 0 1 = cc in omega arith
 
 -- The further offsets are in range from the one before on, and back.
 further-next :
-    (b : List ℕ) (first previous p n : ℕ) → further b first previous p (suc n) ≡ Told.Fine
-    → (four b p ≤ length b) × (previous ≤ four b p) × (further b first (four b p) (p + 4) n ≡ Told.Fine)
+    (b : List ℕ) (first previous p n : ℕ) → further b first previous p (suc n) ≡ Ok tt
+    → (four b p ≤ length b) × (previous ≤ four b p) × (further b first (four b p) (p + 4) n ≡ Ok tt)
 unfolding further
 further-next b first previous p n e =
-    let x = pick_right (ltb (four b p) first) _ _ Told.Fine (not_fine _) e in
-    let y = pick_right (ltb (length b) (four b p)) _ _ Told.Fine (not_fine _) x.1 in
-    let z = pick_right (ltb (four b p) previous) _ _ Told.Fine (not_fine _) y.1 in
+    let x = pick_right (ltb (four b p) first) _ _ (Ok tt) (not_fine _) e in
+    let y = pick_right (ltb (length b) (four b p)) _ _ (Ok tt) (not_fine _) x.1 in
+    let z = pick_right (ltb (four b p) previous) _ _ (Ok tt) (not_fine _) y.1 in
     (ltb-false _ _ y.0, ltb-false _ _ z.0, z.1)
 
 four_in_lem : (p n m : ℕ) → p + 4 * suc n ≤ m → (p + 4 ≤ m) × (p + 4 + 4 * n ≤ m)
 four_in_lem p n m h = (omega arith, omega arith)
 
 further-ranges :
-    (b : List ℕ) (first previous p n : ℕ) → p + 4 * n ≤ length b → previous ≤ length b → further b first previous p n ≡ Told.Fine
+    (b : List ℕ) (first previous p n : ℕ) → p + 4 * n ≤ length b → previous ≤ length b → further b first previous p n ≡ Ok tt
     → InRange (replicate n Variable) b p previous
 unfolding InRange
 further-ranges b first previous p zero l k e = k
@@ -151,7 +152,7 @@ further-ranges b first previous p (suc n) l k e =
     (i.0, q.0, q.1, further-ranges b first (four b p) (p + 4) n i.1 q.0 q.2)
 
 ranges-further :
-    (b : List ℕ) (first previous p n : ℕ) → first ≤ previous → InRange (replicate n Variable) b p previous → further b first previous p n ≡ Told.Fine
+    (b : List ℕ) (first previous p n : ℕ) → first ≤ previous → InRange (replicate n Variable) b p previous → further b first previous p n ≡ Ok tt
 unfolding further InRange
 ranges-further b first previous p zero l r = refl
 ranges-further b first previous p (suc n) l r =
@@ -160,17 +161,17 @@ ranges-further b first previous p (suc n) l r =
 
 -- What the offset o, the first, says: n elements, and their offsets before it.
 behind-many :
-    (limit : ℕ) (b : List ℕ) (o n : ℕ) → behind_first_lem (within (o / 4) limit) b o ≡ Many n
-    → (o / 4 ≡ n) × (n ≤ limit) × (further b o o 4 (n - 1) ≡ Told.Fine)
+    (limit : ℕ) (b : List ℕ) (o n : ℕ) → behind_first_lem (within (o / 4) limit) b o ≡ Ok n
+    → (o / 4 ≡ n) × (n ≤ limit) × (further b o o 4 (n - 1) ≡ Ok tt)
 behind-many limit b o n = go (within (o / 4) limit) refl
   where
-    told : (d : Told) (m : ℕ) → then_many d m ≡ Many n → (d ≡ Told.Fine) × (m ≡ n)
-    told Told.Fine m e = (refl, cc)
-    told (Told.Refused r) m e = let z : ◌≡◌ {A = ℕ} 0 1 = cc in absurd (omega arith)
+    told : (d : Result ⊤ Refusal) (m : ℕ) → then_many d m ≡ Ok n → (d ≡ Ok tt) × (m ≡ n)
+    told (Ok tt) m e = (refl, cc)
+    told (Err r) m e = let z : ◌≡◌ {A = ℕ} 0 1 = cc in absurd (omega arith)
 
-    go : (x : Elements) → within (o / 4) limit ≡ x → behind_first_lem x b o ≡ Many n → (o / 4 ≡ n) × (n ≤ limit) × (further b o o 4 (n - 1) ≡ Told.Fine)
-    go (Elements.Refused r) d e = let z : ◌≡◌ {A = ℕ} 0 1 = cc in absurd (omega arith)
-    go (Many m) d e =
+    go : (x : Result ℕ Refusal) → within (o / 4) limit ≡ x → behind_first_lem x b o ≡ Ok n → (o / 4 ≡ n) × (n ≤ limit) × (further b o o 4 (n - 1) ≡ Ok tt)
+    go (Err r) d e = let z : ◌≡◌ {A = ℕ} 0 1 = cc in absurd (omega arith)
+    go (Ok m) d e =
         let p = told (further b o o 4 (m - 1)) m e in
         let q = within-many (o / 4) limit m d in
         (q.0 ∙ p.1, rw p.1 at q.1, rw p.1 at p.0)
@@ -180,50 +181,50 @@ or_false true y e = let z : true ≡ false = e in let w : ◌≡◌ {A = ℕ} 0 
 or_false false y e = (refl, e)
 
 module _ (limit : ℕ) (b : List ℕ) (n : ℕ) where
-  offsets-laid : offset_elements_lem limit b ≡ Many n → Laid (replicate n Variable) b × (n ≤ limit)
+  offsets-laid : offset_elements_lem limit b ≡ Ok n → Laid (replicate n Variable) b × (n ≤ limit)
   unfolding InRange next portion width
   offsets-laid = go (eqb (length b) 0) refl
     where
-      none : {A : Type 0} (r : Refusal) → Elements.Refused r ≡ Many n → A
+      none : {A : Type 0} (r : Refusal) → Err r ≡ Ok n → A
       none r q = let z : ◌≡◌ {A = ℕ} 0 1 = cc in absurd (omega arith)
 
-      no : (r : Refusal) → Elements.Refused r ≡ Many n → ⊥
+      no : (r : Refusal) → Err r ≡ Ok n → ⊥
       no r q = none r q
 
-      some : (m : ℕ) → n ≡ suc m → 4 ≤ length b → four b 0 ≤ length b → four b 0 ≡ 4 * n → further b (four b 0) (four b 0) 4 m ≡ Told.Fine →
+      some : (m : ℕ) → n ≡ suc m → 4 ≤ length b → four b 0 ≤ length b → four b 0 ≡ 4 * n → further b (four b 0) (four b 0) 4 m ≡ Ok tt →
           Laid (replicate n Variable) b
       some m q k l o f =
           let r = further-ranges b (four b 0) (four b 0) 4 m (omega arith) l f in
           rw q (record { ranges = (k, l, omega arith, r); first = o ∙ rw q (omega (arith, portion-copies (suc m) Variable)) })
 
       -- the tests behind the first
-      behind : Elements
+      behind : Result ℕ Refusal
       behind =
-          pick (ltb (length b) 4) (Elements.Refused (InvalidLengthPrefix (length b) 4))
-          (pick (ltb (length b) (four b 0)) (Elements.Refused (OffsetOutOfBounds (four b 0)))
-          (pick (or_else (eqb (four b 0) 0) (ltb 0 (four b 0 % 4))) (Elements.Refused (InvalidListFixedBytesLen (four b 0)))
+          pick (ltb (length b) 4) (Err (InvalidLengthPrefix (length b) 4))
+          (pick (ltb (length b) (four b 0)) (Err (OffsetOutOfBounds (four b 0)))
+          (pick (or_else (eqb (four b 0) 0) (ltb 0 (four b 0 % 4))) (Err (InvalidListFixedBytesLen (four b 0)))
           (behind_first_lem (within (four b 0 / 4) limit) b (four b 0))))
 
-      go : (q : Bool) → eqb (length b) 0 ≡ q → pick q (Many 0) behind ≡ Many n → Laid (replicate n Variable) b × (n ≤ limit)
+      go : (q : Bool) → eqb (length b) 0 ≡ q → pick q (Ok 0) behind ≡ Ok n → Laid (replicate n Variable) b × (n ≤ limit)
       go true d e =
           let q : 0 ≡ n = cc in
           let l = eqb-true (length b) 0 d in
           rw (← q) (record { ranges = omega arith; first = l }, omega arith)
       go false d e =
-          let x = pick_right (ltb (length b) 4) _ _ (Many n) (no _) e in
-          let y = pick_right (ltb (length b) (four b 0)) _ _ (Many n) (no _) x.1 in
-          let z = pick_right (or_else (eqb (four b 0) 0) (ltb 0 (four b 0 % 4))) _ _ (Many n) (no _) y.1 in
+          let x = pick_right (ltb (length b) 4) _ _ (Ok n) (no _) e in
+          let y = pick_right (ltb (length b) (four b 0)) _ _ (Ok n) (no _) x.1 in
+          let z = pick_right (or_else (eqb (four b 0) 0) (ltb 0 (four b 0 % 4))) _ _ (Ok n) (no _) y.1 in
           let f = or_false _ _ z.0 in
           let w = behind-many limit b (four b 0) n z.1 in
           let zero-not = eqb-false (four b 0) 0 f.0 in
           let whole = ltb-false 0 (four b 0 % 4) f.1 in
           (some (n - 1) (omega (arith, w.0)) (ltb-false _ _ x.0) (ltb-false _ _ y.0) (omega (arith, w.0)) w.2, w.1)
 
-  laid-offsets : n ≤ limit → Laid (replicate n Variable) b → offset_elements_lem limit b ≡ Many n
+  laid-offsets : n ≤ limit → Laid (replicate n Variable) b → offset_elements_lem limit b ≡ Ok n
   unfolding InRange next portion width
   laid-offsets h g = go n refl g
     where
-      go : (m : ℕ) → n ≡ m → Laid (replicate m Variable) b → offset_elements_lem limit b ≡ Many n
+      go : (m : ℕ) → n ≡ m → Laid (replicate m Variable) b → offset_elements_lem limit b ≡ Ok n
       go zero q i = rw (eq-eqb (length b) 0 i.first, q)
       go (suc m) q i =
           let o : four b 0 ≡ 4 * n = i.first ∙ rw q (omega (arith, portion-copies m Variable)) in
@@ -247,17 +248,17 @@ abbrev pub Some : Head → Type 0
 Some h = (k : ℕ) → h ≡ Fixed k → 1 ≤ k
 
 pub elements_laid :
-    (h : Head) (limit : ℕ) (b : List ℕ) (n : ℕ) → Some h → elements h limit b ≡ Many n → Laid (replicate n h) b × (n ≤ limit)
+    (h : Head) (limit : ℕ) (b : List ℕ) (n : ℕ) → Some h → elements h limit b ≡ Ok n → Laid (replicate n h) b × (n ≤ limit)
 unfolding elements
 elements_laid (Fixed k) limit b n some e =
-    let p = pick-left (eqb (length b % k) 0) (within (length b / k) limit) _ (Many n) (λ q. let z : ◌≡◌ {A = ℕ} 0 1 = cc in omega arith) e in
+    let p = pick-left (eqb (length b % k) 0) (within (length b / k) limit) _ (Ok n) (λ q. let z : ◌≡◌ {A = ℕ} 0 1 = cc in omega arith) e in
     let q = within-many (length b / k) limit n p.1 in
     let r = eqb-true (length b % k) 0 p.0 in
     (fixed-laid n k b (rw (r, q.0, add-zero) at (sym (div-add-mod' (length b) k))), q.1)
 elements_laid Variable limit b n some e = offsets-laid limit b n e
 
 pub laid-elements :
-    (h : Head) (limit : ℕ) (b : List ℕ) (n : ℕ) → Some h → n ≤ limit → Laid (replicate n h) b → elements h limit b ≡ Many n
+    (h : Head) (limit : ℕ) (b : List ℕ) (n : ℕ) → Some h → n ≤ limit → Laid (replicate n h) b → elements h limit b ≡ Ok n
 unfolding elements
 laid-elements (Fixed k) limit b n some l g =
     let e = laid-fixed n k b g in
@@ -267,7 +268,7 @@ laid-elements Variable limit b n some l g = laid-offsets limit b n l g
 -- The elements of a value, counted in its serialization.
 pub copies-many :
     (e : Ty) (limit n : ℕ) (vs : Vals (copies e n)) → LegalTy e → OkAll (copies e n) vs → length (join (parts (copies e n) vs)) < 2 ^ 32 → n ≤ limit
-    → elements (head e) limit (join (parts (copies e n) vs)) ≡ Many n
+    → elements (head e) limit (join (parts (copies e n) vs)) ≡ Ok n
 copies-many e limit n vs l h k m =
     let xs = parts (copies e n) vs in
     let z = values_sized (copies e n) vs h in

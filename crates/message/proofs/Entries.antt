@@ -13,7 +13,6 @@ use Rattle.standard.specs.Bytes.{le, word_at, Stored, Room}
 use Rattle.standard.specs.Types.{Ty, Opts, number, boolean, fixed_bytes, free_bytes, bit_vector, bit_list, container, union, list, vector, bare, body, head}
 use Rattle.standard.specs.Parts.{span_of, part, InRange}
 use Rattle.standard.specs.declared.Span.{Span}
-use Rattle.standard.specs.declared.Told.{Told}
 use Rattle.standard.specs.declared.Refusal.{Refusal}
 use Rattle.standard.specs.declared.Refusal.TheVariants.{TooLarge}
 use Rattle.standard.proofs.Bytes.{length-le}
@@ -22,7 +21,6 @@ use Rattle.decode.specs.Builder.{lay_out_lem}
 use Rattle.decode.proofs.Register.{layout-ranges}
 use Rattle.layout.specs.Tree.{node_of, leaf_of, options, trees, tree_of}
 use Rattle.layout.specs.declared.Node.{Node}
-use Rattle.layout.specs.declared.Checked.TheVariants.{Upto}
 use Rattle.layout.proofs.Facts.{trees-get, as_union, as_leaf}
 use Rattle.message.specs.Read.{one, and_then, read_item, read_fields}
 use Rattle.message.specs.Check.{message_type, under_table_lem}
@@ -37,6 +35,7 @@ use Rattle.message.proofs.Theorem.{read-start}
 use Rattle.message.proofs.Records.{length-entry, listed-length}
 use Rattle.message.proofs.Rows.{Lies, row-none, row_first, row_next, container_tree, span_ok, span_lies}
 use Rattle.message.proofs.Bodies.{fields_read, container-read, bare-says, body-says, body_below, body-read, wrong-read}
+use Rattle.std.specs.declared.result.Result.TheVariants.{Ok}
 
 -- Acceptance does not depend on where the item starts.
 pub accepted-start : (x : Ty) (b : List ℕ) (s u : ℕ) → IsAccepted (read_item x b s) → IsAccepted (read_item x b u)
@@ -190,7 +189,7 @@ module _ (l : List ℕ) (lower : List Ty) (b : List ℕ) (s : ℕ) where
 module _ (lens l : List ℕ) (t : ℕ) (n : Node) (e : n ≡ node_of l t) (g : Under lens l (t + 1)) (b : List ℕ) (s : ℕ)
     (h : IsAccepted (read_item (tree_of l t) b s)) where
   module _ (k : n.kind ≡ 6) where
-    container-both : (lay_out_lem (heads_of l t (n.at + 2) 1 n.second) b ≡ Told.Fine) ×
+    container-both : (lay_out_lem (heads_of l t (n.at + 2) 1 n.second) b ≡ Ok tt) ×
         IsAccepted (and_then (one 0 0) (read_fields (row_of l t (n.at + 2) 1 n.second) b 0 s))
     container-both = built-both _ t s _ (rw (container-read lens l t n e g k b s) at h)
 
@@ -250,7 +249,7 @@ pub room-long : (o : List ℕ) (at : ℕ) (x : Ty) (b : List ℕ) (s : ℕ) → 
 room-long o at x b s g = omega (arith, g.room, list-long x b s)
 
 -- An accepted message under a legal table: it is below 2^32 bytes, and there is room for as many records as it counts.
-pub under-accepted : (l m : List ℕ) (n : ℕ) (c : Counts) → under_table_lem (Upto n) l m ≡ Accepted c →
+pub under-accepted : (l m : List ℕ) (n : ℕ) (c : Counts) → under_table_lem (Ok n) l m ≡ Accepted c →
     (read_item (message_type l n) m 0 ≡ Accepted c) × (length m < 2 ^ 32)
 under-accepted l m n c e =
     let q = right_accepted (ltb 4294967295 (length m)) (read_item (message_type l n) m 0) TooLarge 0 0 c e in

@@ -16,7 +16,6 @@ use Rattle.standard.specs.Types.{Ty, Tys, number, boolean, fixed_bytes, free_byt
 use Rattle.standard.specs.Parts.{next}
 use Rattle.standard.specs.declared.Head.{Head}
 use Rattle.standard.specs.declared.Head.TheVariants.{Fixed, Variable}
-use Rattle.standard.specs.declared.Told.{Told}
 use Rattle.standard.specs.declared.Refusal.{Refusal}
 use Rattle.standard.proofs.Elements.{All, copies, all-copies}
 use Rattle.standard.proofs.Laws.{joined-fixed, fixed-injective, all-fixed}
@@ -30,6 +29,9 @@ use Rattle.message.specs.declared.Answer.TheVariants.{Refused}
 use Rattle.message.proofs.Answers.{built-both}
 use Rattle.message.proofs.Bounds.{vector-length}
 use Rattle.message.proofs.Copies.{words-copies, bytes-copies, laid_out, laid-fixed, vector-laid}
+use Rattle.std.specs.declared.result.Result.{Result}
+use Rattle.std.specs.declared.result.Result.TheVariants.{Ok, Err}
+use Rattle.std.specs.Prelude.{⊤}
 
 not_fixed : {A : Type 0} (k : ℕ) → Variable ≡ Fixed k → A
 not_fixed k e = let z : ◌≡◌ {A = ℕ} 0 1 = cc in absurd (omega arith)
@@ -105,19 +107,19 @@ test_true : (q : Bool) (x : Answer) (r : Refusal) (t s : ℕ) → IsAccepted (pi
 test_true true x r t s h = refl
 test_true false x r t s h = absurd h
 
-bits_fine : (d : Told) (t s n : ℕ) → IsAccepted (of_vector_lem d t s n) → d ≡ Told.Fine
-bits_fine Told.Fine t s n h = refl
-bits_fine (Told.Refused r) t s n h = absurd h
+bits_fine : (d : Result ⊤ Refusal) (t s n : ℕ) → IsAccepted (of_vector_lem d t s n) → d ≡ Ok tt
+bits_fine (Ok tt) t s n h = refl
+bits_fine (Err r) t s n h = absurd h
 
 next-all : (ts : Tys) (b : List ℕ) (p m : ℕ) → head_all ts ≡ Fixed m → next (heads ts) b p ≡ length b
 unfolding next heads head
 next-all end b p m e = refl
 next-all (field t ts) b p m e = let j = joined-fixed (head t) (head_all ts) m e in rw j.2 (next-all ts b (p + j.0) j.1 j.3)
 
-fields-long : (ts : Tys) (b : List ℕ) (k : ℕ) → lay_out_lem (heads ts) b ≡ Told.Fine → head_all ts ≡ Fixed k → length b ≡ k
+fields-long : (ts : Tys) (b : List ℕ) (k : ℕ) → lay_out_lem (heads ts) b ≡ Ok tt → head_all ts ≡ Fixed k → length b ≡ k
 fields-long ts b k d e = sym (next-all ts b 0 k e) ∙ (laid_out (heads ts) b d).first ∙ all-fixed ts k e
 
-elements-long : (h : Head) (n : ℕ) (b : List ℕ) (k : ℕ) → vector_told_lem h n b ≡ Told.Fine → times n h ≡ Fixed k → length b ≡ k
+elements-long : (h : Head) (n : ℕ) (b : List ℕ) (k : ℕ) → vector_told_lem h n b ≡ Ok tt → times n h ≡ Fixed k → length b ≡ k
 unfolding times
 elements-long (Fixed w) n b k d e = laid-fixed n w b (vector-laid (Fixed w) n b d) ∙ fixed-injective (n * w) k e
 elements-long Variable n b k d e = not_fixed k e

@@ -30,7 +30,6 @@ use Rattle.layout.specs.Tree.{node_of, leaf_of, tree_of}
 use Rattle.layout.specs.Table.{table_of}
 use Rattle.layout.specs.Legal.{Legal}
 use Rattle.layout.specs.declared.Node.{Node}
-use Rattle.layout.specs.declared.Checked.TheVariants.{Upto}
 use Rattle.layout.proofs.Trees.{AllBodies, leaf-cases, node_holds, by_lower, legal_tree}
 use Rattle.layout.proofs.Tables.{table_legal}
 use Rattle.message.specs.Listing.{entry, list_item_lem, list_fields_lem, list_option}
@@ -262,7 +261,7 @@ module _ (l : List ℕ) where
       (λ k. vector-agrees t i (omega arith) _ _))
 
 -- An item: the listing of a value's encoding, of a type of a legal table, at any start.
-module _ (l : List ℕ) (n : ℕ) (h : Bytes l) (e : table_of l ≡ Upto n) (t : ℕ) (i : t < n) (v : Val (tree_of l t)) (o : Ok (tree_of l t) v)
+module _ (l : List ℕ) (n : ℕ) (h : Bytes l) (e : table_of l ≡ Ok n) (t : ℕ) (i : t < n) (v : Val (tree_of l t)) (o : Ok (tree_of l t) v)
     (b : List ℕ) (q : serialize (tree_of l t) v ≡ b) (s : ℕ) (j : s + length b < 2 ^ 32) where
   item_reads : Reads l (list_item_lem (tree_of l t) b s) (leaf_pieces (pieces (tree_of l t) v s))
   unfolding Agrees
@@ -278,7 +277,7 @@ module _ (l : List ℕ) (n : ℕ) (h : Bytes l) (e : table_of l ≡ Upto n) (t :
 -- message is the encoding of a value within bounds, and the leaves among the k records that the buffer then begins with are that value's leaf pieces.
 pub record Leaves (l m o : List ℕ) (k : ℕ) : Type 0 where
   pub types : ℕ
-  pub legal : table_of l ≡ Upto types
+  pub legal : table_of l ≡ Ok types
   pub value : Val (message_type l types)
   pub in_bounds : Ok (message_type l types) value
   pub encoded : serialize (message_type l types) value ≡ m
@@ -306,7 +305,7 @@ reads-stored {x = x} o k g h i =
 
 -- What the call leaves in the buffer.
 listed-stored :
-    (l m o : List ℕ) (n : ℕ) (c : Counts) → table_of l ≡ Upto n → check_message l m ≡ Accepted c → c.records ≤ length o / 12
+    (l m o : List ℕ) (n : ℕ) (c : Counts) → table_of l ≡ Ok n → check_message l m ≡ Accepted c → c.records ≤ length o / 12
     → listed_records l m o ≡ sets o 0 (list_item_lem (message_type l n) m 0)
 unfolding listed_records
 listed-stored l m o n c e f h = rw (e, f, le-ltb _ _ h)

@@ -23,11 +23,12 @@ use Rattle.message.specs.Read.{one, elements, many_of, read_item, read_fields}
 use Rattle.message.specs.Listing.{entry, list_item_lem, list_fields_lem}
 use Rattle.message.specs.Unfold.{unfold_bytes, bytes_fields}
 use Rattle.message.specs.Steps.{Under, Row, row_of, heads_of, many_in_lem, IsAccepted}
-use Rattle.message.specs.declared.elements.Elements.{Elements}
-use Rattle.message.specs.declared.elements.Elements.TheVariants.{Many}
 use Rattle.message.proofs.Answers.{then_both, built-both, many-both}
 use Rattle.message.proofs.Copies.{Some, Laid, elements_laid, vector-laid}
 use Rattle.message.proofs.Repeats.{else_list, element-some, element-heads, element-row, list_read, list-listed, list-bytes, vector-read, vector-listed, vector-bytes}
+use Rattle.std.specs.declared.result.Result.{Result}
+use Rattle.std.specs.declared.result.Result.TheVariants.{Ok}
+use Rattle.standard.specs.declared.Refusal.{Refusal}
 
 -- m elements of the type t, whose words are n, lie in b and are accepted; the listing and the body bytes of b are theirs.
 pub record Held (l : List ℕ) (t : ℕ) (n : Node) (m : ℕ) (b : List ℕ) (s : ℕ) : Type 0 where
@@ -50,18 +51,18 @@ range_few (suc m) Variable i b p prev k r = omega (arith, range_few m Variable i
 module _ (lens l : List ℕ) (t : ℕ) (n : Node) (e : n ≡ node_of l t) (g : Under lens l (t + 1)) (k : 8 ≤ n.kind) (b : List ℕ) (s : ℕ)
     (h : IsAccepted (read_item (tree_of l t) b s)) where
   -- what a list says of its elements
-  abbrev said : Elements
+  abbrev said : Result ℕ Refusal
   said = elements (head (tree_of l n.second)) (word_at l (n.at + 2)) b
 
   abbrev many : ℕ
   many = many_in_lem l n (head (tree_of l n.second)) b
 
-  list-many : n.kind ≡ 8 → (m : ℕ) × (said ≡ Many m) × IsAccepted (read_fields (row_of l t (n.at + 1) 0 m) b 0 s)
+  list-many : n.kind ≡ 8 → (m : ℕ) × (said ≡ Ok m) × IsAccepted (read_fields (row_of l t (n.at + 1) 0 m) b 0 s)
   list-many q =
       let p = many-both said t s _ (rw (list_read lens l t n e g k q b s) at h) in
       (p.0, p.1, (then_both (one 1 0) (read_fields (row_of l t (n.at + 1) 0 p.0) b 0 s) p.2).1)
 
-  pub many-elements : (n.kind ≡ 9 → ⊥) → said ≡ Many many
+  pub many-elements : (n.kind ≡ 9 → ⊥) → said ≡ Ok many
   many-elements z =
       let p = list-many (else_list lens l t n e g k z) in
       rw (ne_eqb n.kind 9 z, p.1)

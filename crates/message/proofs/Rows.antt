@@ -12,14 +12,11 @@ use Rattle.standard.specs.Parts.{next, span_of, part, InRange}
 use Rattle.standard.specs.declared.Head.{Head}
 use Rattle.standard.specs.declared.Head.TheVariants.{Fixed, Variable}
 use Rattle.standard.specs.declared.Span.{Span}
-use Rattle.standard.specs.declared.Told.{Told}
 use Rattle.standard.specs.declared.Refusal.{Refusal}
 use Rattle.standard.proofs.Join.{range_weaken, span_ranges}
-use Rattle.standard.specs.declared.Maybe.TheVariants.{Nothing}
 use Rattle.standard.proofs.Laws.{fixed-some, fixed-injective, joined-fixed}
 use Rattle.decode.specs.Builder.{fresh, step, follow, register, build, ended, lay_out_lem}
 use Rattle.decode.specs.declared.builder.Progress.{Progress}
-use Rattle.decode.specs.declared.builder.Step.{Step}
 use Rattle.decode.proofs.Register.{step-within, beyond}
 use Rattle.layout.specs.Tree.{node_of, tree_of, fields, trees, len_of, head_of}
 use Rattle.layout.specs.declared.Node.{Node}
@@ -30,6 +27,9 @@ use Rattle.layout.proofs.Facts.{trees-get, as_container, lower-here, lower-rest,
 use Rattle.layout.proofs.Tables.{known_len, known-length}
 use Rattle.layout.proofs.Trees.{legal_tree, len_small}
 use Rattle.message.specs.Steps.{Under, Row, Named, row_of, heads_of}
+use Rattle.std.specs.declared.result.Result.{Result}
+use Rattle.std.specs.declared.result.Result.TheVariants.{Ok, Err}
+use Rattle.std.specs.declared.option.Option.TheVariants.{None}
 
 -- The lengths that the table check found.
 pub under_table : (lens l : List ℕ) (k : ℕ) → Known lens l k → Under lens l k
@@ -170,10 +170,10 @@ module _ (lens l : List ℕ) (t a₀ apart n : ℕ) (b : List ℕ) (x : Progress
   unfolding register
   laying-same = rw (row-heads lens l t a apart left f g.row p e h q) at g.same
 
-  pub laying-next : (y : Progress) → step h b x ≡ Step.Next y → Laying lens l t a₀ apart n b y (a + apart) (left - 1)
+  pub laying-next : (y : Progress) → step h b x ≡ Ok y → Laying lens l t a₀ apart n b y (a + apart) (left - 1)
   laying-next y s = record { row = row_next lens l t a apart left f g.row p e; within = step-within h b x y s; same = rw s at laying-same }
 
-  pub laying-bad : (r : Refusal) → step h b x ≡ Step.Refused r → Told.Refused r ≡ lay_out_lem (heads_of l t a₀ apart n) b
+  pub laying-bad : (r : Refusal) → step h b x ≡ Err r → Err r ≡ lay_out_lem (heads_of l t a₀ apart n) b
   unfolding lay_out_lem
   laying-bad r s = rw (← laying-same, s)
 
@@ -184,14 +184,14 @@ laying-end lens l t a₀ apart n b x a left g h = rw (← g.same, heads-none l t
 
 -- Fields of fixed size that take all the bytes are laid out well.
 at_pos : ℕ → Progress
-at_pos p = record { pos = p; first = Nothing; previous = Nothing }
+at_pos p = record { pos = p; first = None; previous = None }
 
-pub fixed-step : (n : ℕ) (b : List ℕ) (x : Progress) → x.pos + n ≤ length b → length b < 2 ^ 32 → step (Fixed n) b x ≡ Step.Next (beyond x n)
+pub fixed-step : (n : ℕ) (b : List ℕ) (x : Progress) → x.pos + n ≤ length b → length b < 2 ^ 32 → step (Fixed n) b x ≡ Ok (beyond x n)
 unfolding step
 fixed-step n b x h k = rw (le-ltb 4294967295 n (omega arith), le-ltb (length b) (x.pos + n) h)
 
 fixed_registers : (ts : Tys) (b : List ℕ) (p m : ℕ) → head_all ts ≡ Fixed m → p + m ≤ length b → length b < 2 ^ 32 →
-    register (heads ts) b (at_pos p) ≡ Step.Next (at_pos (p + m))
+    register (heads ts) b (at_pos p) ≡ Ok (at_pos (p + m))
 unfolding register heads head at_pos
 fixed_registers end b p m e h k = let z : p + m ≡ p = let q : 0 ≡ m = fixed-injective 0 m e in omega arith in rw z
 fixed_registers (field t ts) b p m e h k =
@@ -201,16 +201,16 @@ fixed_registers (field t ts) b p m e h k =
     let z : p + j.0 + j.1 ≡ p + m = omega (arith, j.4) in
     rw (j.2, i) (rw z at r)
 
-pub fixed-laid : (ts : Tys) (b : List ℕ) → head_all ts ≡ Fixed (length b) → length b < 2 ^ 32 → Told.Fine ≡ lay_out_lem (heads ts) b
+pub fixed-laid : (ts : Tys) (b : List ℕ) → head_all ts ≡ Fixed (length b) → length b < 2 ^ 32 → (Ok tt) ≡ lay_out_lem (heads ts) b
 unfolding lay_out_lem build at_pos
 fixed-laid ts b e k =
     let z : 0 + length b ≡ length b = omega arith in
-    let r : register (heads ts) b fresh ≡ Step.Next (at_pos (length b)) = rw z at (fixed_registers ts b 0 (length b) e (omega arith) k) in
-    let f : build (length b) (at_pos (length b)) ≡ Told.Fine = rw (eq-eqb (length b) (length b) refl) in
-    sym (ap (λ (x : Step). ended x (build (length b))) r ∙ f)
+    let r : register (heads ts) b fresh ≡ Ok (at_pos (length b)) = rw z at (fixed_registers ts b 0 (length b) e (omega arith) k) in
+    let f : build (length b) (at_pos (length b)) ≡ Ok tt = rw (eq-eqb (length b) (length b) refl) in
+    sym (ap (λ (x : Result Progress Refusal). ended x (build (length b))) r ∙ f)
 
 pub container-fixed : (lens l : List ℕ) (t : ℕ) (ts : Tys) (b : List ℕ) (k : ℕ) → Under lens l (t + 1) → tree_of l t ≡ container t ts →
-    k ≡ get_or lens t 0 → 0 < k → k ≡ length b → length b < 2 ^ 32 → Told.Fine ≡ lay_out_lem (heads ts) b
+    k ≡ get_or lens t 0 → 0 < k → k ≡ length b → length b < 2 ^ 32 → (Ok tt) ≡ lay_out_lem (heads ts) b
 unfolding head
 container-fixed lens l t ts b k g e q z h s =
     let f = len_head (head (tree_of l t)) k (q ∙ g.found t (omega arith)) (λ (v : k ≡ 0). omega arith) in

@@ -20,7 +20,6 @@ use Rattle.standard.specs.Types.{Ty, Tys, Opts, number, boolean, fixed_bytes, fr
 use Rattle.standard.specs.Parts.{Part, piece, alike, join, span_of, part, split}
 use Rattle.standard.specs.Serialize.{Val, Vals, Option, Each, Ok, OkAll, OkOption, serialize, parts, selected}
 use Rattle.standard.specs.declared.Span.{Span}
-use Rattle.standard.specs.declared.Told.{Told}
 use Rattle.standard.specs.declared.Refusal.{Refusal}
 use Rattle.standard.proofs.Bytes.{bytes_drop, bytes_take, length-le, le-num, num-bound}
 use Rattle.standard.proofs.Bits.{bits_of, length-bits_of, bit-bound}
@@ -30,21 +29,20 @@ use Rattle.standard.proofs.Laws.{fixed-some, heads-parts, legal-copies, values_s
 use Rattle.decode.specs.Builder.{lay_out_lem}
 use Rattle.decode.proofs.Register.{layout-passes}
 use Rattle.bitfield.specs.Body.{bit_list_body, bit_vector_body}
-use Rattle.bitfield.specs.declared.BodyBits.{BodyBits}
 use Rattle.bitfield.proofs.Standard.{list-sound, list-complete, vector-sound, vector-complete}
 use Rattle.layout.specs.Table.{table_of}
-use Rattle.layout.specs.declared.Checked.TheVariants.{Upto}
 use Rattle.layout.proofs.Trees.{legal_tree}
 use Rattle.layout.proofs.Tables.{table_legal}
 use Rattle.message.specs.Read.{raw_bytes_lem, one, plus, and_then, built, of_vector_lem, of_list, of_elements, elements, vector_told_lem, read_each, read_item, read_fields, read_option}
 use Rattle.message.specs.Check.{message_type, check_message}
 use Rattle.message.specs.declared.Counts.{Counts}
-use Rattle.message.specs.declared.elements.Elements.{Elements}
-use Rattle.message.specs.declared.elements.Elements.TheVariants.{Many}
 use Rattle.message.specs.declared.Answer.{Answer}
 use Rattle.message.specs.declared.Answer.TheVariants.{Accepted, Refused}
 use Rattle.message.proofs.Answers.{single, not_accepted, pick-cases, left-accepted, right_accepted, leaf-accepted, then_accepted, then_accepts, behind-accepted, built-accepted, vector-accepted, list-accepted, many-accepted}
 use Rattle.message.proofs.Copies.{read-copies, Laid, laid_out, vector-laid, laid-vector, elements_laid, laid-elements}
+use Rattle.std.specs.declared.result.Result.{Result}
+use Rattle.std.specs.declared.result.Result.TheVariants.{Err}
+use Rattle.std.specs.Prelude.{⊤}
 
 -- What is accepted is the serialization of a value.
 sound-boolean : (b : List ℕ) → length b ≡ 1 → get_or b 0 0 < 2 → (x : Bool) × (bit x ∷ [] ≡ b)
@@ -284,7 +282,7 @@ module _ (t : Ty) (g : LegalTy t) (b : List ℕ) where
   only_one k v w h i e f = injective t v w g h i (rw e k) (e ∙ sym f)
 
 -- The call: under a legal table, a message is accepted exactly if it is the serialization of a value of the table's last type.
-module _ (l : List ℕ) (n : ℕ) (h : Bytes l) (e : table_of l ≡ Upto n) (m : List ℕ) (k : length m < 2 ^ 32) where
+module _ (l : List ℕ) (n : ℕ) (h : Bytes l) (e : table_of l ≡ Ok n) (m : List ℕ) (k : length m < 2 ^ 32) where
   pub message-read : check_message l m ≡ read_item (message_type l n) m 0
   unfolding check_message
   message-read = rw (e, le-ltb 4294967295 (length m) (omega arith))
@@ -324,21 +322,21 @@ same_then x y u v f g c e =
     let q = then_accepted x y c e in
     then_accepts u v q.0 q.1 (f q.0 q.2) (g q.1 q.3) ∙ ap Accepted (sym q.4)
 
-same-built : (d : Told) (t s u : ℕ) (x y : Answer) → Same x y → Same (built d t s x) (built d t u y)
-same-built (Told.Refused r) t s u x y f = same_refused r t s (Refused r t u)
-same-built Told.Fine t s u x y f = f
+same-built : (d : Result ⊤ Refusal) (t s u : ℕ) (x y : Answer) → Same x y → Same (built d t s x) (built d t u y)
+same-built (Err r) t s u x y f = same_refused r t s (Refused r t u)
+same-built (Ok tt) t s u x y f = f
 
-same-vector : (d : Told) (t s u n : ℕ) → Same (of_vector_lem d t s n) (of_vector_lem d t u n)
-same-vector (Told.Refused r) t s u n = same_refused r t s (Refused r t u)
-same-vector Told.Fine t s u n = same_self (one 0 n)
+same-vector : (d : Result ⊤ Refusal) (t s u n : ℕ) → Same (of_vector_lem d t s n) (of_vector_lem d t u n)
+same-vector (Err r) t s u n = same_refused r t s (Refused r t u)
+same-vector (Ok tt) t s u n = same_self (one 0 n)
 
-same-list : (d : BodyBits) (t s u : ℕ) → Same (of_list d t s) (of_list d t u)
-same-list (BodyBits.Refused r) t s u = same_refused r t s (Refused r t u)
-same-list (BodyBits.Bits k) t s u = same_self (one 1 (raw_bytes_lem k))
+same-list : (d : Result ℕ Refusal) (t s u : ℕ) → Same (of_list d t s) (of_list d t u)
+same-list (Err r) t s u = same_refused r t s (Refused r t u)
+same-list (Ok k) t s u = same_self (one 1 (raw_bytes_lem k))
 
-same-elements : (d : Elements) (t s u : ℕ) (x y : ℕ → Answer) → ((n : ℕ) → Same (x n) (y n)) → Same (of_elements d t s x) (of_elements d t u y)
-same-elements (Elements.Refused r) t s u x y f = same_refused r t s (Refused r t u)
-same-elements (Many n) t s u x y f = f n
+same-elements : (d : Result ℕ Refusal) (t s u : ℕ) (x y : ℕ → Answer) → ((n : ℕ) → Same (x n) (y n)) → Same (of_elements d t s x) (of_elements d t u y)
+same-elements (Err r) t s u x y f = same_refused r t s (Refused r t u)
+same-elements (Ok n) t s u x y f = f n
 
 Starts : Ty → Type 0
 Starts t = (b : List ℕ) (s u : ℕ) → Same (read_item t b s) (read_item t b u)

@@ -12,19 +12,21 @@ use Rattle.standard.specs.Serialize.{Val, Ok, serialize}
 use Rattle.standard.specs.Pieces.{pieces, covers, AllStandIn}
 use Rattle.standard.proofs.Pieces.{tiled, untiled, all_stand}
 use Rattle.layout.specs.Table.{table_of}
-use Rattle.layout.specs.declared.Checked.{Checked}
-use Rattle.layout.specs.declared.Checked.TheVariants.{Bad, Upto}
 use Rattle.message.specs.Check.{message_type, under_table_lem, check_message}
 use Rattle.message.specs.declared.Counts.{Counts}
 use Rattle.message.specs.declared.Answer.TheVariants.{Accepted}
 use Rattle.message.proofs.Answers.{not_accepted, right_accepted}
 use Rattle.message.proofs.Theorem.{message_iff, message-one}
+use Rattle.std.specs.declared.result.Result.{Result}
+use Rattle.std.specs.declared.result.Result.TheVariants.{Err}
+use Rattle.standard.specs.declared.Refusal.{Refusal}
+use Rattle.standard.specs.declared.Refusal.TheVariants.{BadLayout}
 
 -- What is said of a message m that is accepted under the layout l: the layout is legal and has so many types, the message is below 2^32 bytes, it is the
 -- encoding of one value within bounds and of no other, and that value's pieces tile it.
 pub record Tiled (l m : List ℕ) : Type 0 where
   pub types : ℕ
-  pub legal : table_of l ≡ Upto types
+  pub legal : table_of l ≡ Ok types
   pub small : length m < 2 ^ 32
   pub value : Val (message_type l types)
   pub in_bounds : Ok (message_type l types) value
@@ -36,9 +38,9 @@ pub record Tiled (l m : List ℕ) : Type 0 where
   pub each_within : AllStandIn m (pieces (message_type l types) value 0)
 
 -- Acceptance says that the layout is legal and the message not too long.
-under-accepted : (d : Checked) (l m : List ℕ) (c : Counts) → under_table_lem d l m ≡ Accepted c → (n : ℕ) × (d ≡ Upto n) × (length m < 2 ^ 32)
-under-accepted (Bad w) l m c e = not_accepted _ 0 0 c e
-under-accepted (Upto n) l m c e =
+under-accepted : (d : Result ℕ Refusal) (l m : List ℕ) (c : Counts) → under_table_lem d l m ≡ Accepted c → (n : ℕ) × (d ≡ Ok n) × (length m < 2 ^ 32)
+under-accepted (Err (BadLayout w)) l m c e = not_accepted _ 0 0 c e
+under-accepted (Ok n) l m c e =
     let p = right_accepted (ltb 4294967295 (length m)) _ _ 0 0 c e in
     (n, refl, omega (arith, ltb-false 4294967295 (length m) p.0))
 

@@ -11,7 +11,6 @@ use Rattle.standard.specs.Parts.{span_of, part}
 use Rattle.standard.proofs.Elements.{All, copies, all-copies}
 use Rattle.decode.specs.Builder.{lay_out_lem}
 use Rattle.bitfield.specs.Body.{bit_list_body, bit_vector_body}
-use Rattle.bitfield.specs.declared.BodyBits.{BodyBits}
 use Rattle.message.specs.Read.{raw_bytes_lem, one, and_then, elements, many_of, vector_told_lem, read_each, read_item, read_fields, read_option}
 use Rattle.message.specs.Unfold.{bit_count, raw_of, each_from, unfold_words, words_fields, words_option, unfold_bytes, bytes_fields, bytes_option, Rooms}
 use Rattle.message.specs.declared.Counts.{Counts}
@@ -19,9 +18,10 @@ use Rattle.message.specs.declared.Answer.TheVariants.{Accepted}
 use Rattle.message.proofs.Answers.{none, single, not_accepted, accepted-same, pick-cases, left-accepted, right_accepted, leaf-accepted, then_accepted, behind-accepted, built-accepted, vector-accepted, list-accepted, many-accepted}
 use Rattle.message.proofs.Copies.{read-copies, words-copies, bytes-copies}
 use Rattle.message.proofs.UnfoldLeaves.{length-raw}
+use Rattle.std.specs.declared.result.Result.TheVariants.{Ok}
 
 bits-counted :
-    (b : List ℕ) (limit k : ℕ) (c : Counts) → bit_list_body b limit ≡ BodyBits.Bits k → c ≡ single 1 (raw_bytes_lem k)
+    (b : List ℕ) (limit k : ℕ) (c : Counts) → bit_list_body b limit ≡ Ok k → c ≡ single 1 (raw_bytes_lem k)
     → (1 ≡ c.words) × (length (raw_of b (bit_count (bit_list_body b limit))) ≡ c.bytes)
 bits-counted b limit k c e f = rw (e, f) (refl, length-raw b k)
 

@@ -16,7 +16,6 @@ use Rattle.standard.proofs.Bytes.{bytes_take, bytes-append, le-num}
 use Rattle.standard.proofs.Bits.{bits_of, packs-le, length-packs, length-bits_of, bit_num-low, bit_num-bound, length_marked, num-marked, num-append, pow_bytes}
 use Rattle.standard.proofs.Store.{stored-none}
 use Rattle.bitfield.specs.Body.{bit_list_body}
-use Rattle.bitfield.specs.declared.BodyBits.{BodyBits}
 use Rattle.bitfield.proofs.Bodies.{cut_below, below-cut}
 use Rattle.bitfield.proofs.Standard.{list-sound}
 use Rattle.bitfield.proofs.Tops.{byte_at}
@@ -25,6 +24,7 @@ use Rattle.layout.specs.declared.Node.{Node}
 use Rattle.message.specs.Read.{raw_bytes_lem, read_item}
 use Rattle.message.specs.Unfold.{raw_of, unfold_words, unfold_bytes, Accepts, Rooms, Filled, MarkedAt}
 use Rattle.message.specs.declared.unfolding.Place.{Place}
+use Rattle.std.specs.declared.result.Result.TheVariants.{Ok, Err}
 
 pub stored-length : (o : List ℕ) (at : ℕ) (x : List ℕ) (r : ℕ) (o' : List ℕ) → Stored o at x r o' → length o' ≡ length o
 stored-length o at x r o' g = ap length g.list ∙ length-sets o at x
@@ -140,7 +140,7 @@ raw-place b k o at r o' m g e h =
     let l : length (take (k / 8) b) ≡ k / 8 = rw length-take (omega (arith, m.long)) in
     omega (arith, length-raw b k, g.room, h.ends, stored-length o at (take (k / 8) b) r o' h)
 
-pub marked-at : (b : List ℕ) (limit k : ℕ) → Bytes b → bit_list_body b limit ≡ BodyBits.Bits k → MarkedAt b k × (k ≤ limit)
+pub marked-at : (b : List ℕ) (limit k : ℕ) → Bytes b → bit_list_body b limit ≡ Ok k → MarkedAt b k × (k ≤ limit)
 marked-at b limit k h e =
     let q = list-sound b limit k h e in
     let bs = bits_of k (num b) in
@@ -190,7 +190,7 @@ variable_bits t n h f = go n.kind h f
     go (suc (suc (suc (suc (suc i))))) h f = omega arith
 
 -- A body that is refused is not accepted.
-pub bits_refused : (t limit : ℕ) (b : List ℕ) (r : Refusal) → BodyBits.Refused r ≡ bit_list_body b limit → Accepts (bit_list t limit) b → ⊥
+pub bits_refused : (t limit : ℕ) (b : List ℕ) (r : Refusal) → Err r ≡ bit_list_body b limit → Accepts (bit_list t limit) b → ⊥
 unfolding read_item
 bits_refused t limit b r e g = rw (← e) at g.accepted
 
@@ -214,7 +214,7 @@ module _ (t : ℕ) (n : Node) (b o p : List ℕ) (at : Place) where
     unfolding unfold_words unfold_bytes
     free_filled r o' p' g = rw (leaf_free t n k) g
 
-  module _ (k : 5 ≤ n.kind) (c : ℕ) (e : BodyBits.Bits c ≡ bit_list_body b n.second) where
+  module _ (k : 5 ≤ n.kind) (c : ℕ) (e : Ok c ≡ bit_list_body b n.second) where
     pub bits-rooms : Rooms o p at (unfold_words (leaf_of t n) b) (unfold_bytes (leaf_of t n) b) → Rooms o p at (c ∷ []) (raw_of b c)
     unfolding unfold_words unfold_bytes
     bits-rooms g = rw (leaf-bits t n k, ← e) at g
@@ -224,6 +224,6 @@ module _ (t : ℕ) (n : Node) (b o p : List ℕ) (at : Place) where
     unfolding unfold_words unfold_bytes
     bits-filled r o' p' g = rw (leaf-bits t n k, ← e) g
 
-pub bits-never : {A : Type 0} (t : ℕ) (n : Node) (b : List ℕ) → 5 ≤ n.kind → (r : Refusal) → BodyBits.Refused r ≡ bit_list_body b n.second →
+pub bits-never : {A : Type 0} (t : ℕ) (n : Node) (b : List ℕ) → 5 ≤ n.kind → (r : Refusal) → Err r ≡ bit_list_body b n.second →
     Accepts (leaf_of t n) b → A
 bits-never t n b k r e g = absurd (bits_refused t n.second b r e (rw (leaf-bits t n k) at g))

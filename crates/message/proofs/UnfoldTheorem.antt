@@ -27,7 +27,6 @@ use Rattle.standard.proofs.Elements.{All, copies, all-copies, length-as_list, by
 use Rattle.standard.proofs.Laws.{heads-parts, legal-copies, values_sized, piece_bytes, piece-rest, selector, payload, selected_is, selector-bounds}
 use Rattle.bitfield.proofs.Standard.{list-sound, list-complete}
 use Rattle.layout.specs.Table.{table_of}
-use Rattle.layout.specs.declared.Checked.TheVariants.{Upto}
 use Rattle.message.specs.Read.{raw_bytes_lem}
 use Rattle.message.specs.Check.{message_type, check_message, type_under}
 use Rattle.message.specs.Form.{raw_bits, contents, contents_all, contents_option, bodies, bodies_all, bodies_option}
@@ -177,7 +176,7 @@ sizes-says (Accepted c) o p w y e =
     (c, refl, ltb-false _ _ i.0, ltb-false _ _ j.0, cc, cc)
 
 -- The call: under a legal table, for a message below 2^32 bytes.
-module _ (l : List ℕ) (n : ℕ) (h : Bytes l) (e : table_of l ≡ Upto n) (m : List ℕ) (k : length m < 2 ^ 32) (o p : List ℕ) where
+module _ (l : List ℕ) (n : ℕ) (h : Bytes l) (e : table_of l ≡ Ok n) (m : List ℕ) (k : length m < 2 ^ 32) (o p : List ℕ) where
   given :
       (c : Counts) (x y : List ℕ) → check_message l m ≡ Accepted c → unfold_words (message_type l n) m ≡ x → unfold_bytes (message_type l n) m ≡ y
       → c.words ≤ length o → c.bytes ≤ length p

@@ -6,22 +6,23 @@ use Rattle.standard.specs.Types.{Ty}
 use Rattle.standard.specs.declared.Refusal.TheVariants.{BadLayout, TooLarge, NoRoom}
 use Rattle.layout.specs.Tree.{tree_of}
 use Rattle.layout.specs.Table.{table_of}
-use Rattle.layout.specs.declared.Checked.{Checked}
-use Rattle.layout.specs.declared.Checked.TheVariants.{Bad, Upto}
 use Rattle.message.specs.Read.{read_item}
 use Rattle.message.specs.Listing.{list_item_lem}
 use Rattle.message.specs.declared.Answer.{Answer}
 use Rattle.message.specs.declared.Answer.TheVariants.{Accepted, Refused}
 use Rattle.message.specs.declared.Listed.{Listed}
+use Rattle.std.specs.declared.result.Result.{Result}
+use Rattle.std.specs.declared.result.Result.TheVariants.{Ok, Err}
+use Rattle.standard.specs.declared.Refusal.{Refusal}
 
 -- "The message has the type T-1"
 abbrev pub message_type : List ℕ → ℕ → Ty
 message_type l n = tree_of l (n - 1)
 
 -- 20, then 21 "by length alone", then the rules of reading
-abbrev pub under_table_lem : Checked → List ℕ → List ℕ → Answer
-under_table_lem (Bad w) l m = Refused (BadLayout w) 0 0
-under_table_lem (Upto n) l m = pick (ltb 4294967295 (length m)) (Refused TooLarge 0 0) (read_item (message_type l n) m 0)
+abbrev pub under_table_lem : Result ℕ Refusal → List ℕ → List ℕ → Answer
+under_table_lem (Err (BadLayout w)) l m = Refused (BadLayout w) 0 0
+under_table_lem (Ok n) l m = pick (ltb 4294967295 (length m)) (Refused TooLarge 0 0) (read_item (message_type l n) m 0)
 
 unfoldable pub check_message : List ℕ → List ℕ → Answer
 check_message l m = under_table_lem (table_of l) l m
@@ -40,9 +41,9 @@ unfoldable pub list_message : List ℕ → List ℕ → List ℕ → Listed
 list_message l m o = listed_of (check_message l m) o
 
 -- The type of the message, where the table has one
-abbrev pub type_under : Checked → List ℕ → Ty
-type_under (Bad w) l = tree_of l 0
-type_under (Upto n) l = message_type l n
+abbrev pub type_under : Result ℕ Refusal → List ℕ → Ty
+type_under (Err (BadLayout w)) l = tree_of l 0
+type_under (Ok n) l = message_type l n
 
 unfoldable pub listed_records : List ℕ → List ℕ → List ℕ → List ℕ
 listed_records l m o = records_of (check_message l m) (type_under (table_of l) l) m o

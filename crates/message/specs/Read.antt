@@ -6,16 +6,16 @@ use Rattle.standard.specs.Types.{Ty, Tys, Opts, number, boolean, fixed_bytes, fr
 use Rattle.standard.specs.Parts.{span_of, part}
 use Rattle.standard.specs.declared.Head.{Head}
 use Rattle.standard.specs.declared.Head.TheVariants.{Fixed, Variable}
-use Rattle.standard.specs.declared.Told.{Told}
 use Rattle.standard.specs.declared.Refusal.TheVariants.{InvalidByteLength, InvalidLengthPrefix, OutOfBoundsByte, OffsetIntoFixedPortion, OffsetsAreDecreasing, OffsetOutOfBounds, UnionSelectorInvalid, BadBoolean, OverLimit, InvalidListFixedBytesLen}
 use Rattle.decode.specs.Builder.{lay_out_lem}
 use Rattle.bitfield.specs.Body.{bit_list_body, bit_vector_body}
-use Rattle.bitfield.specs.declared.BodyBits.{BodyBits}
-use Rattle.message.specs.declared.elements.Elements.{Elements}
-use Rattle.message.specs.declared.elements.Elements.TheVariants.{Many}
 use Rattle.message.specs.declared.Counts.{Counts}
 use Rattle.message.specs.declared.Answer.{Answer}
 use Rattle.message.specs.declared.Answer.TheVariants.{Accepted, Refused}
+use Rattle.std.specs.declared.result.Result.{Result}
+use Rattle.std.specs.declared.result.Result.TheVariants.{Ok, Err}
+use Rattle.std.specs.Prelude.{⊤}
+use Rattle.standard.specs.declared.Refusal.{Refusal}
 
 -- "Raw bytes are max(1, bits/8 rounded up)"
 abbrev pub raw_bytes_lem : ℕ → ℕ
@@ -35,75 +35,75 @@ and_then (Accepted c) (Refused r t s) = Refused r t s
 and_then (Accepted c) (Accepted d) = Accepted (plus c d)
 
 -- A builder's refusal, for the type t that starts at s; else the answer of the fields
-abbrev pub built : Told → ℕ → ℕ → Answer → Answer
-built (Told.Refused r) t s x = Refused r t s
-built Told.Fine t s x = x
+abbrev pub built : Result ⊤ Refusal → ℕ → ℕ → Answer → Answer
+built (Err r) t s x = Refused r t s
+built (Ok tt) t s x = x
 
 -- The body of bits
-abbrev pub of_vector_lem : Told → ℕ → ℕ → ℕ → Answer
-of_vector_lem (Told.Refused r) t s n = Refused r t s
-of_vector_lem Told.Fine t s n = one 0 n
+abbrev pub of_vector_lem : Result ⊤ Refusal → ℕ → ℕ → ℕ → Answer
+of_vector_lem (Err r) t s n = Refused r t s
+of_vector_lem (Ok tt) t s n = one 0 n
 
-abbrev pub of_list : BodyBits → ℕ → ℕ → Answer
-of_list (BodyBits.Refused r) t s = Refused r t s
-of_list (BodyBits.Bits k) t s = one 1 (raw_bytes_lem k)
+abbrev pub of_list : Result ℕ Refusal → ℕ → ℕ → Answer
+of_list (Err r) t s = Refused r t s
+of_list (Ok k) t s = one 1 (raw_bytes_lem k)
 
 -- "wrong length is 1"
 abbrev pub read_exact : ℕ → ℕ → List ℕ → ℕ → Answer
 read_exact w t b s = pick (eqb (length b) w) (one 0 (length b)) (Refused (InvalidByteLength (length b) w) t s)
 
 -- "count above limit 14"
-abbrev pub within : ℕ → ℕ → Elements
-within n limit = pick (leb n limit) (Many n) (Elements.Refused (OverLimit n limit))
+abbrev pub within : ℕ → ℕ → Result ℕ Refusal
+within n limit = pick (leb n limit) (Ok n) (Err (OverLimit n limit))
 
 -- n further offsets from position p on: "4 (below the first), then 7, then 6"
-unfoldable pub further : List ℕ → ℕ → ℕ → ℕ → ℕ → Told
-further b first previous p zero = Told.Fine
+unfoldable pub further : List ℕ → ℕ → ℕ → ℕ → ℕ → Result ⊤ Refusal
+further b first previous p zero = Ok tt
 further b first previous p (suc n) =
     let o = four b p in
-    pick (ltb o first) (Told.Refused (OffsetIntoFixedPortion o))
-    (pick (ltb (length b) o) (Told.Refused (OffsetOutOfBounds o))
-    (pick (ltb o previous) (Told.Refused (OffsetsAreDecreasing o))
+    pick (ltb o first) (Err (OffsetIntoFixedPortion o))
+    (pick (ltb (length b) o) (Err (OffsetOutOfBounds o))
+    (pick (ltb o previous) (Err (OffsetsAreDecreasing o))
     (further b first o (p + 4) n)))
 
 -- The elements that the first offset o says, if the offsets behind it are well
-abbrev pub then_many : Told → ℕ → Elements
-then_many Told.Fine n = Many n
-then_many (Told.Refused r) n = Elements.Refused r
+abbrev pub then_many : Result ⊤ Refusal → ℕ → Result ℕ Refusal
+then_many (Ok tt) n = Ok n
+then_many (Err r) n = Err r
 
-abbrev pub behind_first_lem : Elements → List ℕ → ℕ → Elements
-behind_first_lem (Elements.Refused r) b o = Elements.Refused r
-behind_first_lem (Many n) b o = then_many (further b o o 4 (n - 1)) n
+abbrev pub behind_first_lem : Result ℕ Refusal → List ℕ → ℕ → Result ℕ Refusal
+behind_first_lem (Err r) b o = Err r
+behind_first_lem (Ok n) b o = then_many (further b o o 4 (n - 1)) n
 
 -- "List of variable elements, empty is no elements; else 2; first offset above the length 7; zero or not a multiple of four 15 (offset); count above
 -- limit 14; further offsets"
-abbrev pub offset_elements_lem : ℕ → List ℕ → Elements
+abbrev pub offset_elements_lem : ℕ → List ℕ → Result ℕ Refusal
 offset_elements_lem limit b =
     let o = four b 0 in
-    pick (eqb (length b) 0) (Many 0)
-    (pick (ltb (length b) 4) (Elements.Refused (InvalidLengthPrefix (length b) 4))
-    (pick (ltb (length b) o) (Elements.Refused (OffsetOutOfBounds o))
-    (pick (or_else (eqb o 0) (ltb 0 (o % 4))) (Elements.Refused (InvalidListFixedBytesLen o))
+    pick (eqb (length b) 0) (Ok 0)
+    (pick (ltb (length b) 4) (Err (InvalidLengthPrefix (length b) 4))
+    (pick (ltb (length b) o) (Err (OffsetOutOfBounds o))
+    (pick (or_else (eqb o 0) (ltb 0 (o % 4))) (Err (InvalidListFixedBytesLen o))
     (behind_first_lem (within (o / 4) limit) b o))))
 
 -- How many elements with this head a list has. "List of fixed elements, 1 (length, element length) if not a multiple, then 14 (count, limit)."
-unfoldable pub elements : Head → ℕ → List ℕ → Elements
+unfoldable pub elements : Head → ℕ → List ℕ → Result ℕ Refusal
 elements (Fixed k) limit b =
-    pick (eqb (length b % k) 0) (within (length b / k) limit) (Elements.Refused (InvalidByteLength (length b) k))
+    pick (eqb (length b % k) 0) (within (length b / k) limit) (Err (InvalidByteLength (length b) k))
 elements Variable limit b = offset_elements_lem limit b
 
-abbrev pub many_of : Elements → ℕ
-many_of (Many n) = n
-many_of (Elements.Refused r) = 0
+abbrev pub many_of : Result ℕ Refusal → ℕ
+many_of (Ok n) = n
+many_of (Err r) = 0
 
 -- A list's refusal, for the type t that starts at s; else the answer of so many elements
-abbrev pub of_elements : Elements → ℕ → ℕ → (ℕ → Answer) → Answer
-of_elements (Elements.Refused r) t s x = Refused r t s
-of_elements (Many n) t s x = x n
+abbrev pub of_elements : Result ℕ Refusal → ℕ → ℕ → (ℕ → Answer) → Answer
+of_elements (Err r) t s x = Refused r t s
+of_elements (Ok n) t s x = x n
 
 -- n elements with this head in a vector: "fixed vector of wrong length, 1 (length, expected)"; "one of variable elements .. is read by the container rules"
-unfoldable pub vector_told_lem : Head → ℕ → List ℕ → Told
-vector_told_lem (Fixed k) n b = pick (eqb (length b) (n * k)) Told.Fine (Told.Refused (InvalidByteLength (length b) (n * k)))
+unfoldable pub vector_told_lem : Head → ℕ → List ℕ → Result ⊤ Refusal
+vector_told_lem (Fixed k) n b = pick (eqb (length b) (n * k)) (Ok tt) (Err (InvalidByteLength (length b) (n * k)))
 vector_told_lem Variable n b = lay_out_lem (replicate n Variable) b
 
 -- n elements with this head from position p on, each read by `item`

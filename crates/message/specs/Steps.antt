@@ -5,12 +5,9 @@ use Rattle.standard.specs.Bytes.{word_at}
 use Rattle.standard.specs.Types.{Tys, boolean, end, field, head, heads, portion}
 use Rattle.standard.specs.Parts.{next, InRange}
 use Rattle.standard.specs.declared.Head.{Head}
-use Rattle.standard.specs.declared.Maybe.{Maybe}
-use Rattle.standard.specs.declared.Maybe.TheVariants.{Just, Nothing}
 use Rattle.standard.specs.declared.Refusal.TheVariants.{InvalidByteLength, UnionSelectorInvalid}
 use Rattle.decode.specs.Unions.{split_union}
 use Rattle.decode.specs.declared.builder.Progress.{Progress}
-use Rattle.decode.specs.declared.union_selector.SelectorResult.{SelectorResult}
 use Rattle.layout.specs.Tree.{tree_of, trees, len_of}
 use Rattle.layout.specs.Table.{count}
 use Rattle.layout.specs.declared.Node.{Node}
@@ -22,6 +19,11 @@ use Rattle.message.specs.declared.Answer.TheVariants.{Accepted, Refused}
 use Rattle.message.specs.declared.items.Choice.{Choice}
 use Rattle.message.specs.declared.items.Inside.{Inside}
 use Rattle.message.specs.declared.items.LeafTold.{LeafTold}
+use Rattle.std.specs.declared.result.Result.{Result}
+use Rattle.std.specs.declared.option.Option.{Option}
+use Rattle.std.specs.declared.result.Result.TheVariants.{Ok, Err}
+use Rattle.std.specs.declared.option.Option.TheVariants.{Some, None}
+use Rattle.standard.specs.declared.Refusal.{Refusal}
 
 -- The types below k are legal, and their lengths stand in lens.
 pub record Under (lens l : List ℕ) (k : ℕ) : Type 0 where
@@ -83,8 +85,8 @@ abbrev pub count_of : Node → ℕ → List ℕ
 count_of n m = pick (eqb n.kind 9) [] (m ∷ [])
 
 -- Registration in plain numbers: an offset is known if there is a first one, and 2^64 - 1 stands for no first one.
-abbrev pub known_if : ℕ → ℕ → Maybe
-known_if first o = pick (eqb first 18446744073709551615) Nothing (Just o)
+abbrev pub known_if : ℕ → ℕ → Option ℕ
+known_if first o = pick (eqb first 18446744073709551615) None (Some o)
 
 abbrev pub progress_of : ℕ → ℕ → ℕ → Progress
 progress_of first previous p = record { pos = p; first = known_if first first; previous = known_if first previous }
@@ -96,9 +98,9 @@ option_at_lem w len =
     (pick (eqb len 1) Choice.Bare (Choice.Wrong (InvalidByteLength (len - 1) 0)))
     (Choice.Body w)
 
-abbrev pub choice_of : SelectorResult → List ℕ → ℕ → ℕ → ℕ → Choice
-choice_of (SelectorResult.Refused r) l a n len = Choice.Wrong r
-choice_of (SelectorResult.Selector k) l a n len = pick (ltb k.0 n) (option_at_lem (word_at l (a + k.0)) len) (Choice.Wrong (UnionSelectorInvalid k.0))
+abbrev pub choice_of : Result UnionSelector Refusal → List ℕ → ℕ → ℕ → ℕ → Choice
+choice_of (Err r) l a n len = Choice.Wrong r
+choice_of (Ok k) l a n len = pick (ltb k.0 n) (option_at_lem (word_at l (a + k.0)) len) (Choice.Wrong (UnionSelectorInvalid k.0))
 
 -- What the selector chooses among the n options that the words from a on name
 unfoldable pub choose : List ℕ → ℕ → ℕ → List ℕ → Choice

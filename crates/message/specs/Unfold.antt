@@ -9,7 +9,6 @@ use Rattle.standard.specs.Parts.{span_of, part}
 use Rattle.standard.specs.declared.Head.{Head}
 use Rattle.standard.specs.declared.Refusal.TheVariants.{NoRoom}
 use Rattle.bitfield.specs.Body.{bit_list_body}
-use Rattle.bitfield.specs.declared.BodyBits.{BodyBits}
 use Rattle.layout.specs.Table.{table_of}
 use Rattle.message.specs.Read.{raw_bytes_lem, elements, many_of, read_item, read_fields}
 use Rattle.message.specs.Check.{check_message, type_under}
@@ -18,11 +17,14 @@ use Rattle.message.specs.declared.Answer.{Answer}
 use Rattle.message.specs.declared.Answer.TheVariants.{Accepted, Refused}
 use Rattle.message.specs.declared.Unfolded.{Unfolded}
 use Rattle.message.specs.declared.unfolding.Place.{Place}
+use Rattle.std.specs.declared.result.Result.{Result}
+use Rattle.std.specs.declared.result.Result.TheVariants.{Ok, Err}
+use Rattle.standard.specs.declared.Refusal.{Refusal}
 
 -- How many bits a body of bits has
-abbrev pub bit_count : BodyBits → ℕ
-bit_count (BodyBits.Bits k) = k
-bit_count (BodyBits.Refused r) = 0
+abbrev pub bit_count : Result ℕ Refusal → ℕ
+bit_count (Ok k) = k
+bit_count (Err r) = 0
 
 -- The k lowest bits of a body of bits as raw bytes, without the mark
 unfoldable pub raw_of : List ℕ → ℕ → List ℕ

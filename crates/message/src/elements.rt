@@ -4,31 +4,23 @@ ghost use Rattle.standard.specs.Types.{head};
 ghost use Rattle.layout.specs.Tree.{node_of, tree_of, head_of};
 ghost use Rattle.message.specs.Read.{within, further, behind_first_lem, offset_elements_lem, elements, vector_told_lem, read_item};
 ghost use Rattle.message.specs.Steps.{Under, IsAccepted, many_in_lem};
-ghost use Rattle.message.specs.declared.elements.Elements.TheVariants.{Many};
 
 use crate::words::{four_in, word_in};
 use layout::Node;
-use standard::{Refusal, Told};
-
-// How many elements a list has, or what is wrong with it.
-#[derive(Clone, Copy)]
-pub(crate) enum Elements {
-    Many(usize),
-    Refused(Refusal),
-}
+use standard::Refusal;
 
 // So many elements, where the limit lets them be.
-fn many_within(n: usize, limit: usize) -> Elements
+fn many_within(n: usize, limit: usize) -> Result<usize, Refusal>
     ensures { result ≡ within n limit }
 {
     if n <= limit {
-        return Elements::Many(n);
+        return Ok(n);
     }
-    Elements::Refused(Refusal::OverLimit(n, limit))
+    Err(Refusal::OverLimit(n, limit))
 }
 
 // The n offsets behind the first.
-fn further_offsets(b: &[u8], first: usize, n: usize) -> Told
+fn further_offsets(b: &[u8], first: usize, n: usize) -> Result<(), Refusal>
     requires { (4 + 4 * n ≤ length b.now) × (length b.now < 2 ^ 32) }
     ensures { result ≡ further b.now first first 4 n }
 {
@@ -39,66 +31,66 @@ fn further_offsets(b: &[u8], first: usize, n: usize) -> Told
     while left > 0 {
         let o = four_in(b, p);
         if o < first {
-            return Told::Refused(Refusal::OffsetIntoFixedPortion(o));
+            return Err(Refusal::OffsetIntoFixedPortion(o));
         }
         if o > len {
-            return Told::Refused(Refusal::OffsetOutOfBounds(o));
+            return Err(Refusal::OffsetOutOfBounds(o));
         }
         if o < previous {
-            return Told::Refused(Refusal::OffsetsAreDecreasing(o));
+            return Err(Refusal::OffsetsAreDecreasing(o));
         }
         previous = o;
         p += 4;
         left -= 1;
     }
-    Told::Fine
+    Ok(())
 }
 
 // The elements that the first offset o says: all their offsets lie before it.
-fn behind_first(limit: usize, b: &[u8], o: usize) -> Elements
+fn behind_first(limit: usize, b: &[u8], o: usize) -> Result<usize, Refusal>
     requires { (4 ≤ o) × (o ≤ length b.now) × (length b.now < 2 ^ 32) }
     ensures { result ≡ behind_first_lem (within (o / 4) limit) b.now o }
 {
     let n = o / 4;
     if n > limit {
-        return Elements::Refused(Refusal::OverLimit(n, limit));
+        return Err(Refusal::OverLimit(n, limit));
     }
     let rest = n - 1;
     let told = further_offsets(b, o, rest);
     match told {
-        Told::Fine => Elements::Many(n),
-        Told::Refused(r) => Elements::Refused(r),
+        Ok(()) => Ok(n),
+        Err(r) => Err(r),
     }
 }
 
 // The elements of variable size: the first offset says how many.
-fn offset_elements(limit: usize, b: &[u8]) -> Elements
+fn offset_elements(limit: usize, b: &[u8]) -> Result<usize, Refusal>
     requires { length b.now < 2 ^ 32 }
     ensures { result ≡ offset_elements_lem limit b.now }
 {
     let len = b.len();
     if len == 0 {
-        return Elements::Many(0);
+        return Ok(0);
     }
     if len < 4 {
-        return Elements::Refused(Refusal::InvalidLengthPrefix(len, 4));
+        return Err(Refusal::InvalidLengthPrefix(len, 4));
     }
     let o = four_in(b, 0);
     if o > len {
-        return Elements::Refused(Refusal::OffsetOutOfBounds(o));
+        return Err(Refusal::OffsetOutOfBounds(o));
     }
     if o == 0 {
-        return Elements::Refused(Refusal::InvalidListFixedBytesLen(o));
+        return Err(Refusal::InvalidListFixedBytesLen(o));
     }
     if o % 4 > 0 {
-        return Elements::Refused(Refusal::InvalidListFixedBytesLen(o));
+        return Err(Refusal::InvalidListFixedBytesLen(o));
     }
     behind_first(limit, b, o)
 }
 
 // How many elements of the fixed length k the list b has, or of variable size where k is 0.
 #[tactic(auto, unfolding(crate::specs::Read::elements))]
-pub(crate) fn elements_of(k: usize, limit: usize, b: &[u8]) -> Elements
+pub(crate) fn elements_of(k: usize, limit: usize, b: &[u8]) -> Result<usize, Refusal>
     requires { length b.now < 2 ^ 32 }
     ensures { result ≡ elements (head_of k) limit b.now }
 {
@@ -107,7 +99,7 @@ pub(crate) fn elements_of(k: usize, limit: usize, b: &[u8]) -> Elements
     }
     let len = b.len();
     if len % k != 0 {
-        return Elements::Refused(Refusal::InvalidByteLength(len, k));
+        return Err(Refusal::InvalidByteLength(len, k));
     }
     many_within(len / k, limit)
 }
@@ -140,14 +132,14 @@ pub(crate) fn many_in(lens: &[u32; 64], layout: &[u8], n: Node, t: usize, b: &[u
 
 // What is found of a vector of n elements of the fixed length k: only its length is asked.
 #[tactic(auto, unfolding(crate::specs::Read::vector_told_lem))]
-pub(crate) fn exact_told(k: usize, n: usize, b: &[u8]) -> Told
+pub(crate) fn exact_told(k: usize, n: usize, b: &[u8]) -> Result<(), Refusal>
     requires { (0 < k) × (n * k < 2 ^ 32) }
     ensures { result ≡ vector_told_lem (head_of k) n b.now }
 {
     let len = b.len();
     let whole = n * k;
     if len == whole {
-        return Told::Fine;
+        return Ok(());
     }
-    Told::Refused(Refusal::InvalidByteLength(len, whole))
+    Err(Refusal::InvalidByteLength(len, whole))
 }

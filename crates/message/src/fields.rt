@@ -11,28 +11,28 @@ ghost use Rattle.message.specs.Steps.{Under, Row, row_of, heads_of, known_if};
 
 use crate::elements::exact_told;
 use crate::words::{four_in, word_in};
-use standard::{Refusal, Span, Told};
+use standard::{Refusal, Span};
 
 // Stands for a first offset that is not there yet. An offset has 32 bits, so it is none.
 const NONE: usize = 18446744073709551615;
 
 // The end of a registration that has come to p, over len bytes.
-fn finish(first: usize, p: usize, len: usize) -> Told
+fn finish(first: usize, p: usize, len: usize) -> Result<(), Refusal>
     ensures { result ≡ build_at (known_if first first) p len }
 {
     if first == NONE {
         if p == len {
-            return Told::Fine;
+            return Ok(());
         }
-        return Told::Refused(Refusal::InvalidByteLength(len, p));
+        return Err(Refusal::InvalidByteLength(len, p));
     }
     if first < p {
-        return Told::Refused(Refusal::OffsetIntoFixedPortion(first));
+        return Err(Refusal::OffsetIntoFixedPortion(first));
     }
     if first > p {
-        return Told::Refused(Refusal::OffsetSkipsVariableBytes(first));
+        return Err(Refusal::OffsetSkipsVariableBytes(first));
     }
-    Told::Fine
+    Ok(())
 }
 
 // Registers the n fields that the words from a0 on name, and builds: as `register_head` and `finalize` do, in plain numbers.
@@ -44,7 +44,7 @@ fn lay_out(
     step: usize,
     n: usize,
     b: &[u8],
-) -> Told
+) -> Result<(), Refusal>
     requires { Row lens.now layout.now t a0 step n × (length b.now < 2 ^ 32) }
     ensures { result ≡ lay_out_lem (heads_of layout.now t a0 step n) b.now }
 {
@@ -62,20 +62,20 @@ fn lay_out(
         if k > 0 {
             p += k;
             if p > len {
-                return Told::Refused(Refusal::InvalidByteLength(len, p));
+                return Err(Refusal::InvalidByteLength(len, p));
             }
             continue;
         }
         let next = p + 4;
         if next > len {
-            return Told::Refused(Refusal::InvalidLengthPrefix(len - p, 4));
+            return Err(Refusal::InvalidLengthPrefix(len - p, 4));
         }
         let o = four_in(b, p);
         if o > len {
-            return Told::Refused(Refusal::OffsetOutOfBounds(o));
+            return Err(Refusal::OffsetOutOfBounds(o));
         }
         if o < previous {
-            return Told::Refused(Refusal::OffsetsAreDecreasing(o));
+            return Err(Refusal::OffsetsAreDecreasing(o));
         }
         first = if first == NONE { o } else { first };
         previous = o;
@@ -92,13 +92,13 @@ pub(crate) fn container_told(
     a0: usize,
     n: usize,
     b: &[u8],
-) -> Told
+) -> Result<(), Refusal>
     requires { Under lens.now layout.now (t + 1) × Row lens.now layout.now t a0 1 n × (length b.now < 2 ^ 32) × (tree_of layout.now t ≡ container t (row_of layout.now t a0 1 n)) }
     ensures { result ≡ lay_out_lem (heads_of layout.now t a0 1 n) b.now }
 {
     let own = lens[t] as usize;
     if own > 0 && own == b.len() {
-        return Told::Fine;
+        return Ok(());
     }
     lay_out(lens, layout, t, a0, 1, n, b)
 }
@@ -113,7 +113,7 @@ pub(crate) fn vector_told(
     n: usize,
     e: usize,
     b: &[u8],
-) -> Told
+) -> Result<(), Refusal>
     requires { Row lens.now layout.now t a0 0 n × (e ≡ word_at layout.now a0) × (e < t) × (length b.now < 2 ^ 32) × (n * width (head (tree_of layout.now e)) < 2 ^ 32) }
     ensures { result ≡ vector_told_lem (head (tree_of layout.now e)) n b.now }
 {

@@ -9,20 +9,18 @@ ghost use Rattle.message.specs.Read.{raw_bytes_lem, one, plus, and_then, read_ex
 ghost use Rattle.message.specs.declared.Counts.{Counts};
 ghost use Rattle.message.specs.declared.Answer.TheVariants.{Accepted};
 ghost use Rattle.message.specs.declared.items.Inside.{Inside};
-ghost use Rattle.decode.specs.declared.union_selector.SelectorResult.{SelectorResult};
 ghost use Rattle.message.specs.Steps.{Under, Row, row_of, heads_of, Found, placed, option_at_lem, choice_of, choose, is_plain, Small};
 
-use crate::elements::{Elements, elements_of};
+use crate::elements::elements_of;
 use crate::fields::{container_told, locate, vector_told};
 use crate::words::{look_in, word_in};
 use crate::{Answer, Counts};
-use bitfield::BodyBits;
 use bitfield::body::{bitlist_body, bitvector_body};
 use decode::split_union_bytes;
-use decode::union_selector::{SelectorResult, UnionSelector};
+use decode::union_selector::UnionSelector;
 use layout::{NO_BODY, Node};
 use standard::words::word_at;
-use standard::{Refusal, Told};
+use standard::Refusal;
 
 // What a union's selector chooses: an option without body, the type of a body, or a refusal.
 #[derive(Clone, Copy)]
@@ -113,8 +111,8 @@ fn vector_check(n: usize, b: &[u8]) -> LeafTold
 {
     let told = bitvector_body(b, n);
     match told {
-        Told::Fine => LeafTold::Sizes(0, b.len()),
-        Told::Refused(r) => LeafTold::Refused(r),
+        Ok(()) => LeafTold::Sizes(0, b.len()),
+        Err(r) => LeafTold::Refused(r),
     }
 }
 
@@ -125,8 +123,8 @@ fn list_check(limit: usize, b: &[u8]) -> LeafTold
 {
     let bits = bitlist_body(b, limit);
     match bits {
-        BodyBits::Bits(k) => LeafTold::Sizes(1, raw_bytes(k)),
-        BodyBits::Refused(r) => LeafTold::Refused(r),
+        Ok(k) => LeafTold::Sizes(1, raw_bytes(k)),
+        Err(r) => LeafTold::Refused(r),
     }
 }
 
@@ -173,7 +171,7 @@ fn option_at(w: usize, len: usize) -> Choice
 // The option that the selector names among the n whose words stand from a on. Nowhere else is a selector a place in the table.
 fn option_of(layout: &[u8], a: usize, n: usize, selector: UnionSelector, len: usize) -> Choice
     requires { (a < 2 ^ 34) × (1 ≤ len) }
-    ensures { result ≡ choice_of (SelectorResult.Selector selector) layout.now a n len }
+    ensures { result ≡ choice_of (Ok selector) layout.now a n len }
 {
     let byte = selector.get();
     let k = byte as usize;
@@ -193,8 +191,8 @@ pub(crate) fn select(layout: &[u8], a: usize, n: usize, b: &[u8]) -> Choice
 {
     let s = split_union_bytes(b);
     match s {
-        SelectorResult::Refused(r) => Choice::Wrong(r),
-        SelectorResult::Selector(selector) => option_of(layout, a, n, selector, b.len()),
+        Err(r) => Choice::Wrong(r),
+        Ok(selector) => option_of(layout, a, n, selector, b.len()),
     }
 }
 
@@ -308,14 +306,14 @@ fn elements_inside(lens: &[u32; 64], layout: &[u8], n: Node, t: usize, b: &[u8])
     if n.kind == 9 {
         let told = vector_told(lens, layout, t, first, third, e, b);
         return match told {
-            Told::Fine => row_inside(layout, first, third, e, 0),
-            Told::Refused(r) => Inside::Wrong(r),
+            Ok(()) => row_inside(layout, first, third, e, 0),
+            Err(r) => Inside::Wrong(r),
         };
     }
     let c = elements_of(lens[e] as usize, third, b);
     match c {
-        Elements::Many(m) => row_inside(layout, first, m, e, 1),
-        Elements::Refused(r) => Inside::Wrong(r),
+        Ok(m) => row_inside(layout, first, m, e, 1),
+        Err(r) => Inside::Wrong(r),
     }
 }
 
@@ -330,8 +328,8 @@ fn inside_of(lens: &[u32; 64], layout: &[u8], n: Node, t: usize, b: &[u8]) -> In
     let first = n.at + 2;
     let told = container_told(lens, layout, t, first, n.second, b);
     match told {
-        Told::Fine => Inside::Fields(first, 1, n.second, 0),
-        Told::Refused(r) => Inside::Wrong(r),
+        Ok(()) => Inside::Fields(first, 1, n.second, 0),
+        Err(r) => Inside::Wrong(r),
     }
 }
 

@@ -10,13 +10,12 @@ mod unfolding;
 mod words;
 
 ghost use Rattle.std.specs.Prelude.{◌≡◌, ◌-◌, ◌+◌, ◌≤◌, ◌<◌, ◌^◌};
-ghost use Rattle.layout.specs.declared.Checked.TheVariants.{Upto};
 ghost use Rattle.message.specs.Check.{message_type, under_table_lem, check_message, listed_of, records_of, list_message, listed_records};
 ghost use Rattle.message.specs.Steps.{Under};
 ghost use Rattle.message.specs.Unfold.{unfold_words, unfold_bytes, unfolded_of, filled_of, unfold_message, unfolded_words, unfolded_bytes};
 
 use items::item_check;
-use layout::{Checked, table_of};
+use layout::table_of;
 use listing::list_item;
 use standard::Refusal;
 use unfolding::{Place, unfold_item};
@@ -70,8 +69,8 @@ pub fn check(layout: &[u8], message: &[u8]) -> Answer
     let mut lens = [0u32; 64];
     let c = table_of(&mut lens, layout);
     match c {
-        Checked::Bad(w) => Answer::Refused(Refusal::BadLayout(w), 0, 0),
-        Checked::Upto(n) => check_under(&lens, layout, n, message),
+        Err(Refusal::BadLayout(w)) => Answer::Refused(Refusal::BadLayout(w), 0, 0),
+        Ok(n) => check_under(&lens, layout, n, message),
     }
 }
 
@@ -112,8 +111,8 @@ pub fn list(layout: &[u8], message: &[u8], records: &mut [u8]) -> Listed
     let mut lens = [0u32; 64];
     let c = table_of(&mut lens, layout);
     match c {
-        Checked::Bad(w) => Listed::Refused(Refusal::BadLayout(w), 0, 0),
-        Checked::Upto(n) => list_under(records, &lens, layout, n, message),
+        Err(Refusal::BadLayout(w)) => Listed::Refused(Refusal::BadLayout(w), 0, 0),
+        Ok(n) => list_under(records, &lens, layout, n, message),
     }
 }
 
@@ -161,7 +160,7 @@ pub fn unfold(layout: &[u8], message: &[u8], contents: &mut [u32], bodies: &mut 
     let mut lens = [0u32; 64];
     let c = table_of(&mut lens, layout);
     match c {
-        Checked::Bad(w) => Unfolded::Refused(Refusal::BadLayout(w), 0, 0),
-        Checked::Upto(n) => unfold_under(contents, bodies, &lens, layout, n, message),
+        Err(Refusal::BadLayout(w)) => Unfolded::Refused(Refusal::BadLayout(w), 0, 0),
+        Ok(n) => unfold_under(contents, bodies, &lens, layout, n, message),
     }
 }

@@ -15,7 +15,6 @@ use crate::fields::locate;
 use crate::items::{Choice, select};
 use crate::parts::{Series, no_items, series_in};
 use crate::words::{look_in, word_in};
-use bitfield::BodyBits;
 use bitfield::body::bitlist_body;
 use layout::Node;
 
@@ -130,8 +129,8 @@ fn unfold_leaf(
     }
     let bits = bitlist_body(b, second);
     match bits {
-        BodyBits::Bits(k) => unfold_bits(contents, bodies, at, k, b),
-        BodyBits::Refused(_) => at,
+        Ok(k) => unfold_bits(contents, bodies, at, k, b),
+        Err(_) => at,
     }
 }
 

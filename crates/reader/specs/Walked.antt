@@ -1,16 +1,19 @@
 -- What a reader over lent bytes hands out, and the reader that comes after it. Assumes nothing: these are definitions.
 use Rattle.std.specs.Prelude.{ℕ, ◌+◌, List, length}
 use Rattle.std.specs.Borrow.{Bor}
-use Rattle.standard.specs.declared.Told.{Told}
 use Rattle.decode.specs.declared.decoder.SszDecoder.{SszDecoder}
 use Rattle.decode.specs.Reader.{item_told_lem, item_of}
 use Rattle.reader.specs.declared.ReaderStep.{ReaderStep}
 use Rattle.reader.specs.declared.SszReader.{SszReader}
+use Rattle.std.specs.declared.result.Result.{Result}
+use Rattle.std.specs.declared.result.Result.TheVariants.{Ok, Err}
+use Rattle.std.specs.Prelude.{⊤}
+use Rattle.standard.specs.declared.Refusal.{Refusal}
 
 -- The number behind an item that there is
-abbrev pub next_after : Told → ℕ → ℕ
-next_after Told.Fine n = n + 1
-next_after (Told.Refused r) n = n
+abbrev pub next_after : Result ⊤ Refusal → ℕ → ℕ
+next_after (Ok tt) n = n + 1
+next_after (Err r) n = n
 
 abbrev pub step_after_lem : SszDecoder → ℕ → ℕ → ReaderStep
 step_after_lem d n len = record { told = item_told_lem d n len; next = next_after (item_told_lem d n len) n }
@@ -19,7 +22,7 @@ abbrev pub reader_at : Bor (List ℕ) → SszDecoder → ℕ → SszReader
 reader_at b d n = record { bytes = b; ranges = d; next = n }
 
 -- "hands out the next item as a part of the slice and the reader that comes after it; past the last it answers 23"
-abbrev pub told_next : SszReader → Told
+abbrev pub told_next : SszReader → Result ⊤ Refusal
 told_next r = item_told_lem r.ranges r.next (length r.bytes.now)
 
 abbrev pub item_next : SszReader → List ℕ

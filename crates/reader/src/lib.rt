@@ -8,7 +8,6 @@ ghost use Rattle.decode.specs.Reader.{item_told_lem, item_of};
 ghost use Rattle.reader.specs.Walked.{step_after_lem, reader_at, told_next, item_next, reader_after};
 
 use decode::decoder::SszDecoder;
-use standard::Told;
 
 #[derive(Clone, Copy)]
 pub struct SszReader<'a> {
@@ -20,14 +19,14 @@ pub struct SszReader<'a> {
 // Whether there is a next item, and the number of the one after it; the same number beside a refusal.
 #[derive(Clone, Copy)]
 pub struct ReaderStep {
-    pub told: Told,
+    pub told: Result<(), Refusal>,
     pub next: usize,
 }
 
 // An item, or an empty part beside a refusal, and the reader that comes after it.
 #[derive(Clone, Copy)]
 pub struct Taken<'a> {
-    pub told: Told,
+    pub told: Result<(), Refusal>,
     pub item: &'a [u8],
     pub rest: SszReader<'a>,
 }
@@ -39,12 +38,12 @@ pub fn step_after(ranges: SszDecoder, next: usize, len: usize) -> ReaderStep
 {
     let told = ranges.item_told(next, len);
     match told {
-        Told::Fine => ReaderStep {
-            told: Told::Fine,
+        Ok(()) => ReaderStep {
+            told: Ok(()),
             next: next + 1,
         },
-        Told::Refused(r) => ReaderStep {
-            told: Told::Refused(r),
+        Err(r) => ReaderStep {
+            told: Err(r),
             next,
         },
     }

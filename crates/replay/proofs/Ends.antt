@@ -5,11 +5,11 @@ use Prim.Native.Nat.{ℕ, ◌+◌}
 use native.Mathlib.Omega.{arith}
 use lib.ListN.{length}
 use Rattle.cases.specs.Records.{end_of}
-use Rattle.cases.specs.declared.Extent.{Extent}
-use Rattle.cases.specs.declared.Extent.TheVariants.{Whole, Cut}
 use Rattle.cases.proofs.Laws.{end-within}
 use Rattle.replay.specs.Steps.{Past}
+use Rattle.std.specs.declared.option.Option.{Option}
+use Rattle.std.specs.declared.option.Option.TheVariants.{Some, None}
 
-pub past_end : (b : List ℕ) (p q : ℕ) (r : Extent) → q ≡ p + 4 → r ≡ end_of b p → Past q (length b) r
-past_end b p q (Whole e) h k = let w = end-within b p e k in omega arith
-past_end b p q Cut h k = tt
+pub past_end : (b : List ℕ) (p q : ℕ) (r : Option ℕ) → q ≡ p + 4 → r ≡ end_of b p → Past q (length b) r
+past_end b p q (Some e) h k = let w = end-within b p e k in omega arith
+past_end b p q None h k = tt

@@ -2,7 +2,7 @@
 //
 // A held bitfield is its 256 bytes, its length and its N.
 use crate::answers::{fine, least, refused, room_for};
-use bitfield::{BitResult, CountResult, HighestBit};
+use bitfield::HighestBit;
 use cases::{Verdict, is_number, number_at};
 
 const HELD: usize = 272;
@@ -48,20 +48,20 @@ pub(crate) fn is_bit(part: &[u8]) -> bool {
     is_number(part, 0) || is_number(part, 1)
 }
 
-pub(crate) fn bit(head: &[u8], res: &[u8], answer: BitResult) -> Verdict {
+pub(crate) fn bit(head: &[u8], res: &[u8], answer: Result<bool, Refusal>) -> Verdict {
     match answer {
-        BitResult::Is(x) => {
+        Ok(x) => {
             let expected = if x { 1 } else { 0 };
             fine(head, is_number(res, expected))
         }
-        BitResult::Refused(e) => refused(head, e, res),
+        Err(e) => refused(head, e, res),
     }
 }
 
-pub(crate) fn count(head: &[u8], res: &[u8], answer: CountResult) -> Verdict {
+pub(crate) fn count(head: &[u8], res: &[u8], answer: Result<usize, Refusal>) -> Verdict {
     match answer {
-        CountResult::Count(n) => fine(head, is_number(res, n)),
-        CountResult::Refused(e) => refused(head, e, res),
+        Ok(n) => fine(head, is_number(res, n)),
+        Err(e) => refused(head, e, res),
     }
 }
 

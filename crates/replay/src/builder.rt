@@ -3,7 +3,7 @@ use crate::answers::{fine, is_empty, is_fine, is_refusal, refused};
 use crate::walked;
 use cases::{ANY, Verdict, is_formed, is_number, number, number_at, part};
 use decode::decoder::{Built, Registered, SszDecoder, SszDecoderBuilder};
-use standard::{Maybe, Refusal, Told};
+use standard::Refusal;
 
 // How many registrations were accepted, and what came of the builder.
 #[derive(Clone, Copy)]
@@ -38,7 +38,7 @@ fn stopped(accepted: usize, refusal: Refusal) -> Ran {
     Ran {
         accepted,
         built: Built {
-            told: Told::Refused(refusal),
+            told: Err(refusal),
             decoder: SszDecoder {
                 count: 0,
                 starts: [0; 64],
@@ -57,11 +57,11 @@ fn register_all(bytes: &[u8], row: &[u8], named: bool) -> Ran {
         let next = register(state, number_at(row, i), named, bytes);
         let said = next.told;
         match said {
-            Told::Fine => {
+            Ok(()) => {
                 let after = next.state;
                 state = after;
             }
-            Told::Refused(e) => return stopped(i, e),
+            Err(e) => return stopped(i, e),
         }
         i += 1;
     }
@@ -103,8 +103,8 @@ fn is_ran(b: &[u8], ran: Ran) -> bool {
     let built = ran.built;
     let said = built.told;
     match said {
-        Told::Fine => is_fine(part(b, 2)) && is_ranges(part(b, 4), built.decoder),
-        Told::Refused(e) => is_refusal(part(b, 2), e) && is_empty(part(b, 4)),
+        Ok(()) => is_fine(part(b, 2)) && is_ranges(part(b, 4), built.decoder),
+        Err(e) => is_refusal(part(b, 2), e) && is_empty(part(b, 4)),
     }
 }
 
@@ -144,7 +144,7 @@ fn item_asked(b: &[u8], decoder: SszDecoder, index: usize) -> Verdict {
     let bytes = part(b, 0);
     let said = decoder.item_told(index, bytes.len());
     match said {
-        Told::Fine => {
+        Ok(()) => {
             if !walked::hands_out(decoder, index, bytes, part(b, 4)) {
                 return Verdict::Differs;
             }
@@ -153,7 +153,7 @@ fn item_asked(b: &[u8], decoder: SszDecoder, index: usize) -> Verdict {
                 check::same(decoder.item(index, bytes), part(b, 4)),
             )
         }
-        Told::Refused(e) => {
+        Err(e) => {
             if !walked::refuses(decoder, index, bytes, part(b, 3)) {
                 return Verdict::Differs;
             }
@@ -171,7 +171,7 @@ pub(crate) fn item(b: &[u8]) -> Verdict {
     if row.len() % 16 != 0 || row.len() > 1024 {
         return Verdict::Malformed;
     }
-    let Maybe::Just(index) = number(part(b, 2)) else {
+    let Some(index) = number(part(b, 2)) else {
         return Verdict::Malformed;
     };
     item_asked(b, decoder_of(row), index)

@@ -3,10 +3,10 @@ ghost use Rattle.std.specs.Prelude.{◌+◌, ◌<◌, length};
 ghost use Rattle.replay.specs.Steps.{Past};
 
 use crate::answers::{fine, lend, refused, room_for};
-use cases::{Extent, Verdict, is_formed, is_number, number, part, part_end, told};
-use encode::encoder::{Appended, Finalized, SszEncoder};
+use cases::{Verdict, is_formed, is_number, number, part, part_end, told};
+use encode::encoder::SszEncoder;
 use standard::words::four_at;
-use standard::{Maybe, Refusal};
+use standard::Refusal;
 
 // How many items were accepted, and the whole length or a refusal.
 #[derive(Clone, Copy)]
@@ -17,12 +17,12 @@ pub(crate) enum Encoding {
 }
 
 // Where the item that begins at a place ends: a word for its kind, then a part.
-pub(crate) fn item_end(items: &[u8], at: usize) -> Extent
+pub(crate) fn item_end(items: &[u8], at: usize) -> Option<usize>
     requires { at < length items.now }
     ensures { Past (at + 8) (length items.now) result }
 {
     if four_at(items, at) > 1 {
-        return Extent::Cut;
+        return None;
     }
     part_end(items, at + 4)
 }
@@ -30,8 +30,8 @@ pub(crate) fn item_end(items: &[u8], at: usize) -> Extent
 fn end(state: SszEncoder, accepted: usize, fixed: &mut [u8], variable: &[u8]) -> Encoding {
     let ended = state.finalize(fixed, variable);
     match ended {
-        Finalized::Length(n) => Encoding::Whole(accepted, n),
-        Finalized::Refused(e) => Encoding::Stopped(accepted, e),
+        Ok(n) => Encoding::Whole(accepted, n),
+        Err(e) => Encoding::Stopped(accepted, e),
     }
 }
 
@@ -41,15 +41,15 @@ fn append_all(size: usize, items: &[u8], fixed: &mut [u8], variable: &mut [u8]) 
     let mut at = 0;
     let mut accepted = 0;
     while at < items.len() {
-        let Extent::Whole(to) = item_end(items, at) else {
+        let Some(to) = item_end(items, at) else {
             return Encoding::Malformed;
         };
         let from = at + 8;
         let is_fixed = four_at(items, at) == 0;
         let next = state.append_parameterized(is_fixed, &items[from..to], fixed, variable);
         match next {
-            Appended::Next(after) => state = after,
-            Appended::Refused(e) => return Encoding::Stopped(accepted, e),
+            Ok(after) => state = after,
+            Err(e) => return Encoding::Stopped(accepted, e),
         }
         at = to;
         accepted += 1;
@@ -98,7 +98,7 @@ pub(crate) fn encode(b: &[u8], first: &mut [u8], second: &mut [u8]) -> Verdict {
     if !is_formed(b, 4, 9) {
         return Verdict::Malformed;
     }
-    let Maybe::Just(size) = number(part(b, 0)) else {
+    let Some(size) = number(part(b, 0)) else {
         return Verdict::Malformed;
     };
     let n = room_for(part(b, 2).len(), first);

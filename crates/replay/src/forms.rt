@@ -8,7 +8,6 @@ use crate::messages::is_refusal_at;
 use cases::{Verdict, is_formed, is_number, part, told};
 use message::Unfolded;
 use standard::words::word_at;
-use value::Written;
 
 // How much of the room a row of words takes.
 fn words_for(row: &[u8], room: &[u32]) -> usize
@@ -85,13 +84,13 @@ pub(crate) fn unfolding(b: &[u8], bodies: &mut [u8], contents: &mut [u32]) -> Ve
 }
 
 // Whether the answer is expected: the length, the buffer.
-fn is_written(b: &[u8], answer: Written, room: &[u8]) -> Verdict {
+fn is_written(b: &[u8], answer: Result<usize, Refusal>, room: &[u8]) -> Verdict {
     if !check::same(room, part(b, 6)) {
         return Verdict::Differs;
     }
     match answer {
-        Written::Length(n) => fine(part(b, 4), is_number(part(b, 5), n)),
-        Written::Refused(e) => refused(part(b, 4), e, part(b, 5)),
+        Ok(n) => fine(part(b, 4), is_number(part(b, 5), n)),
+        Err(e) => refused(part(b, 4), e, part(b, 5)),
     }
 }
 

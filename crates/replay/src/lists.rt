@@ -1,9 +1,8 @@
 // Operations 10 to 25: bit lists.
 use crate::answers::{fine, lend, refused, room_for};
 use crate::bits::{bit, bytes_of, count, has, highest, is_bit, is_held, len_of, n_of};
-use bitfield::{BitList, CountResult, ListResult};
+use bitfield::{BitList, ListResult};
 use cases::{Verdict, is_formed, is_number, number, part};
-use standard::{Maybe, Told};
 
 fn field_of(held: &[u8]) -> BitList {
     BitList {
@@ -18,8 +17,8 @@ fn made(head: &[u8], res: &[u8], answer: ListResult) -> Verdict {
     let bytes = field.bytes;
     let said = answer.told;
     match said {
-        Told::Fine => fine(head, has(res, bytes, field.len, field.n)),
-        Told::Refused(e) => refused(head, e, res),
+        Ok(()) => fine(head, has(res, bytes, field.len, field.n)),
+        Err(e) => refused(head, e, res),
     }
 }
 
@@ -29,8 +28,8 @@ fn left(question: &[u8], head: &[u8], res: &[u8], answer: ListResult) -> Verdict
     let bytes = field.bytes;
     let said = answer.told;
     match said {
-        Told::Fine => fine(head, has(res, bytes, field.len, field.n)),
-        Told::Refused(e) => {
+        Ok(()) => fine(head, has(res, bytes, field.len, field.n)),
+        Err(e) => {
             if !has(question, bytes, field.len, field.n) {
                 return Verdict::Differs;
             }
@@ -60,10 +59,10 @@ pub(crate) fn with_capacity(b: &[u8]) -> Verdict {
     if !is_formed(b, 2, 4) {
         return Verdict::Malformed;
     }
-    let Maybe::Just(len) = number(part(b, 0)) else {
+    let Some(len) = number(part(b, 0)) else {
         return Verdict::Malformed;
     };
-    let Maybe::Just(n) = number(part(b, 1)) else {
+    let Some(n) = number(part(b, 1)) else {
         return Verdict::Malformed;
     };
     made(part(b, 2), part(b, 3), BitList::with_capacity(len, n))
@@ -74,7 +73,7 @@ pub(crate) fn from_bytes(b: &[u8]) -> Verdict {
     if !is_formed(b, 2, 4) {
         return Verdict::Malformed;
     }
-    let Maybe::Just(n) = number(part(b, 1)) else {
+    let Some(n) = number(part(b, 1)) else {
         return Verdict::Malformed;
     };
     made(part(b, 2), part(b, 3), BitList::from_bytes(part(b, 0), n))
@@ -89,8 +88,8 @@ fn write(b: &[u8], room: &mut [u8]) -> Verdict {
     let head = part(b, 2);
     let result = part(b, 3);
     match answer {
-        CountResult::Count(n) => fine(head, is_number(result, n)),
-        CountResult::Refused(e) => refused(head, e, result),
+        Ok(n) => fine(head, is_number(result, n)),
+        Err(e) => refused(head, e, result),
     }
 }
 
@@ -140,7 +139,7 @@ pub(crate) fn with_number(b: &[u8], operation: usize) -> Verdict {
     if !is_held(part(b, 0)) {
         return Verdict::Malformed;
     }
-    let Maybe::Just(x) = number(part(b, 1)) else {
+    let Some(x) = number(part(b, 1)) else {
         return Verdict::Malformed;
     };
     let f = field_of(part(b, 0));
@@ -181,7 +180,7 @@ pub(crate) fn set(b: &[u8]) -> Verdict {
     if !is_held(part(b, 0)) {
         return Verdict::Malformed;
     }
-    let Maybe::Just(i) = number(part(b, 1)) else {
+    let Some(i) = number(part(b, 1)) else {
         return Verdict::Malformed;
     };
     if !is_bit(part(b, 2)) {

@@ -2,7 +2,7 @@
 use crate::answers::{fine, is_empty, is_fine, is_refusal, lend, room_for};
 use cases::{Verdict, head_matches, is_formed, is_number, part, told};
 use message::{Answer, Counts, Listed};
-use standard::{Refusal, Told};
+use standard::Refusal;
 
 // Whether the expected head is that of a refusal at an item.
 pub(crate) fn is_refusal_at(head: &[u8], refusal: Refusal, kind: usize, start: usize) -> bool {
@@ -17,8 +17,8 @@ pub(crate) fn layout_check(b: &[u8]) -> Verdict {
     }
     let said = layout::layout_check(part(b, 0));
     match said {
-        Told::Fine => told(is_fine(part(b, 1))),
-        Told::Refused(e) => told(is_refusal(part(b, 1), e)),
+        Ok(()) => told(is_fine(part(b, 1))),
+        Err(e) => told(is_refusal(part(b, 1), e)),
     }
 }
 

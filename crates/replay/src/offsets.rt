@@ -1,14 +1,11 @@
 // Operations 1 to 4: offsets, lengths and the split of a union.
 use crate::answers::{fine, is_empty, refused};
 use cases::{Verdict, is_formed, is_number, number, part};
-use decode::OffsetResult;
-use decode::union_selector::SelectorResult;
-use standard::{Maybe, Told};
 
-fn offset_told(head: &[u8], res: &[u8], answer: OffsetResult) -> Verdict {
+fn offset_told(head: &[u8], res: &[u8], answer: Result<usize, Refusal>) -> Verdict {
     match answer {
-        OffsetResult::Offset(n) => fine(head, is_number(res, n)),
-        OffsetResult::Refused(e) => refused(head, e, res),
+        Ok(n) => fine(head, is_number(res, n)),
+        Err(e) => refused(head, e, res),
     }
 }
 
@@ -25,7 +22,7 @@ pub(crate) fn encode_length(b: &[u8]) -> Verdict {
     if !is_formed(b, 1, 3) {
         return Verdict::Malformed;
     }
-    let Maybe::Just(len) = number(part(b, 0)) else {
+    let Some(len) = number(part(b, 0)) else {
         return Verdict::Malformed;
     };
     let answer = encode::encode_length(len);
@@ -33,8 +30,8 @@ pub(crate) fn encode_length(b: &[u8]) -> Verdict {
     let said = answer.told;
     let result = part(b, 2);
     match said {
-        Told::Fine => fine(part(b, 1), check::same(&bytes, result)),
-        Told::Refused(e) => refused(part(b, 1), e, result),
+        Ok(()) => fine(part(b, 1), check::same(&bytes, result)),
+        Err(e) => refused(part(b, 1), e, result),
     }
 }
 
@@ -48,10 +45,10 @@ pub(crate) fn sanitize_offset(b: &[u8]) -> Verdict {
     if !is_formed(b, 4, 6) {
         return Verdict::Malformed;
     }
-    let Maybe::Just(offset) = number(part(b, 0)) else {
+    let Some(offset) = number(part(b, 0)) else {
         return Verdict::Malformed;
     };
-    let Maybe::Just(bytes) = number(part(b, 2)) else {
+    let Some(bytes) = number(part(b, 2)) else {
         return Verdict::Malformed;
     };
     if !is_optional(part(b, 1)) {
@@ -74,13 +71,13 @@ pub(crate) fn split_union_bytes(b: &[u8]) -> Verdict {
     let question = part(b, 0);
     let answer = decode::split_union_bytes(question);
     match answer {
-        SelectorResult::Selector(s) => {
+        Ok(s) => {
             if !check::same(decode::union_body(question), part(b, 3)) {
                 return Verdict::Differs;
             }
             fine(part(b, 1), is_number(part(b, 2), s.get() as usize))
         }
-        SelectorResult::Refused(e) => {
+        Err(e) => {
             if !is_empty(part(b, 3)) {
                 return Verdict::Differs;
             }

@@ -5,7 +5,7 @@ ghost use Rattle.replay.specs.Steps.{Ahead, Within};
 use crate::answers::least;
 use crate::ask::ask;
 use crate::print;
-use cases::{Extent, Verdict};
+use cases::Verdict;
 use standard::words::word_at;
 use std::io;
 use std::io::Read;
@@ -118,8 +118,8 @@ fn look(b: &[u8], at: usize) -> Found
     let to = at + size;
     let end = cases::record_end(&b[at..to]);
     match end {
-        Extent::Whole(n) => Found::Record(at + n),
-        Extent::Cut => {
+        Some(n) => Found::Record(at + n),
+        None => {
             if size == LARGEST {
                 Found::Bad
             } else {

@@ -3,11 +3,11 @@
 use crate::answers::{fine, is_empty, is_fine, is_refusal, lend, refused, room_for};
 use crate::builder::{is_ranges, register};
 use crate::encoder::{item_end, with_lent};
-use cases::{Extent, Verdict, is_formed, is_number, number, number_at, part};
+use cases::{Verdict, is_formed, is_number, number, number_at, part};
 use decode::decoder::SszDecoderBuilder;
-use encode::encoder::{Appended, Finalized, SszEncoder};
+use encode::encoder::SszEncoder;
 use standard::words::four_at;
-use standard::{Maybe, Refusal, Told};
+use standard::Refusal;
 
 // A builder's state is its count, its position, 64 starts and 64 ends.
 const BUILDER: usize = 1040;
@@ -81,8 +81,8 @@ fn is_registered(b: &[u8], state: SszDecoderBuilder, item: usize, named: bool) -
     }
     let said = next.told;
     match said {
-        Told::Fine => is_fine(part(b, 3)),
-        Told::Refused(e) => is_refusal(part(b, 3), e),
+        Ok(()) => is_fine(part(b, 3)),
+        Err(e) => is_refusal(part(b, 3), e),
     }
 }
 
@@ -94,8 +94,8 @@ fn built(b: &[u8], state: SszDecoderBuilder) -> Verdict {
     }
     let said = ended.told;
     match said {
-        Told::Fine => fine(part(b, 3), is_ranges(part(b, 5), ended.decoder)),
-        Told::Refused(e) => refused(part(b, 3), e, part(b, 5)),
+        Ok(()) => fine(part(b, 3), is_ranges(part(b, 5), ended.decoder)),
+        Err(e) => refused(part(b, 3), e, part(b, 5)),
     }
 }
 
@@ -114,10 +114,10 @@ pub(crate) fn builder(b: &[u8]) -> Verdict {
     }
     let item = number(part(b, 2));
     match item {
-        Maybe::Just(n) => {
+        Some(n) => {
             cases::told(is_registered(b, state, n, true) && is_registered(b, state, n, false))
         }
-        Maybe::Nothing => Verdict::Malformed,
+        None => Verdict::Malformed,
     }
 }
 
@@ -133,8 +133,8 @@ pub(crate) enum After {
 fn ended(state: SszEncoder, fixed: &mut [u8], variable: &[u8]) -> After {
     let said = state.finalize(fixed, variable);
     match said {
-        Finalized::Length(n) => After::Whole(n),
-        Finalized::Refused(e) => After::Refused(e),
+        Ok(n) => After::Whole(n),
+        Err(e) => After::Refused(e),
     }
 }
 
@@ -151,7 +151,7 @@ fn appended(state: SszEncoder, item: &[u8], fixed: &mut [u8], variable: &mut [u8
     if item.len() == 0 {
         return After::Malformed;
     }
-    let Extent::Whole(to) = item_end(item, 0) else {
+    let Some(to) = item_end(item, 0) else {
         return After::Malformed;
     };
     if to != item.len() {
@@ -160,8 +160,8 @@ fn appended(state: SszEncoder, item: &[u8], fixed: &mut [u8], variable: &mut [u8
     let is_fixed = four_at(item, 0) == 0;
     let said = state.append_parameterized(is_fixed, body(item), fixed, variable);
     match said {
-        Appended::Next(next) => After::Next(next),
-        Appended::Refused(e) => After::Refused(e),
+        Ok(next) => After::Next(next),
+        Err(e) => After::Refused(e),
     }
 }
 

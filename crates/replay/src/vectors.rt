@@ -1,9 +1,8 @@
 // Operations 30 to 45: bit vectors.
 use crate::answers::{fine, lend, refused, room_for};
 use crate::bits::{bit, bytes_of, count, has, highest, is_bit, is_held, len_of, n_of};
-use bitfield::{BitVector, CountResult, VectorResult};
+use bitfield::{BitVector, VectorResult};
 use cases::{Verdict, is_formed, is_number, number, part};
-use standard::{Maybe, Told};
 
 fn field_of(held: &[u8]) -> BitVector {
     BitVector {
@@ -18,8 +17,8 @@ fn made(head: &[u8], res: &[u8], answer: VectorResult) -> Verdict {
     let bytes = field.bytes;
     let said = answer.told;
     match said {
-        Told::Fine => fine(head, has(res, bytes, field.len, field.n)),
-        Told::Refused(e) => refused(head, e, res),
+        Ok(()) => fine(head, has(res, bytes, field.len, field.n)),
+        Err(e) => refused(head, e, res),
     }
 }
 
@@ -29,8 +28,8 @@ fn left(question: &[u8], head: &[u8], res: &[u8], answer: VectorResult) -> Verdi
     let bytes = field.bytes;
     let said = answer.told;
     match said {
-        Told::Fine => fine(head, has(res, bytes, field.len, field.n)),
-        Told::Refused(e) => {
+        Ok(()) => fine(head, has(res, bytes, field.len, field.n)),
+        Err(e) => {
             if !has(question, bytes, field.len, field.n) {
                 return Verdict::Differs;
             }
@@ -60,7 +59,7 @@ pub(crate) fn new(b: &[u8]) -> Verdict {
     if !is_formed(b, 1, 3) {
         return Verdict::Malformed;
     }
-    let Maybe::Just(n) = number(part(b, 0)) else {
+    let Some(n) = number(part(b, 0)) else {
         return Verdict::Malformed;
     };
     made(part(b, 1), part(b, 2), BitVector::new(n))
@@ -71,7 +70,7 @@ pub(crate) fn from_bytes(b: &[u8]) -> Verdict {
     if !is_formed(b, 2, 4) {
         return Verdict::Malformed;
     }
-    let Maybe::Just(n) = number(part(b, 1)) else {
+    let Some(n) = number(part(b, 1)) else {
         return Verdict::Malformed;
     };
     made(part(b, 2), part(b, 3), BitVector::from_bytes(part(b, 0), n))
@@ -86,8 +85,8 @@ fn write(b: &[u8], room: &mut [u8]) -> Verdict {
     let head = part(b, 2);
     let result = part(b, 3);
     match answer {
-        CountResult::Count(n) => fine(head, is_number(result, n)),
-        CountResult::Refused(e) => refused(head, e, result),
+        Ok(n) => fine(head, is_number(result, n)),
+        Err(e) => refused(head, e, result),
     }
 }
 
@@ -137,7 +136,7 @@ pub(crate) fn with_number(b: &[u8], operation: usize) -> Verdict {
     if !is_held(part(b, 0)) {
         return Verdict::Malformed;
     }
-    let Maybe::Just(x) = number(part(b, 1)) else {
+    let Some(x) = number(part(b, 1)) else {
         return Verdict::Malformed;
     };
     let f = field_of(part(b, 0));
@@ -182,7 +181,7 @@ pub(crate) fn set(b: &[u8]) -> Verdict {
     if !is_held(part(b, 0)) {
         return Verdict::Malformed;
     }
-    let Maybe::Just(i) = number(part(b, 1)) else {
+    let Some(i) = number(part(b, 1)) else {
         return Verdict::Malformed;
     };
     if !is_bit(part(b, 2)) {

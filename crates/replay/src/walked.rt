@@ -1,6 +1,5 @@
 // The forms behind a reference, asked beside the core: each of them must give the same answer.
 use decode::decoder::SszDecoder;
-use standard::Told;
 
 fn is_one_more(n: usize, k: usize) -> bool {
     k < n && n - k == 1
@@ -17,8 +16,8 @@ fn goes_on(ranges: SszDecoder, index: usize, bytes: &[u8], item: &[u8]) -> bool 
     let came = reader::item_then(bytes, ranges, before);
     let said = step.told;
     match said {
-        Told::Fine => check::same(came, item),
-        Told::Refused(_) => came.len() == 0,
+        Ok(()) => check::same(came, item),
+        Err(_) => came.len() == 0,
     }
 }
 
@@ -27,12 +26,12 @@ pub(crate) fn hands_out(ranges: SszDecoder, index: usize, bytes: &[u8], item: &[
     let step = reader::step_after(ranges, index, bytes.len());
     let said = step.told;
     match said {
-        Told::Fine => {
+        Ok(()) => {
             is_one_more(step.next, index)
                 && check::same(reader::item_after(bytes, ranges, index), item)
                 && goes_on(ranges, index, bytes, item)
         }
-        Told::Refused(_) => false,
+        Err(_) => false,
     }
 }
 
@@ -41,8 +40,8 @@ pub(crate) fn refuses(ranges: SszDecoder, index: usize, bytes: &[u8], head: &[u8
     let step = reader::step_after(ranges, index, bytes.len());
     let said = step.told;
     match said {
-        Told::Fine => false,
-        Told::Refused(e) => {
+        Ok(()) => false,
+        Err(e) => {
             step.next == index
                 && cases::refusal_matches(head, e)
                 && reader::item_after(bytes, ranges, index).len() == 0

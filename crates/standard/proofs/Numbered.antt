@@ -10,7 +10,9 @@ use Rattle.standard.specs.Refusals.{numbers_of_lem}
 use Rattle.standard.specs.declared.Numbers.{Numbers}
 use Rattle.standard.specs.declared.Refusal.{Refusal}
 use Rattle.standard.specs.declared.Refusal.TheVariants.{InvalidByteLength, InvalidLengthPrefix, OutOfBoundsByte, OffsetIntoFixedPortion, OffsetSkipsVariableBytes, OffsetsAreDecreasing, OffsetOutOfBounds, UnionSelectorInvalid, OutOfBounds, MissingLengthInformation, ExcessBits, InvalidByteCount, BadBoolean, OverLimit, InvalidListFixedBytesLen, BadLayout, TooLarge, NoRoom, BadState, LimitsDiffer, BadValue, BuilderFull}
-use Rattle.standard.specs.declared.Told.{Told}
+use Rattle.std.specs.declared.result.Result.{Result}
+use Rattle.std.specs.declared.result.Result.TheVariants.{Ok, Err}
+use Rattle.std.specs.Prelude.{⊤}
 
 -- The refusal of a number, a and b. Any other number is read as 26, which no statement below relies on.
 abbrev pub refusal_of : Numbers → Refusal
@@ -98,23 +100,23 @@ number-some (BadValue a b) = omega arith
 number-some (BuilderFull a) = omega arith
 
 -- What a call tells, as numbers: "on success all 0"
-abbrev pub told_numbers : Told → Numbers
-told_numbers Told.Fine = record { number = 0; a = 0; b = 0 }
-told_numbers (Told.Refused r) = numbers_of_lem r
+abbrev pub told_numbers : Result ⊤ Refusal → Numbers
+told_numbers (Ok tt) = record { number = 0; a = 0; b = 0 }
+told_numbers (Err r) = numbers_of_lem r
 
 -- The other way: 0 tells that all is fine
-abbrev pub told_from : Numbers → Told
-told_from n = pick (eqb n.number 0) Told.Fine (Told.Refused (refusal_of n))
+abbrev pub told_from : Numbers → Result ⊤ Refusal
+told_from n = pick (eqb n.number 0) (Ok tt) (Err (refusal_of n))
 
-pub told_back : (t : Told) → told_from (told_numbers t) ≡ t
-told_back Told.Fine = refl
-told_back (Told.Refused r) =
-    ap (λ c. pick c Told.Fine (Told.Refused (refusal_of (numbers_of_lem r))))
+pub told_back : (t : Result ⊤ Refusal) → told_from (told_numbers t) ≡ t
+told_back (Ok tt) = refl
+told_back (Err r) =
+    ap (λ c. pick c (Ok tt) (Err (refusal_of (numbers_of_lem r))))
     (ne_eqb (numbers_of_lem r).number 0 (λ (e : (numbers_of_lem r).number ≡ 0). omega (arith, number-some r)))
-    ∙ ap Told.Refused (refusal_back r)
+    ∙ ap Err (refusal_back r)
 
 -- Two calls that tell the same numbers tell the same.
-pub told_only : (t u : Told) → told_numbers t ≡ told_numbers u → t ≡ u
+pub told_only : (t u : Result ⊤ Refusal) → told_numbers t ≡ told_numbers u → t ≡ u
 told_only t u e = sym (told_back t) ∙ (ap told_from e ∙ told_back u)
 
 -- Equal number, a and b are equal numbers.

@@ -7,7 +7,7 @@ ghost use Rattle.std.specs.Prelude.{◌≡◌};
 ghost use Rattle.standard.specs.Refusals.{numbers_of_lem};
 
 // What is wrong, by document 01's names. The comment before a case is the refusal's number, and its a and b.
-#[derive(Clone, Copy)]
+#[derive(Clone, Copy, Debug, PartialEq, Eq)]
 pub enum Refusal {
     // 1: length, expected
     InvalidByteLength(usize, usize),
@@ -56,7 +56,7 @@ pub enum Refusal {
 }
 
 // A refusal as the numbers that are given back.
-#[derive(Clone, Copy)]
+#[derive(Clone, Copy, Debug, PartialEq, Eq)]
 pub struct Numbers {
     pub number: usize,
     pub a: usize,
@@ -101,29 +101,22 @@ impl Refusal {
     }
 }
 
-// A call that gives nothing but its refusal.
-#[derive(Clone, Copy)]
-pub enum Told {
-    Fine,
-    Refused(Refusal),
-}
-
-// A number that may be missing, as the port's stand-in for the source's optional ones.
-#[derive(Clone, Copy)]
-pub enum Maybe {
-    Just(usize),
-    Nothing,
+// What a refusal gives back: the state as it was, and what is wrong.
+#[derive(Clone, Copy, Debug, PartialEq, Eq)]
+pub struct Refused<S> {
+    pub state: S,
+    pub refusal: Refusal,
 }
 
 // What stands for an item in the fixed portion of what holds it: so many bytes of its own, or an offset.
-#[derive(Clone, Copy)]
+#[derive(Clone, Copy, Debug, PartialEq, Eq)]
 pub enum Head {
     Fixed(usize),
     Variable,
 }
 
 // Where a field lies in its container's bytes, and where the next field's head is.
-#[derive(Clone, Copy)]
+#[derive(Clone, Copy, Debug, PartialEq, Eq)]
 pub struct Span {
     pub from: usize,
     pub to: usize,

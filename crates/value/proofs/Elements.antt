@@ -16,10 +16,11 @@ use Rattle.message.specs.Steps.{Row, row_of, is_plain}
 use Rattle.value.specs.Walk.{upto, with_body, walk_fields}
 use Rattle.value.specs.Write.{parts_from}
 use Rattle.value.specs.Steps.{cap, measured, AllPlain}
-use Rattle.value.specs.declared.measure.Measured.{Measured}
 use Rattle.value.proofs.Walks.{measured-cap}
 use Rattle.value.proofs.Rows.{Measuring, measuring_none, measuring_end}
 use Rattle.value.proofs.Plain.{Plain, plain-field, measuring_plain, measuring_short}
+use Rattle.std.specs.declared.result.Result.{Result}
+use Rattle.standard.specs.declared.Refusal.{Refusal}
 
 -- Fewer than 2^32 elements, each of fewer bytes
 pub product_small : (m k : ℕ) → m < 2 ^ 32 → k < 2 ^ 32 → m * k < 2 ^ 64
@@ -30,7 +31,7 @@ product_small m k h q =
 -- The m elements that share the word at a, each k bytes of the bodies, are m * k bytes of them.
 module _ (lens l : List ℕ) (t a m : ℕ) (c b : List ℕ) (i j f : ℕ) (e : f ≡ word_at l a) (k : ℕ) (q : k ≡ get_or lens f 0) (p : Plain (tree_of l f) k) where
   -- what is measured of all of them
-  abbrev whole : Measured
+  abbrev whole : Result Mark Refusal
   whole = measured (walk_fields (row_of l t a 0 m) c b i j) (length (join (parts_from (row_of l t a 0 m) c b i j)))
 
   -- some of them are left, from the byte at on; sum bytes are measured
@@ -38,7 +39,7 @@ module _ (lens l : List ℕ) (t a m : ℕ) (c b : List ℕ) (i j f : ℕ) (e : f
   Left left sum at = Measuring lens l t a 0 m c b i j sum a left i at
 
   -- what is measured of those by their length
-  abbrev at_once : ℕ → ℕ → ℕ → Measured
+  abbrev at_once : ℕ → ℕ → ℕ → Result Mark Refusal
   at_once left sum at = measured (with_body b at (left * k) (upto i (at + left * k))) (sum + left * k)
 
   plain-none : (sum at : ℕ) → Left 0 sum at → at ≤ length b → at_once 0 sum at ≡ whole

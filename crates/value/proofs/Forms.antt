@@ -23,7 +23,6 @@ use Rattle.standard.proofs.Elements.{All, copies, all-copies, length-as_list, by
 use Rattle.standard.proofs.Laws.{legal-copies}
 use Rattle.bitfield.proofs.Bodies.{cut_below}
 use Rattle.layout.specs.Table.{table_of}
-use Rattle.layout.specs.declared.Checked.TheVariants.{Upto}
 use Rattle.message.specs.Read.{raw_bytes_lem}
 use Rattle.message.specs.Check.{message_type}
 use Rattle.message.specs.Form.{raw_bits, contents, contents_all, contents_option, bodies, bodies_all, bodies_option}
@@ -31,7 +30,6 @@ use Rattle.message.proofs.Theorem.{message-legal}
 use Rattle.message.proofs.Copies.{contents-copies, bodies-copies}
 use Rattle.value.specs.Walk.{upto, last_bits, walk_bits, walk_item, walk_fields, walk_option}
 use Rattle.value.specs.Write.{bytes_at, with_mark, write_item_lem, parts_from, write_option, walk_all, write_message, written_bytes}
-use Rattle.value.specs.declared.Written.TheVariants.{Length}
 use Rattle.value.proofs.Copies.{walk-copies, parts-copies}
 
 -- A part x that stands in b at j, and a word that stands in c at i.
@@ -317,9 +315,9 @@ module _ (t : Ty) (v : Val t) (l : LegalTy t) (o : Ok t v) where
 
 -- The call: the form of a value within its bounds is accepted, and what is stored is the value's serialization.
 pub form-written :
-    (l : List ℕ) (n : ℕ) → Bytes l → table_of l ≡ Upto n → (v : Val (message_type l n)) → Ok (message_type l n) v → (o : List ℕ)
+    (l : List ℕ) (n : ℕ) → Bytes l → table_of l ≡ Ok n → (v : Val (message_type l n)) → Ok (message_type l n) v → (o : List ℕ)
     → length (serialize (message_type l n) v) < 2 ^ 32 → length (serialize (message_type l n) v) ≤ length o
-    → (write_message l (contents (message_type l n) v) (bodies (message_type l n) v) o ≡ Length (length (serialize (message_type l n) v)))
+    → (write_message l (contents (message_type l n) v) (bodies (message_type l n) v) o ≡ Ok (length (serialize (message_type l n) v)))
     × (written_bytes l (contents (message_type l n) v) (bodies (message_type l n) v) o ≡ sets o 0 (serialize (message_type l n) v))
 unfolding write_message written_bytes
 form-written l n b e v k o small room =

@@ -16,11 +16,12 @@ use Rattle.value.specs.Write.{write_item_lem, parts_from}
 use Rattle.value.specs.Steps.{measured, selected, IsUpto, AsRow, AsOption, LaidAs, AllPlain}
 use Rattle.value.specs.Stores.{Put, Together, Fields}
 use Rattle.value.specs.declared.laid.Laid.{Laid}
-use Rattle.value.specs.declared.measure.Measured.{Measured}
 use Rattle.value.specs.declared.store.Stop.{Stop}
 use Rattle.value.proofs.Walks.{selected-item}
 use Rattle.value.proofs.Leaves.{PartForm}
 use Rattle.value.proofs.Fixed.{row-part, legal-row}
+use Rattle.std.specs.declared.result.Result.{Result}
+use Rattle.std.specs.declared.result.Result.TheVariants.{Ok, Err}
 
 pub own-small : (lens l : List ℕ) (t : ℕ) → Under lens l (t + 1) → get_or lens t 0 < 2 ^ 32
 own-small lens l t g = under-small lens l (t + 1) g t (omega arith)
@@ -89,28 +90,28 @@ module _ (l : List ℕ) (t : ℕ) (c : List ℕ) (i : ℕ) (b : List ℕ) (j : �
 
 -- Measured.
 module _ (l : List ℕ) (t : ℕ) (c : List ℕ) (i : ℕ) (b : List ℕ) (j : ℕ) (made : Laid) (d : LaidAs l t c i made) where
-  abbrev of_item : Measured
+  abbrev of_item : Result Mark Refusal
   of_item = measured (walk_item (tree_of l t) c b i j) (length (write_item_lem (tree_of l t) c b i j))
 
-  pub row-measured : (a step n p : ℕ) → made ≡ Laid.Fields a step n p → (r : Measured) →
+  pub row-measured : (a step n p : ℕ) → made ≡ Laid.Fields a step n p → (r : Result Mark Refusal) →
       r ≡ measured (walk_fields (row_of l t a step n) c b p j) (length (join (parts_from (row_of l t a step n) c b p j))) → r ≡ of_item
   row-measured a step n p e r q = let g : AsRow l t c i a step n p = rw e at d in rw (g.walk b j, g.write b j) q
 
-  pub plain-measured : (a step n p : ℕ) → made ≡ Laid.Fields a step n p → (k : ℕ) → AllPlain (row_of l t a step n) k → (r : Measured) →
+  pub plain-measured : (a step n p : ℕ) → made ≡ Laid.Fields a step n p → (k : ℕ) → AllPlain (row_of l t a step n) k → (r : Result Mark Refusal) →
       r ≡ measured (with_body b j k (upto p (j + k))) k → r ≡ of_item
   unfolding AllPlain
   plain-measured a step n p e k f r q = row-measured a step n p e r (q ∙ f c b p j)
 
-  pub bare-measured : made ≡ Laid.Bare → Measured.Upto (record { word = i + 1; byte = j; len = 1 }) ≡ of_item
+  pub bare-measured : made ≡ Laid.Bare → Ok (record { word = i + 1; byte = j; len = 1 }) ≡ of_item
   bare-measured e = let g : LaidAs l t c i Laid.Bare = rw e at d in rw (g.walk b j, g.write b j)
 
-  pub body-measured : (f : ℕ) → made ≡ Laid.Body f → (r q : Measured) → r ≡ selected q →
+  pub body-measured : (f : ℕ) → made ≡ Laid.Body f → (r q : Result Mark Refusal) → r ≡ selected q →
       q ≡ measured (walk_item (tree_of l f) c b (i + 1) j) (length (write_item_lem (tree_of l f) c b (i + 1) j)) → r ≡ of_item
   body-measured f e r q h k =
       let g : LaidAs l t c i (Laid.Body f) = rw e at d in
       selected-item _ _ _ _ _ (g.1.walk b j) (g.1.write b j) r q h k
 
-  pub wrong-measured : (x : Refusal) → made ≡ Laid.Wrong x → Measured.Wrong x ≡ of_item
+  pub wrong-measured : (x : Refusal) → made ≡ Laid.Wrong x → Err x ≡ of_item
   wrong-measured x e = let g : LaidAs l t c i (Laid.Wrong x) = rw e at d in rw (g b j)
 
 -- The row, and the word of a union's selector

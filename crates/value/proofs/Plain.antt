@@ -25,11 +25,13 @@ use Rattle.value.specs.Write.{bytes_at, write_item_lem, parts_from}
 use Rattle.value.specs.Steps.{cap, measured, IsUpto}
 use Rattle.value.specs.Stores.{Put}
 use Rattle.value.specs.declared.store.Stop.{Stop}
-use Rattle.value.specs.declared.measure.Measured.{Measured}
 use Rattle.value.proofs.Walks.{length-bytes_at}
 use Rattle.value.proofs.Rows.{Measuring, measuring_next, measuring_stop}
 use Rattle.value.proofs.Unions.{leaf-head}
 use Rattle.value.proofs.Fills.{tree_walk, tree_write}
+use Rattle.std.specs.declared.result.Result.{Result}
+use Rattle.std.specs.declared.result.Result.TheVariants.{Err}
+use Rattle.standard.specs.declared.Refusal.{Refusal}
 
 -- A kind below 6 has no lower types, and the number of its type is no matter.
 module _ (l : List ℕ) (f : ℕ) (n : Node) (e : n ≡ node_of l f) (h : n.kind < 6) where
@@ -40,7 +42,7 @@ module _ (l : List ℕ) (f : ℕ) (n : Node) (e : n ≡ node_of l f) (h : n.kind
     below-write : write_item_lem (tree_of l f) c b i j ≡ write_item_lem (leaf_of 0 n) c b i j
     below-write = tree_write l f n e h c b i j
 
-    pub below-measured : (r : Measured) → r ≡ measured (walk_item (leaf_of 0 n) c b i j) (length (write_item_lem (leaf_of 0 n) c b i j)) →
+    pub below-measured : (r : Result Mark Refusal) → r ≡ measured (walk_item (leaf_of 0 n) c b i j) (length (write_item_lem (leaf_of 0 n) c b i j)) →
         r ≡ measured (walk_item (tree_of l f) c b i j) (length (write_item_lem (tree_of l f) c b i j))
     below-measured r q = rw (below-walk, below-write) q
 
@@ -107,7 +109,7 @@ module _ (lens l : List ℕ) (t a₀ step n : ℕ) (c b : List ℕ) (i₀ j₀ :
       rw v at x
 
   pub measuring_short : leb (j + k) (length b) ≡ false →
-      Measured.Wrong (BadValue 1 (length b)) ≡
+      Err (BadValue 1 (length b)) ≡
       measured (walk_fields (row_of l t a₀ step n) c b i₀ j₀) (length (join (parts_from (row_of l t a₀ step n) c b i₀ j₀)))
   measuring_short h =
       let w : walk_item (tree_of l f) c b i j ≡ wrong (BadValue 1 (length b)) = p.walk c b i j ∙ rw h in

@@ -8,14 +8,12 @@ use lib.Seq.{sets, sets-eq, take-append_seam}
 use Rattle.standard.specs.Bytes.{Bytes}
 use Rattle.standard.specs.Serialize.{Val, Ok, serialize}
 use Rattle.layout.specs.Table.{table_of}
-use Rattle.layout.specs.declared.Checked.TheVariants.{Upto}
 use Rattle.message.specs.Check.{message_type}
 use Rattle.message.specs.Form.{contents, bodies}
 use Rattle.message.specs.Unfold.{unfold_message, unfolded_words, unfolded_bytes}
 use Rattle.message.specs.declared.Unfolded.{Unfolded}
 use Rattle.message.proofs.UnfoldTheorem.{unfold_value}
 use Rattle.value.specs.Write.{write_message, written_bytes}
-use Rattle.value.specs.declared.Written.TheVariants.{Length}
 use Rattle.value.proofs.Forms.{form-written}
 
 -- What is stored at the start of a buffer with room for it is what its first places hold.
@@ -24,12 +22,12 @@ stored-first o x h = ap (take (length x)) (sets-eq x o 0 (omega arith)) ∙ take
 
 -- o and p are the buffers that unfolding fills, q the one that writing fills.
 pub written_back :
-    (l : List ℕ) (n : ℕ) → Bytes l → table_of l ≡ Upto n → (m : List ℕ) → length m < 2 ^ 32
+    (l : List ℕ) (n : ℕ) → Bytes l → table_of l ≡ Ok n → (m : List ℕ) → length m < 2 ^ 32
     → (v : Val (message_type l n)) → Ok (message_type l n) v → serialize (message_type l n) v ≡ m → (o p q : List ℕ)
     → length (contents (message_type l n) v) ≤ length o → length (bodies (message_type l n) v) ≤ length p → length m ≤ length q
     → (c b : List ℕ) → c ≡ take (length (contents (message_type l n) v)) (unfolded_words l m o p)
     → b ≡ take (length (bodies (message_type l n) v)) (unfolded_bytes l m o p)
-    → (write_message l c b q ≡ Length (length m)) × (written_bytes l c b q ≡ sets q 0 m)
+    → (write_message l c b q ≡ Ok (length m)) × (written_bytes l c b q ≡ sets q 0 m)
 written_back l n h e m k v g s o p q i j r c b x y =
     let t = message_type l n in
     let u = unfold_value l n h e m k o p v g s i j in
@@ -40,7 +38,7 @@ written_back l n h e m k v g s o p q i j r c b x y =
 
 -- And the other way: the form of a value, written and unfolded again, is the form.
 pub unfolded-back :
-    (l : List ℕ) (n : ℕ) → Bytes l → table_of l ≡ Upto n → (v : Val (message_type l n)) → Ok (message_type l n) v → (o p q : List ℕ)
+    (l : List ℕ) (n : ℕ) → Bytes l → table_of l ≡ Ok n → (v : Val (message_type l n)) → Ok (message_type l n) v → (o p q : List ℕ)
     → length (serialize (message_type l n) v) < 2 ^ 32 → length (serialize (message_type l n) v) ≤ length q
     → length (contents (message_type l n) v) ≤ length o → length (bodies (message_type l n) v) ≤ length p
     → (m : List ℕ)

@@ -20,8 +20,8 @@ use Rattle.value.specs.Walk.{upto, onward, walk_item, walk_fields}
 use Rattle.value.specs.Write.{word_after, byte_after, write_item_lem, parts_from}
 use Rattle.value.specs.Steps.{cap, measured, extra}
 use Rattle.value.specs.declared.measure.Mark.{Mark}
-use Rattle.value.specs.declared.measure.Measured.{Measured}
 use Rattle.value.proofs.Walks.{measured-says, measured-wrong, measured-cap}
+use Rattle.std.specs.declared.result.Result.TheVariants.{Ok, Err}
 
 -- Each part adds its bytes, and its offset where it has one.
 pub join_more : (h : Head) (s : List ℕ) (xs : List Part) → length (join (piece h s ∷ xs)) ≡ extra h + length s + length (join xs)
@@ -68,7 +68,7 @@ measuring_none lens l t a step n c b i j g =
 
 module _ (lens l : List ℕ) (t a₀ step n : ℕ) (c b : List ℕ) (i₀ j₀ : ℕ) (sum a left i j f : ℕ) (g : Measuring lens l t a₀ step n c b i₀ j₀ sum a left i j)
     (z : 0 < left) (e : f ≡ word_at l a) where
-  pub measuring_next : (m : Mark) → Measured.Upto m ≡ measured (walk_item (tree_of l f) c b i j) (length (write_item_lem (tree_of l f) c b i j)) → (k : ℕ) →
+  pub measuring_next : (m : Mark) → Ok m ≡ measured (walk_item (tree_of l f) c b i j) (length (write_item_lem (tree_of l f) c b i j)) → (k : ℕ) →
       k ≡ get_or lens f 0 → (own : ℕ) → own ≡ cap (extra (head_of k) + m.len) →
       Measuring lens l t a₀ step n c b i₀ j₀ (cap (sum + own)) (a + step) (left - 1) m.word m.byte
   measuring_next m h k o own p =
@@ -87,20 +87,20 @@ module _ (lens l : List ℕ) (t a₀ step n : ℕ) (c b : List ℕ) (i₀ j₀ :
             ∙ rw (fields-walk lens l t a step left f g.row z e c b i j, fields-parts lens l t a step left f g.row z e c b i j, q.0) at g.same;
       }
 
-  pub measuring_stop : (x : Refusal) → Measured.Wrong x ≡ measured (walk_item (tree_of l f) c b i j) (length (write_item_lem (tree_of l f) c b i j)) →
-      Measured.Wrong x ≡ measured (walk_fields (row_of l t a₀ step n) c b i₀ j₀) (length (join (parts_from (row_of l t a₀ step n) c b i₀ j₀)))
+  pub measuring_stop : (x : Refusal) → Err x ≡ measured (walk_item (tree_of l f) c b i j) (length (write_item_lem (tree_of l f) c b i j)) →
+      Err x ≡ measured (walk_fields (row_of l t a₀ step n) c b i₀ j₀) (length (join (parts_from (row_of l t a₀ step n) c b i₀ j₀)))
   measuring_stop x h =
       let q = measured-wrong (walk_item (tree_of l f) c b i j) (length (write_item_lem (tree_of l f) c b i j)) x h in
       rw (fields-walk lens l t a step left f g.row z e c b i j, q) at g.same
 
 pub measuring_end : (lens l : List ℕ) (t a₀ step n : ℕ) (c b : List ℕ) (i₀ j₀ : ℕ) (sum a left i j : ℕ) →
     Measuring lens l t a₀ step n c b i₀ j₀ sum a left i j → left ≤ 0 →
-    Measured.Upto (record { word = i; byte = j; len = sum }) ≡
+    Ok (record { word = i; byte = j; len = sum }) ≡
     measured (walk_fields (row_of l t a₀ step n) c b i₀ j₀) (length (join (parts_from (row_of l t a₀ step n) c b i₀ j₀)))
 unfolding join fronts backs fixed_lengths
 measuring_end lens l t a₀ step n c b i₀ j₀ sum a left i j g h =
     let v : sum ≡ cap (sum + length (join [])) = omega (arith, g.small) in
-    ap (λ (k : ℕ). Measured.Upto (record { word = i; byte = j; len = k })) v
+    ap (λ (k : ℕ). Ok (record { word = i; byte = j; len = k })) v
     ∙ rw (none_walk l t a step left c b i j h, none-parts l t a step left c b i j h) at g.same
 
 -- A container.

@@ -7,20 +7,21 @@ use mathlib.Core.Bool.{false}
 use lib.Dec.{ltb}
 use Rattle.standard.specs.declared.Refusal.{Refusal}
 use Rattle.decode.specs.Unions.{selector_of}
-use Rattle.decode.specs.declared.union_selector.SelectorResult.{SelectorResult}
 use Rattle.decode.specs.declared.union_selector.UnionSelector.{UnionSelector}
+use Rattle.std.specs.declared.result.Result.{Result}
+use Rattle.std.specs.declared.result.Result.TheVariants.{Ok, Err}
 
-selector-made : (k : ℕ) → k ≤ 127 → selector_of k ≡ SelectorResult.Selector (record { 0 = k })
+selector-made : (k : ℕ) → k ≤ 127 → selector_of k ≡ Ok (record { 0 = k })
 selector-made k h = rw (le-leb _ _ h)
 
-abbrev byte_of : SelectorResult → ℕ
-byte_of (SelectorResult.Selector x) = x.0
-byte_of (SelectorResult.Refused r) = 256
+abbrev byte_of : Result UnionSelector Refusal → ℕ
+byte_of (Ok x) = x.0
+byte_of (Err r) = 256
 
-pub selector-word : (k : ℕ) (x : UnionSelector) → k ≤ 127 → SelectorResult.Selector x ≡ selector_of k → x.0 ≡ k
+pub selector-word : (k : ℕ) (x : UnionSelector) → k ≤ 127 → Ok x ≡ selector_of k → x.0 ≡ k
 selector-word k x h e = ap byte_of (e ∙ selector-made k h)
 
-pub no_refusal : {X : Type 0} (k : ℕ) (r : Refusal) → k ≤ 127 → SelectorResult.Refused r ≡ selector_of k → X
+pub no_refusal : {X : Type 0} (k : ℕ) (r : Refusal) → k ≤ 127 → Err r ≡ selector_of k → X
 no_refusal k r h e = absurd (omega (arith, ap byte_of (e ∙ selector-made k h)))
 
 -- A word above 127 has no option among at most 128.

@@ -16,32 +16,33 @@ use Rattle.value.specs.Walk.{Walked, upto, wrong, with_word, with_body, walk_bit
 use Rattle.value.specs.Write.{bytes_at, with_mark, write_item_lem}
 use Rattle.value.specs.Steps.{cap, measured, selected}
 use Rattle.value.specs.declared.measure.Mark.{Mark}
-use Rattle.value.specs.declared.measure.Measured.{Measured}
+use Rattle.std.specs.declared.result.Result.{Result}
+use Rattle.std.specs.declared.result.Result.TheVariants.{Ok, Err}
 
 -- What a measure says of its walk.
-pub measured-says : (w : Walked) (n : ℕ) (m : Mark) → Measured.Upto m ≡ measured w n → (w ≡ upto m.word m.byte) × (m.len ≡ cap n)
+pub measured-says : (w : Walked) (n : ℕ) (m : Mark) → Ok m ≡ measured w n → (w ≡ upto m.word m.byte) × (m.len ≡ cap n)
 measured-says (upto i j) n m e =
     let q : m ≡ record { word = i; byte = j; len = cap n } = cc in
     rw q (refl, refl)
 measured-says (wrong r) n m e = let z : ◌≡◌ {A = ℕ} 0 1 = cc in absurd (omega arith)
 
-pub measured-wrong : (w : Walked) (n : ℕ) (r : Refusal) → Measured.Wrong r ≡ measured w n → w ≡ wrong r
+pub measured-wrong : (w : Walked) (n : ℕ) (r : Refusal) → Err r ≡ measured w n → w ≡ wrong r
 measured-wrong (upto i j) n r e = let z : ◌≡◌ {A = ℕ} 0 1 = cc in absurd (omega arith)
 measured-wrong (wrong x) n r e = let q : r ≡ x = cc in rw q
 
 -- Only the length as far as 2^32 counts.
 pub measured-cap : (w : Walked) (m n : ℕ) → cap m ≡ cap n → measured w m ≡ measured w n
-measured-cap (upto i j) m n e = ap (λ (k : ℕ). Measured.Upto (record { word = i; byte = j; len = k })) e
+measured-cap (upto i j) m n e = ap (λ (k : ℕ). Ok (record { word = i; byte = j; len = k })) e
 measured-cap (wrong r) m n e = refl
 
 -- With a selector byte before it.
 pub selected-measured : (w : Walked) (k : ℕ) (s : List ℕ) → selected (measured w (length s)) ≡ measured w (length (k ∷ s))
 selected-measured (upto i j) k s =
     let e : cap (1 + cap (length s)) ≡ cap (suc (length s)) = omega arith in
-    ap (λ (n : ℕ). Measured.Upto (record { word = i; byte = j; len = n })) e
+    ap (λ (n : ℕ). Ok (record { word = i; byte = j; len = n })) e
 selected-measured (wrong r) k s = refl
 
-pub selected-item : (w v : Walked) (x s : List ℕ) (k : ℕ) → w ≡ v → x ≡ k ∷ s → (r q : Measured) → r ≡ selected q → q ≡ measured v (length s) →
+pub selected-item : (w v : Walked) (x s : List ℕ) (k : ℕ) → w ≡ v → x ≡ k ∷ s → (r q : Result Mark Refusal) → r ≡ selected q → q ≡ measured v (length s) →
     r ≡ measured w (length x)
 selected-item w v x s k e f r q g h = rw (e, f) (g ∙ ap selected h ∙ selected-measured v k s)
 

@@ -12,21 +12,23 @@ use Rattle.message.specs.Steps.{Under, Row, row_of}
 use Rattle.value.specs.Walk.{Walked, upto, wrong, with_body, walk_item, walk_fields}
 use Rattle.value.specs.Write.{write_item_lem, parts_from}
 use Rattle.value.specs.declared.laid.Laid.{Laid}
-use Rattle.value.specs.declared.measure.Measured.{Measured}
+use Rattle.std.specs.declared.result.Result.{Result}
+use Rattle.std.specs.declared.result.Result.TheVariants.{Ok, Err}
+use Rattle.standard.specs.declared.Refusal.{Refusal}
 
 -- A length as far as 2^32: from there on it is too large, whatever it is.
 abbrev pub cap : ℕ → ℕ
 cap n = min n 4294967296
 
 -- A walk, with the length of what it would write
-abbrev pub measured : Walked → ℕ → Measured
-measured (upto i j) n = Measured.Upto (record { word = i; byte = j; len = cap n })
-measured (wrong r) n = Measured.Wrong r
+abbrev pub measured : Walked → ℕ → Result Mark Refusal
+measured (upto i j) n = Ok (record { word = i; byte = j; len = cap n })
+measured (wrong r) n = Err r
 
 -- A union's selector byte besides
-abbrev pub selected : Measured → Measured
-selected (Measured.Upto m) = Measured.Upto (record { word = m.word; byte = m.byte; len = cap (1 + m.len) })
-selected (Measured.Wrong r) = Measured.Wrong r
+abbrev pub selected : Result Mark Refusal → Result Mark Refusal
+selected (Ok m) = Ok (record { word = m.word; byte = m.byte; len = cap (1 + m.len) })
+selected (Err r) = Err r
 
 -- What an item takes besides its bytes: an offset is four bytes
 abbrev pub extra : Head → ℕ

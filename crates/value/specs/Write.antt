@@ -7,13 +7,12 @@ use Rattle.standard.specs.Parts.{Part, piece, join}
 use Rattle.standard.specs.declared.Head.{Head}
 use Rattle.standard.specs.declared.Refusal.TheVariants.{BadLayout, TooLarge, NoRoom, BadValue}
 use Rattle.layout.specs.Table.{table_of}
-use Rattle.layout.specs.declared.Checked.{Checked}
-use Rattle.layout.specs.declared.Checked.TheVariants.{Bad, Upto}
 use Rattle.message.specs.Read.{raw_bytes_lem}
 use Rattle.message.specs.Check.{message_type}
 use Rattle.value.specs.Walk.{Walked, upto, wrong, walk_item}
-use Rattle.value.specs.declared.Written.{Written}
-use Rattle.value.specs.declared.Written.TheVariants.{Length, Refused}
+use Rattle.std.specs.declared.result.Result.{Result}
+use Rattle.std.specs.declared.result.Result.TheVariants.{Ok, Err}
+use Rattle.standard.specs.declared.Refusal.{Refusal}
 
 -- Where the next item's contents and bodies start
 abbrev pub word_after : Walked → ℕ
@@ -74,11 +73,11 @@ abbrev pub walk_all : Ty → List ℕ → List ℕ → Walked
 walk_all t c b = whole c b (walk_item t c b 0 0)
 
 -- "Writer: 20, 25, 21, 22": the bytes x are written where all is well, they are less than 2^32 and there is room for them.
-abbrev pub written_of : Walked → List ℕ → List ℕ → Written
-written_of (wrong r) x o = Refused r
+abbrev pub written_of : Walked → List ℕ → List ℕ → Result ℕ Refusal
+written_of (wrong r) x o = Err r
 written_of (upto i j) x o =
-    pick (ltb 4294967295 (length x)) (Refused TooLarge)
-    (pick (ltb (length o) (length x)) (Refused (NoRoom (length x) (length o))) (Length (length x)))
+    pick (ltb 4294967295 (length x)) (Err TooLarge)
+    (pick (ltb (length o) (length x)) (Err (NoRoom (length x) (length o))) (Ok (length x)))
 
 -- "Success fills exactly the result's length and keeps the rest"; a refusal changes nothing
 abbrev pub stored_of : Walked → List ℕ → List ℕ → List ℕ
@@ -86,16 +85,16 @@ stored_of (wrong r) x o = o
 stored_of (upto i j) x o = pick (ltb 4294967295 (length x)) o (pick (ltb (length o) (length x)) o (sets o 0 x))
 
 -- Under a table
-abbrev pub written_under : Checked → List ℕ → List ℕ → List ℕ → List ℕ → Written
-written_under (Bad w) l c b o = Refused (BadLayout w)
-written_under (Upto n) l c b o = written_of (walk_all (message_type l n) c b) (write_item_lem (message_type l n) c b 0 0) o
+abbrev pub written_under : Result ℕ Refusal → List ℕ → List ℕ → List ℕ → List ℕ → Result ℕ Refusal
+written_under (Err (BadLayout w)) l c b o = Err (BadLayout w)
+written_under (Ok n) l c b o = written_of (walk_all (message_type l n) c b) (write_item_lem (message_type l n) c b 0 0) o
 
-abbrev pub stored_under : Checked → List ℕ → List ℕ → List ℕ → List ℕ → List ℕ
-stored_under (Bad w) l c b o = o
-stored_under (Upto n) l c b o = stored_of (walk_all (message_type l n) c b) (write_item_lem (message_type l n) c b 0 0) o
+abbrev pub stored_under : Result ℕ Refusal → List ℕ → List ℕ → List ℕ → List ℕ → List ℕ
+stored_under (Err (BadLayout w)) l c b o = o
+stored_under (Ok n) l c b o = stored_of (walk_all (message_type l n) c b) (write_item_lem (message_type l n) c b 0 0) o
 
 -- The call: what it answers, and what its buffer is afterwards
-unfoldable pub write_message : List ℕ → List ℕ → List ℕ → List ℕ → Written
+unfoldable pub write_message : List ℕ → List ℕ → List ℕ → List ℕ → Result ℕ Refusal
 write_message l c b o = written_under (table_of l) l c b o
 
 unfoldable pub written_bytes : List ℕ → List ℕ → List ℕ → List ℕ → List ℕ

@@ -5,7 +5,7 @@ ghost use Rattle.layout.specs.Legal.{Legal};
 ghost use Rattle.value.specs.Steps.{choose, laid_of, laid_at, LaidAs};
 
 use crate::words::word_in;
-use decode::union_selector::{SelectorResult, UnionSelector};
+use decode::union_selector::UnionSelector;
 use layout::{NO_BODY, Node};
 use standard::Refusal;
 use standard::words::word_at;
@@ -62,8 +62,8 @@ fn select(layout: &[u8], a: usize, n: usize, contents: &[u32], i: usize) -> Laid
     let byte = k as u8;
     let s = UnionSelector::new(byte);
     match s {
-        SelectorResult::Selector(selector) => option_of(layout, a, n, selector, i),
-        SelectorResult::Refused(_) => Laid::Wrong(Refusal::BadValue(0, i)),
+        Ok(selector) => option_of(layout, a, n, selector, i),
+        Err(_) => Laid::Wrong(Refusal::BadValue(0, i)),
     }
 }
 

@@ -7,21 +7,13 @@ mod store;
 mod words;
 
 ghost use Rattle.std.specs.Prelude.{◌≡◌, ◌≤◌};
-ghost use Rattle.layout.specs.declared.Checked.TheVariants.{Upto};
 ghost use Rattle.message.specs.Steps.{Under};
 ghost use Rattle.value.specs.Write.{written_under, stored_under, write_message, written_bytes};
 
-use layout::{Checked, table_of};
-use measure::{Measured, measure_item};
+use layout::table_of;
+use measure::measure_item;
 use standard::Refusal;
 use store::write_item;
-
-// What a writer answers: how many bytes were written, or the refusal.
-#[derive(Clone, Copy)]
-pub enum Written {
-    Length(usize),
-    Refused(Refusal),
-}
 
 // Writes under a legal table of n types.
 fn write_under(
@@ -31,7 +23,7 @@ fn write_under(
     n: usize,
     contents: &[u32],
     bodies: &[u8],
-) -> Written
+) -> Result<usize, Refusal>
     requires { Under lens.now layout.now n × (1 ≤ n) }
     ensures value { result ≡ written_under (Upto n) layout.now contents.now bodies.now out.old }
     ensures out_after { out.new ≡ stored_under (Upto n) layout.now contents.now bodies.now out.old }
@@ -39,26 +31,26 @@ fn write_under(
     let last = n - 1;
     let r = measure_item(lens, layout, last, contents, bodies, 0, 0);
     match r {
-        Measured::Wrong(x) => Written::Refused(x),
-        Measured::Upto(m) => {
+        Err(x) => Err(x),
+        Ok(m) => {
             let word = m.word;
             let byte = m.byte;
             let len = m.len;
             if word < contents.len() {
-                return Written::Refused(Refusal::BadValue(0, word));
+                return Err(Refusal::BadValue(0, word));
             }
             if byte < bodies.len() {
-                return Written::Refused(Refusal::BadValue(1, byte));
+                return Err(Refusal::BadValue(1, byte));
             }
             if len > 4294967295 {
-                return Written::Refused(Refusal::TooLarge);
+                return Err(Refusal::TooLarge);
             }
             let room = out.len();
             if len > room {
-                return Written::Refused(Refusal::NoRoom(len, room));
+                return Err(Refusal::NoRoom(len, room));
             }
             write_item(out, 0, lens, layout, last, contents, bodies, 0, 0);
-            Written::Length(len)
+            Ok(len)
         }
     }
 }
@@ -66,14 +58,14 @@ fn write_under(
 // Writes the message whose value has this form: 20 for a bad table, 25 for the first fault of the form, 21 for 2^32 bytes or more, then
 // 22 (bytes needed, room).
 #[tactic(auto, unfolding(crate::specs::Write::write_message, crate::specs::Write::written_bytes))]
-pub fn write(layout: &[u8], contents: &[u32], bodies: &[u8], out: &mut [u8]) -> Written
+pub fn write(layout: &[u8], contents: &[u32], bodies: &[u8], out: &mut [u8]) -> Result<usize, Refusal>
     ensures value { result ≡ write_message layout.now contents.now bodies.now out.old }
     ensures out_after { out.new ≡ written_bytes layout.now contents.now bodies.now out.old }
 {
     let mut lens = [0u32; 64];
     let c = table_of(&mut lens, layout);
     match c {
-        Checked::Bad(w) => Written::Refused(Refusal::BadLayout(w)),
-        Checked::Upto(n) => write_under(out, &lens, layout, n, contents, bodies),
+        Err(e) => Err(e),
+        Ok(n) => write_under(out, &lens, layout, n, contents, bodies),
     }
 }

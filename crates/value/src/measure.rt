@@ -11,7 +11,6 @@ ghost use Rattle.value.specs.Walk.{upto, wrong, with_body, walk_bits, walk_item,
 ghost use Rattle.value.specs.Write.{write_item_lem, parts_from};
 ghost use Rattle.value.specs.Steps.{cap, measured, selected, extra, AllPlain};
 ghost use Rattle.value.specs.declared.measure.Mark.{Mark};
-ghost use Rattle.value.specs.declared.measure.Measured.{Measured};
 
 use crate::laid::{Laid, lay};
 use crate::words::{look_in, word_in};
@@ -24,12 +23,6 @@ pub(crate) struct Mark {
     pub word: usize,
     pub byte: usize,
     pub len: usize,
-}
-
-#[derive(Clone, Copy)]
-pub(crate) enum Measured {
-    Upto(Mark),
-    Wrong(Refusal),
 }
 
 // From 2^32 on a length is too large, whatever it is.
@@ -86,46 +79,46 @@ fn has(bodies: &[u8], j: usize, n: usize) -> bool
 }
 
 // A number or fixed bytes: n bytes.
-fn measure_exact(bodies: &[u8], i: usize, j: usize, n: usize) -> Measured
+fn measure_exact(bodies: &[u8], i: usize, j: usize, n: usize) -> Result<Mark, Refusal>
     ensures { result ≡ measured (with_body bodies.now j n (upto i (j + n))) n }
 {
     let there = has(bodies, j, n);
     if there {
         let byte = j + n;
         let len = capped(n);
-        Measured::Upto(Mark { word: i, byte, len })
+        Ok(Mark { word: i, byte, len })
     } else {
-        Measured::Wrong(Refusal::BadValue(1, bodies.len()))
+        Err(Refusal::BadValue(1, bodies.len()))
     }
 }
 
 // A boolean: one byte, 0 or 1.
-fn measure_boolean(bodies: &[u8], i: usize, j: usize) -> Measured
+fn measure_boolean(bodies: &[u8], i: usize, j: usize) -> Result<Mark, Refusal>
     ensures { result ≡ measured (with_body bodies.now j 1 (pick (ltb (get_or bodies.now j 0) 2) (upto i (j + 1)) (wrong (BadValue 1 j)))) 1 }
 {
     let len = bodies.len();
     if j >= len {
-        return Measured::Wrong(Refusal::BadValue(1, len));
+        return Err(Refusal::BadValue(1, len));
     }
     if bodies[j] < 2 {
         let byte = j + 1;
-        return Measured::Upto(Mark {
+        return Ok(Mark {
             word: i,
             byte,
             len: 1,
         });
     }
-    Measured::Wrong(Refusal::BadValue(1, j))
+    Err(Refusal::BadValue(1, j))
 }
 
 // Raw bytes of k bits, with zero above the last bit; n bytes are written of them.
-fn measure_bits(bodies: &[u8], k: usize, i: usize, j: usize, n: usize) -> Measured
+fn measure_bits(bodies: &[u8], k: usize, i: usize, j: usize, n: usize) -> Result<Mark, Refusal>
     ensures { result ≡ measured (walk_bits bodies.now k i j) n }
 {
     let raw = raw_bytes(k);
     let there = has(bodies, j, raw);
     if !there {
-        return Measured::Wrong(Refusal::BadValue(1, bodies.len()));
+        return Err(Refusal::BadValue(1, bodies.len()));
     }
     let byte = j + raw;
     let last = byte - 1;
@@ -134,23 +127,23 @@ fn measure_bits(bodies: &[u8], k: usize, i: usize, j: usize, n: usize) -> Measur
     let x = bodies[last] as usize;
     if x >> bits == 0 {
         let len = capped(n);
-        return Measured::Upto(Mark { word: i, byte, len });
+        return Ok(Mark { word: i, byte, len });
     }
-    Measured::Wrong(Refusal::BadValue(1, last))
+    Err(Refusal::BadValue(1, last))
 }
 
 // Free bytes up to their limit.
 #[tactic(auto, unfolding(crate::specs::Walk::walk_item))]
-fn measure_free(contents: &[u32], bodies: &[u8], i: usize, j: usize, limit: usize) -> Measured
+fn measure_free(contents: &[u32], bodies: &[u8], i: usize, j: usize, limit: usize) -> Result<Mark, Refusal>
     ensures { result ≡ measured (walk_item (free_bytes 0 limit) contents.now bodies.now i j) (get_or contents.now i 0) }
 {
     let words = contents.len();
     if i >= words {
-        return Measured::Wrong(Refusal::BadValue(0, words));
+        return Err(Refusal::BadValue(0, words));
     }
     let n = contents[i] as usize;
     if n > limit {
-        return Measured::Wrong(Refusal::BadValue(0, i));
+        return Err(Refusal::BadValue(0, i));
     }
     let next = i + 1;
     measure_exact(bodies, next, j, n)
@@ -158,16 +151,16 @@ fn measure_free(contents: &[u32], bodies: &[u8], i: usize, j: usize, limit: usiz
 
 // A bit list of at most limit bits.
 #[tactic(auto, unfolding(crate::specs::Walk::walk_item))]
-fn measure_list(contents: &[u32], bodies: &[u8], i: usize, j: usize, limit: usize) -> Measured
+fn measure_list(contents: &[u32], bodies: &[u8], i: usize, j: usize, limit: usize) -> Result<Mark, Refusal>
     ensures { result ≡ measured (walk_item (bit_list 0 limit) contents.now bodies.now i j) (get_or contents.now i 0 / 8 + 1) }
 {
     let words = contents.len();
     if i >= words {
-        return Measured::Wrong(Refusal::BadValue(0, words));
+        return Err(Refusal::BadValue(0, words));
     }
     let k = contents[i] as usize;
     if k > limit {
-        return Measured::Wrong(Refusal::BadValue(0, i));
+        return Err(Refusal::BadValue(0, i));
     }
     let next = i + 1;
     let n = k / 8 + 1;
@@ -176,7 +169,7 @@ fn measure_list(contents: &[u32], bodies: &[u8], i: usize, j: usize, limit: usiz
 
 // An item of a type that has no lower types.
 #[tactic(auto, unfolding(crate::specs::Walk::walk_item, crate::specs::Write::write_item_lem, layout::specs::Tree::leaf_of))]
-fn measure_leaf(n: Node, contents: &[u32], bodies: &[u8], i: usize, j: usize) -> Measured
+fn measure_leaf(n: Node, contents: &[u32], bodies: &[u8], i: usize, j: usize) -> Result<Mark, Refusal>
     ensures { result ≡ measured (walk_item (leaf_of 0 n) contents.now bodies.now i j) (length (write_item_lem (leaf_of 0 n) contents.now bodies.now i j)) }
 {
     let kind = n.kind;
@@ -201,19 +194,19 @@ fn measure_leaf(n: Node, contents: &[u32], bodies: &[u8], i: usize, j: usize) ->
 }
 
 // A union's selector byte, with what its body has.
-fn with_selector(r: Measured) -> Measured
+fn with_selector(r: Result<Mark, Refusal>) -> Result<Mark, Refusal>
     ensures { result ≡ selected r }
 {
     match r {
-        Measured::Upto(m) => {
+        Ok(m) => {
             let len = add(1, m.len);
-            Measured::Upto(Mark {
+            Ok(Mark {
                 word: m.word,
                 byte: m.byte,
                 len,
             })
         }
-        Measured::Wrong(x) => Measured::Wrong(x),
+        Err(x) => Err(x),
     }
 }
 
@@ -254,7 +247,7 @@ pub(crate) fn measure_item(
     bodies: &[u8],
     i: usize,
     j: usize,
-) -> Measured
+) -> Result<Mark, Refusal>
     requires { Under lens.now layout.now (t + 1) }
     ensures { result ≡ measured (walk_item (tree_of layout.now t) contents.now bodies.now i j) (length (write_item_lem (tree_of layout.now t) contents.now bodies.now i j)) }
 {
@@ -273,7 +266,7 @@ pub(crate) fn measure_item(
         }
         Laid::Bare => {
             let word = i + 1;
-            Measured::Upto(Mark {
+            Ok(Mark {
                 word,
                 byte: j,
                 len: 1,
@@ -284,7 +277,7 @@ pub(crate) fn measure_item(
             let r = measure_item(lens, &layout[..], o, contents, bodies, word, j);
             with_selector(r)
         }
-        Laid::Wrong(x) => Measured::Wrong(x),
+        Laid::Wrong(x) => Err(x),
     }
 }
 
@@ -303,7 +296,7 @@ fn measure_fields(
     bodies: &[u8],
     i0: usize,
     j0: usize,
-) -> Measured
+) -> Result<Mark, Refusal>
     requires { Row lens.now layout.now t a0 step n }
     ensures { result ≡ measured (walk_fields (row_of layout.now t a0 step n) contents.now bodies.now i0 j0) (length (join (parts_from (row_of layout.now t a0 step n) contents.now bodies.now i0 j0))) }
 {
@@ -320,7 +313,7 @@ fn measure_fields(
         left -= 1;
         if is_plain(n.kind) {
             if !has(bodies, j, k) {
-                return Measured::Wrong(Refusal::BadValue(1, bodies.len()));
+                return Err(Refusal::BadValue(1, bodies.len()));
             }
             j += k;
             sum = add(sum, k);
@@ -332,15 +325,15 @@ fn measure_fields(
             measure_item(lens, &layout[..], f, contents, bodies, i, j)
         };
         match r {
-            Measured::Upto(m) => {
+            Ok(m) => {
                 sum = add(sum, with_offset(k, m.len));
                 i = m.word;
                 j = m.byte;
             }
-            Measured::Wrong(x) => return Measured::Wrong(x),
+            Err(x) => return Err(x),
         }
     }
-    Measured::Upto(Mark {
+    Ok(Mark {
         word: i,
         byte: j,
         len: sum,

@@ -1,10 +1,10 @@
 -- The work where the tests went well, else their refusal. Assumes nothing.
 use Rattle.std.proofs.Common.{sym, ap, ◌∙◌, arith}
 use Rattle.bitfield.specs.Held.{bits_in, inside}
-use Rattle.bitfield.specs.declared.BitResult.TheVariants.{Is}
 use Rattle.bitfield.proofs.Tolds.{then_fine, inside_fine}
 use Rattle.bitfield.proofs.Ties.{bits-get}
 use Rattle.bitfield.proofs.calls.get_bit.Goals as goal
+use Rattle.std.specs.declared.result.Result.TheVariants.{Ok}
 
 pub bit_at-requires : goal.bit_at-requires
 bit_at-requires c =
@@ -18,4 +18,4 @@ unfolding bits_in
 returns-in-Fine c =
     let fine = then_fine c.args.told (inside c.args.i c.args.len) (sym c.in-Fine.ensures) in
     let g = bits-get c.args.len _ c.args.i (inside_fine _ _ fine.1) in
-    rw (← c.inside_told-all.ensures, c.in-Fine.is) (ap Is (c.bit_at.ensures ∙ sym g))
+    rw (← c.inside_told-all.ensures, c.in-Fine.is) (ap Ok (c.bit_at.ensures ∙ sym g))

@@ -1,8 +1,8 @@
 -- The work where the tests went well, else their refusal. Assumes nothing.
 use Rattle.std.proofs.Common.{ap, arith}
-use Rattle.bitfield.specs.declared.BitResult.TheVariants.{Is}
 use Rattle.bitfield.proofs.Ties.{held-raw, none_left}
 use Rattle.bitfield.proofs.calls.subset_told.Goals as goal
+use Rattle.std.specs.declared.result.Result.TheVariants.{Ok}
 
 pub none_from-requires : goal.none_from-requires
 none_from-requires c = (omega arith, held-raw c.merged-rest.result _ c.merged-rest.ensures)
@@ -10,4 +10,4 @@ none_from-requires c = (omega arith, held-raw c.merged-rest.result _ c.merged-re
 pub returns-in-Fine : goal.returns-in-Fine
 returns-in-Fine c =
     let k = c.requires c.in-Fine.is in
-    rw (c.in-Fine.is, c.none_from.ensures) (ap Is (none_left _ c.args.a.now c.args.b.now _ _ k.0 k.1 c.merged-rest.ensures))
+    rw (c.in-Fine.is, c.none_from.ensures) (ap Ok (none_left _ c.args.a.now c.args.b.now _ _ k.0 k.1 c.merged-rest.ensures))

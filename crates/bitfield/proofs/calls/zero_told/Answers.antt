@@ -1,8 +1,8 @@
 -- The work where the tests went well, else their refusal. Assumes nothing.
 use Rattle.std.proofs.Common.{ap, ◌∙◌}
-use Rattle.bitfield.specs.declared.BitResult.TheVariants.{Is}
 use Rattle.bitfield.proofs.Ties.{none-held}
 use Rattle.bitfield.proofs.calls.zero_told.Goals as goal
+use Rattle.std.specs.declared.result.Result.TheVariants.{Ok}
 
 pub returns-in-Fine : goal.returns-in-Fine
-returns-in-Fine c = rw c.in-Fine.is (ap Is (c.none_from.ensures ∙ none-held _ c.args.len (c.requires c.in-Fine.is)))
+returns-in-Fine c = rw c.in-Fine.is (ap Ok (c.none_from.ensures ∙ none-held _ c.args.len (c.requires c.in-Fine.is)))
