@@ -5,8 +5,6 @@ use Rattle.standard.specs.Bytes.{Bytes, le}
 use Rattle.standard.specs.Bits.{bit, pack, marked}
 use Rattle.standard.specs.Types.{Ty, Tys, Opts, number, boolean, fixed_bytes, free_bytes, bit_vector, bit_list, container, union, list, vector, end, field, over, bare, body, head}
 use Rattle.standard.specs.Parts.{Part, piece, alike, join}
-use Rattle.std.specs.declared.option.Option.{Option}
-use Rattle.std.specs.declared.result.Result.TheVariants.{Ok}
 
 abbrev mutual
   -- A value of a type, as to its shape
