@@ -5,21 +5,21 @@ use Rattle.cases.proofs.Laws.{end-within}
 use Rattle.cases.proofs.body_at.Goals as goal
 
 pub overflow_add-from : goal.overflow_add-from
-overflow_add-from c = let w = end-within _ _ _ c.in-Whole.ensures in omega arith
+overflow_add-from c = let w = end-within _ _ _ c.in-Some.ensures in omega arith
 
 pub slice_bounds-result-count : goal.slice_bounds-result-count
-slice_bounds-result-count c = let w = end-within _ _ _ c.in-Whole.ensures in omega arith
+slice_bounds-result-count c = let w = end-within _ _ _ c.in-Some.ensures in omega arith
 
 pub slice_bounds-result-start : goal.slice_bounds-result-start
-slice_bounds-result-start c = let w = end-within _ _ _ c.in-Whole.ensures in omega arith
+slice_bounds-result-start c = let w = end-within _ _ _ c.in-Some.ensures in omega arith
 
 pub slice_bounds-result-end : goal.slice_bounds-result-end
-slice_bounds-result-end c = let w = end-within _ _ _ c.in-Whole.ensures in omega arith
+slice_bounds-result-end c = let w = end-within _ _ _ c.in-Some.ensures in omega arith
 
-pub returns-in-Whole : goal.returns-in-Whole
+pub returns-in-Some : goal.returns-in-Some
 unfolding body_of
-returns-in-Whole c = rw (← c.in-Whole.ensures)
+returns-in-Some c = rw (← c.in-Some.ensures)
 
-pub returns-in-Cut : goal.returns-in-Cut
+pub returns-in-None : goal.returns-in-None
 unfolding body_of
-returns-in-Cut c = rw (← c.in-Cut.ensures)
+returns-in-None c = rw (← c.in-None.ensures)

@@ -2,10 +2,10 @@
 use Rattle.cases.specs.Records.{next_of}
 use Rattle.cases.proofs.next_start.Goals as goal
 
-pub returns-in-Whole : goal.returns-in-Whole
+pub returns-in-Some : goal.returns-in-Some
 unfolding next_of
-returns-in-Whole c = rw (← c.in-Whole.ensures)
+returns-in-Some c = rw (← c.in-Some.ensures)
 
-pub returns-in-Cut : goal.returns-in-Cut
+pub returns-in-None : goal.returns-in-None
 unfolding next_of
-returns-in-Cut c = rw (← c.in-Cut.ensures)
+returns-in-None c = rw (← c.in-None.ensures)

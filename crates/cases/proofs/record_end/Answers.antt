@@ -9,14 +9,14 @@ pub returns-then-b-lt8 : goal.returns-then-b-lt8
 unfolding record_end_lem
 returns-then-b-lt8 c = rw (lt-ltb _ _ c.if-b-lt8.true)
 
-pub returns-in-Cut : goal.returns-in-Cut
+pub returns-in-None : goal.returns-in-None
 unfolding record_end_lem
-returns-in-Cut c =
+returns-in-None c =
     rw (le-ltb _ _ c.if-b-lt8.false, ← c.word_at-left.ensures.0)
-    (row_cut _ _ _ c.loop-left-test.true c.in-Cut.ensures ∙ c.loop-left.invariant)
+    (row_cut _ _ _ c.loop-left-test.true c.in-None.ensures ∙ c.loop-left.invariant)
 
 pub loop-left-preserved : goal.loop-left-preserved
-loop-left-preserved c = row_more _ _ _ _ c.loop-left-test.true c.in-Whole.ensures ∙ c.loop-left.invariant
+loop-left-preserved c = row_more _ _ _ _ c.loop-left-test.true c.in-Some.ensures ∙ c.loop-left.invariant
 
 pub returns : goal.returns
 unfolding record_end_lem
