@@ -20,7 +20,9 @@ use Rattle.standard.proofs.Bits.{pack-injective, num-pack, length-pack, pow_byte
 use Rattle.bitfield.specs.Body.{highest, all_bits, marked_at, bit_list_body, bit_vector_body, bytes_for_lem}
 use Rattle.bitfield.proofs.Tops.{highest-at, highest-says}
 use Rattle.std.specs.declared.option.Option.{Option}
+use Rattle.std.specs.declared.result.Result.{Result}
 use Rattle.std.specs.declared.result.Result.TheVariants.{Ok, Err}
+use Rattle.std.specs.Prelude.{⊤}
 use Rattle.std.specs.declared.option.Option.TheVariants.{Some, None}
 
 -- What each test says where bytes are accepted
@@ -81,7 +83,7 @@ pub list-one : (l : List ℕ) (n k m j : ℕ) (xs ys : List Bool) → ListBits l
 list-one l n k m j xs ys p q = marked-injective xs ys (p.written ∙ sym q.written)
 
 -- A bit vector's body: sound, complete, and one
-kept : (s t : Bool) (x : Refusal) → pick s (pick t (Ok tt) (Err ExcessBits)) (Err x) ≡ Ok tt → (s ≡ true) × (t ≡ true)
+kept : (s t : Bool) (x : Refusal) → ◌≡◌ {A = Result ⊤ Refusal} (pick s (pick t (Ok tt) (Err ExcessBits)) (Err x)) (Ok tt) → (s ≡ true) × (t ≡ true)
 kept true true x e = (refl, refl)
 kept true false x e = let w : ◌≡◌ {A = ℕ} 0 1 = cc in absurd (omega arith)
 kept false t x e = let w : ◌≡◌ {A = ℕ} 0 1 = cc in absurd (omega arith)

@@ -9,6 +9,7 @@ use super::fields::{changed, count_of, highest_of, merged, upward, wider, zeros}
 use super::raw::{Op, bit_at, none_from};
 use super::tests::{inside_told, limit_after, not_below_told, up_to_told};
 use super::{Field, HighestBit, Outcome};
+use standard::Refusal;
 
 pub(crate) fn refused(told: Result<(), Refusal>) -> Outcome
     ensures { result ≡ record { field = held []; told = told } }
@@ -58,7 +59,13 @@ pub(crate) fn subset_told<'a>(
     }
 }
 
-pub(crate) fn set_bit(told: Result<(), Refusal>, a: &[u8; 256], len: usize, i: usize, v: bool) -> Outcome
+pub(crate) fn set_bit(
+    told: Result<(), Refusal>,
+    a: &[u8; 256],
+    len: usize,
+    i: usize,
+    v: bool,
+) -> Outcome
     requires { told ≡ (Ok tt) → Kept a.now len }
     ensures { result ≡ outcome (and_then told (inside i len)) (held (set (bits_in a.now len) i v)) }
 {
@@ -69,7 +76,12 @@ pub(crate) fn set_bit(told: Result<(), Refusal>, a: &[u8; 256], len: usize, i: u
     }
 }
 
-pub(crate) fn get_bit(told: Result<(), Refusal>, a: &[u8; 256], len: usize, i: usize) -> Result<bool, Refusal>
+pub(crate) fn get_bit(
+    told: Result<(), Refusal>,
+    a: &[u8; 256],
+    len: usize,
+    i: usize,
+) -> Result<bool, Refusal>
     requires { told ≡ (Ok tt) → Kept a.now len }
     ensures { result ≡ bit_answer (and_then told (inside i len)) (get_or (bits_in a.now len) i false) }
 {
@@ -91,7 +103,11 @@ pub(crate) fn shift(told: Result<(), Refusal>, a: &[u8; 256], len: usize, n: usi
     }
 }
 
-pub(crate) fn zero_told(told: Result<(), Refusal>, a: &[u8; 256], len: usize) -> Result<bool, Refusal>
+pub(crate) fn zero_told(
+    told: Result<(), Refusal>,
+    a: &[u8; 256],
+    len: usize,
+) -> Result<bool, Refusal>
     requires { told ≡ (Ok tt) → Kept a.now len }
     ensures { result ≡ bit_answer told (none_set (bits_in a.now len)) }
 {
@@ -101,7 +117,11 @@ pub(crate) fn zero_told(told: Result<(), Refusal>, a: &[u8; 256], len: usize) ->
     }
 }
 
-pub(crate) fn count_told(told: Result<(), Refusal>, a: &[u8; 256], len: usize) -> Result<usize, Refusal>
+pub(crate) fn count_told(
+    told: Result<(), Refusal>,
+    a: &[u8; 256],
+    len: usize,
+) -> Result<usize, Refusal>
     requires { told ≡ (Ok tt) → Kept a.now len }
     ensures { result ≡ count_answer told (count (bits_in a.now len)) }
 {
@@ -137,7 +157,13 @@ pub(crate) fn fresh(told: Result<(), Refusal>, len: usize) -> Outcome
     }
 }
 
-pub(crate) fn resize_to(told: Result<(), Refusal>, a: &[u8; 256], len: usize, n: usize, m: usize) -> Outcome
+pub(crate) fn resize_to(
+    told: Result<(), Refusal>,
+    a: &[u8; 256],
+    len: usize,
+    n: usize,
+    m: usize,
+) -> Outcome
     requires { told ≡ (Ok tt) → Kept a.now len × (len ≤ n) × (n ≤ 2048) }
     ensures { result ≡ outcome (and_then told (and_then (limited m) (not_below m n))) (held (widened m (bits_in a.now len))) }
 {

@@ -8,9 +8,9 @@ ghost use Rattle.bitfield.specs.Bools.{no_bits, moved, widened, count};
 ghost use Rattle.bitfield.specs.Facts.{Kept};
 ghost use Rattle.bitfield.specs.Held.{bits_in, held, op_bits, op_length};
 
+use super::Field;
 use super::body::{bytes_for, top_bit, used_bytes};
 use super::raw::{Op, combine, copy_of, cut, ones_in, put_bit, put_raw, shifted};
-use super::Field;
 
 // How many bits come out.
 #[tactic(auto, unfolding(crate::specs::Held::op_length))]

@@ -17,6 +17,7 @@ use super::fields::{op_len, put_marked, read, zeros};
 use super::raw::{Op, combine};
 use super::tests::{is_list, limit_told, one_told, room_told, two_told, up_to_told};
 use super::{BitList, HighestBit, ListResult, Outcome};
+use standard::Refusal;
 
 fn first_told(bytes: &[u8; 256], len: usize, n: usize) -> Result<(), Refusal>
     requires { Raw bytes.now }

@@ -18,6 +18,7 @@ use super::fields::{op_len, read, zeros};
 use super::raw::{Op, combine, put_raw};
 use super::tests::{is_vector, limit_told, one_told, room_told, two_told};
 use super::{BitVector, HighestBit, Outcome, VectorResult};
+use standard::Refusal;
 
 fn first_told(bytes: &[u8; 256], len: usize, n: usize) -> Result<(), Refusal>
     requires { Raw bytes.now }

@@ -15,18 +15,18 @@ unfolding list_told
 put_marked-requires c =
     let a = c.args.self in
     let tests = rw c.first_told.ensures at c.room_told-told.ensures in
-    let fine = then_fine (list_told a) (room_for (a.len / 8 + 1) (length c.args.out.now)) (sym tests ∙ c.in-Fine.is) in
+    let fine = then_fine (list_told a) (room_for (a.len / 8 + 1) (length c.args.out.now)) (sym tests ∙ c.in-Ok.is) in
     let raw : Raw a.bytes = raw-known _ (search rules) (λ (i : ℕ). search rules) in
     ((list-kept _ a.len a.n raw fine.0).0, room_fine _ _ fine.1)
 
-pub returns-in-Refused : goal.returns-in-Refused
+pub returns-in-Err : goal.returns-in-Err
 unfolding list_told
-returns-in-Refused c =
+returns-in-Err c =
     let tests = rw c.first_told.ensures at c.room_told-told.ensures in
-    list_into_refused c.args.self c.args.out.now _ (sym tests ∙ c.in-Refused.is)
+    list_into_refused c.args.self c.args.out.now _ (sym tests ∙ c.in-Err.is)
 
-pub returns-in-Fine : goal.returns-in-Fine
+pub returns-in-Ok : goal.returns-in-Ok
 unfolding list_told
-returns-in-Fine c =
+returns-in-Ok c =
     let tests = rw c.first_told.ensures at c.room_told-told.ensures in
-    list_into_fine c.args.self c.args.out.now _ (sym tests ∙ c.in-Fine.is) c.put_marked.ensures
+    list_into_fine c.args.self c.args.out.now _ (sym tests ∙ c.in-Ok.is) c.put_marked.ensures

@@ -17,24 +17,24 @@ put_raw-requires c =
     let a = c.args.self in
     let need = c.raw_len-need in
     let tests = rw c.first_told.ensures at c.room_told-told.ensures in
-    let fine = then_fine (vector_told_lem a) (room_for need.result (length c.args.out.now)) (sym tests ∙ c.in-Fine.is) in
+    let fine = then_fine (vector_told_lem a) (room_for need.result (length c.args.out.now)) (sym tests ∙ c.in-Ok.is) in
     let raw : Raw a.bytes = raw-known _ (search rules) (λ (i : ℕ). search rules) in
     let k : Kept a.bytes a.len = vector-kept _ a.len a.n raw fine.0 in
     (omega (arith, k.few, need.ensures), room_fine _ _ fine.1, k.raw)
 
-pub returns-in-Refused : goal.returns-in-Refused
+pub returns-in-Err : goal.returns-in-Err
 unfolding vector_told_lem
-returns-in-Refused c =
+returns-in-Err c =
     let need = c.raw_len-need in
     let tests = rw c.first_told.ensures at c.room_told-told.ensures in
-    vector_into_refused c.args.self c.args.out.now need.result _ need.ensures (sym tests ∙ c.in-Refused.is)
+    vector_into_refused c.args.self c.args.out.now need.result _ need.ensures (sym tests ∙ c.in-Err.is)
 
-pub returns-in-Fine : goal.returns-in-Fine
+pub returns-in-Ok : goal.returns-in-Ok
 unfolding vector_told_lem
-returns-in-Fine c =
+returns-in-Ok c =
     let a = c.args.self in
     let need = c.raw_len-need in
-    let tests = sym (rw c.first_told.ensures at c.room_told-told.ensures) ∙ c.in-Fine.is in
+    let tests = sym (rw c.first_told.ensures at c.room_told-told.ensures) ∙ c.in-Ok.is in
     let fine = then_fine (vector_told_lem a) (room_for need.result (length c.args.out.now)) tests in
     let raw : Raw a.bytes = raw-known _ (search rules) (λ (i : ℕ). search rules) in
     vector_into_fine a c.args.out.now _ need.result (vector-kept _ a.len a.n raw fine.0) need.ensures tests c.put_raw.ensures

@@ -3,6 +3,6 @@ use Rattle.std.proofs.Common.{◌∙◌}
 use Rattle.bitfield.specs.Held.{op_bits}
 use Rattle.bitfield.proofs.calls.complement.Goals as goal
 
-pub returns-in-Fine : goal.returns-in-Fine
+pub returns-in-Ok : goal.returns-in-Ok
 unfolding op_bits
-returns-in-Fine c = c.made.ensures ∙ rw (c.merged.ensures, c.in-Fine.is)
+returns-in-Ok c = c.made.ensures ∙ rw (c.merged.ensures, c.in-Ok.is)

@@ -6,7 +6,7 @@ use Rattle.bitfield.proofs.calls.resize_to.Goals as goal
 
 pub wider-requires : goal.wider-requires
 wider-requires c =
-    let fine = then_fine c.args.told (limited c.args.m) (sym c.in-Fine.ensures) in
+    let fine = then_fine c.args.told (limited c.args.m) (sym c.in-Ok.ensures) in
     let k = c.requires fine.0 in
-    let h = not_below_fine c.args.m c.args.n (sym c.in-Fine-next.ensures) in
+    let h = not_below_fine c.args.m c.args.n (sym c.in-Ok-next.ensures) in
     (k.0, omega (arith, k.1), limited_fine _ fine.1)

@@ -6,5 +6,5 @@ use Rattle.bitfield.proofs.calls.set_bit.Goals as goal
 
 pub changed-requires : goal.changed-requires
 changed-requires c =
-    let fine = then_fine c.args.told (inside c.args.i c.args.len) (sym c.in-Fine.ensures) in
+    let fine = then_fine c.args.told (inside c.args.i c.args.len) (sym c.in-Ok.ensures) in
     (c.requires fine.0, inside_fine _ _ fine.1)

@@ -6,5 +6,5 @@ use Rattle.bitfield.proofs.calls.shift.Goals as goal
 
 pub upward-requires : goal.upward-requires
 upward-requires c =
-    let fine = then_fine c.args.told (up_to c.args.n c.args.len) (sym c.in-Fine.ensures) in
+    let fine = then_fine c.args.told (up_to c.args.n c.args.len) (sym c.in-Ok.ensures) in
     (c.requires fine.0, up_to_fine _ _ fine.1)

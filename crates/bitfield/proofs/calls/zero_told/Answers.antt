@@ -4,5 +4,5 @@ use Rattle.bitfield.proofs.Ties.{none-held}
 use Rattle.bitfield.proofs.calls.zero_told.Goals as goal
 use Rattle.std.specs.declared.result.Result.TheVariants.{Ok}
 
-pub returns-in-Fine : goal.returns-in-Fine
-returns-in-Fine c = rw c.in-Fine.is (ap Ok (c.none_from.ensures ∙ none-held _ c.args.len (c.requires c.in-Fine.is)))
+pub returns-in-Ok : goal.returns-in-Ok
+returns-in-Ok c = rw c.in-Ok.is (ap Ok (c.none_from.ensures ∙ none-held _ c.args.len (c.requires c.in-Ok.is)))

@@ -7,10 +7,10 @@ use Rattle.bitfield.proofs.vector.merged_vectors.Goals as goal
 pub combine-bytes-requires : goal.combine-bytes-requires
 combine-bytes-requires c = (omega arith, raw-known _ (search rules) (λ (i : ℕ). search rules), raw-known _ (search rules) (λ (i : ℕ). search rules))
 
-pub returns-in-Refused : goal.returns-in-Refused
+pub returns-in-Err : goal.returns-in-Err
 unfolding vector_merge
-returns-in-Refused c = rw c.in-Refused.is
+returns-in-Err c = rw c.in-Err.is
 
-pub returns-in-Fine : goal.returns-in-Fine
+pub returns-in-Ok : goal.returns-in-Ok
 unfolding vector_merge
-returns-in-Fine c = rw (c.in-Fine.is, c.combine-bytes.ensures, c.op_len-len.ensures)
+returns-in-Ok c = rw (c.in-Ok.is, c.combine-bytes.ensures, c.op_len-len.ensures)
