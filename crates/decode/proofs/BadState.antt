@@ -1,5 +1,5 @@
 -- 23 is given just to a state that no run reaches: no other refusal of the builder has that number. Assumes nothing.
-use mathlib.Core.Path.{◌≡◌, refl, ap}
+use mathlib.Core.Path.{◌≡◌, refl}
 use mathlib.Core.Logic.{◌↔◌}
 use mathlib.Core.List.{List}
 use mathlib.Core.Bool.{Bool, true, false}
@@ -16,12 +16,10 @@ use Rattle.standard.specs.declared.Refusal.{Refusal}
 use Rattle.standard.specs.declared.Refusal.TheVariants.{InvalidByteLength, InvalidLengthPrefix, OffsetIntoFixedPortion, OffsetSkipsVariableBytes, OffsetsAreDecreasing, OffsetOutOfBounds, OverLimit, TooLarge, BadState, BuilderFull}
 use Rattle.decode.specs.Offsets.{sanitize_offset_lem}
 use Rattle.decode.specs.Builder.{behind_offset, step, build_at, build}
-use Rattle.decode.specs.Held.{Run, recalled, old, taken, allowed, register_item}
-use Rattle.decode.specs.Reader.{not_built_lem, built_as, closable, build_items}
+use Rattle.decode.specs.Held.{Run, recalled, Registered, old, taken, allowed, register_item}
+use Rattle.decode.specs.Reader.{Built, built_as, closable, build_items}
 use Rattle.decode.specs.declared.builder.Progress.{Progress}
 use Rattle.decode.specs.declared.decoder.SszDecoderBuilder.{SszDecoderBuilder}
-use Rattle.decode.specs.declared.decoder.Registered.{Registered}
-use Rattle.decode.specs.declared.decoder.Built.{Built}
 use Rattle.decode.proofs.Reached.{Long, reached_iff}
 use Rattle.std.specs.declared.result.Result.{Result}
 use Rattle.std.specs.declared.option.Option.{Option}
@@ -30,21 +28,17 @@ use Rattle.std.specs.declared.option.Option.TheVariants.{Some, None}
 use Rattle.std.specs.Prelude.{⊤}
 
 -- Any answer but a refusal with 23
-abbrev Sound : Result Progress Refusal → Type 0
+abbrev Sound : {A : Type 0} → Result A Refusal → Type 0
 Sound (Ok y) = Unit {0}
 Sound (Err r) = (numbers_of_lem r).number ≡ 23 → ⊥
 
-abbrev Fair : Result ⊤ Refusal → Type 0
-Fair (Ok tt) = Unit {0}
-Fair (Err r) = (numbers_of_lem r).number ≡ 23 → ⊥
-
-sound-pick : (c : Bool) (u v : Result Progress Refusal) → Sound u → Sound v → Sound (pick c u v)
+sound-pick : {A : Type 0} (c : Bool) (u v : Result A Refusal) → Sound u → Sound v → Sound (pick c u v)
 sound-pick true u v h k = h
 sound-pick false u v h k = k
 
-fair_pick : (c : Bool) (u v : Result ⊤ Refusal) → Fair u → Fair v → Fair (pick c u v)
-fair_pick true u v h k = h
-fair_pick false u v h k = k
+abbrev Fair : Registered → Type 0
+Fair (Ok y) = Unit {0}
+Fair (Err e) = (numbers_of_lem e.refusal).number ≡ 23 → ⊥
 
 -- The rules of reading and of building.
 tests-sound : (c d : Bool) (o : ℕ) (p : Progress)
@@ -67,34 +61,37 @@ step-sound Variable b p =
     sound-pick (ltb (length b - p.pos) 4) (Err (InvalidLengthPrefix (length b - p.pos) 4)) _ (omega arith)
     (offset_sound p.previous (four b p.pos) (length b) p)
 
-build_fair : (m : Option ℕ) (p len : ℕ) → Fair (build_at m p len)
-build_fair (Some o) p len =
-    fair_pick (ltb o p) (Err (OffsetIntoFixedPortion o)) _ (omega arith)
-    (fair_pick (ltb p o) (Err (OffsetSkipsVariableBytes o)) (Ok tt) (omega arith) tt)
-build_fair None p len = fair_pick (eqb p len) (Ok tt) (Err (InvalidByteLength len p)) tt (omega arith)
+build-sound : (m : Option ℕ) (p len : ℕ) → Sound (build_at m p len)
+build-sound (Some o) p len =
+    sound-pick (ltb o p) (Err (OffsetIntoFixedPortion o)) _ (omega arith)
+    (sound-pick (ltb p o) (Err (OffsetSkipsVariableBytes o)) (Ok tt) (omega arith) tt)
+build-sound None p len = sound-pick (eqb p len) (Ok tt) (Err (InvalidByteLength len p)) tt (omega arith)
 
 -- The builder's own tests behind 23.
 module _ (h : Head) (b : List ℕ) (x : SszDecoderBuilder) where
-  taken_fair : (c d : Bool) (s : Result Progress Refusal) → Sound s → Fair (pick c (old x TooLarge) (pick d (taken s h b x) (old x (BuilderFull 64)))).told
+  taken_fair : (c d : Bool) (s : Result Progress Refusal) → Sound s → Fair (pick c (old x TooLarge) (pick d (taken s h b x) (old x (BuilderFull 64))))
   taken_fair true d s k = omega arith
   taken_fair false false s k = omega arith
   taken_fair false true (Ok y) k = tt
   taken_fair false true (Err r) k = k
 
-  allowed_fair : (p : Progress) → Fair (allowed p h b x).told
+  allowed_fair : (p : Progress) → Fair (allowed p h b x)
   allowed_fair p = taken_fair (ltb 4294967295 (length b)) (ltb x.count 64) (step h b p) (step-sound h b p)
 
-built_fair : (c : Bool) (t : Result ⊤ Refusal) (x : SszDecoderBuilder) (len : ℕ) → Fair t → Fair (pick c (not_built_lem TooLarge) (built_as t x len)).told
-built_fair true t x len k = omega arith
-built_fair false (Ok tt) x len k = tt
-built_fair false (Err r) x len k = k
+built-sound : (c : Bool) (t : Result ⊤ Refusal) (x : SszDecoderBuilder) (len : ℕ) → Sound t → Sound (pick c (Err TooLarge) (built_as t x len))
+built-sound true t x len k = omega arith
+built-sound false (Ok tt) x len k = tt
+built-sound false (Err r) x len k = k
 
-closable_fair : (p : Progress) (b : List ℕ) (x : SszDecoderBuilder) → Fair (closable p b x).told
+closable-sound : (p : Progress) (b : List ℕ) (x : SszDecoderBuilder) → Sound (closable p b x)
 unfolding build
-closable_fair p b x = built_fair (ltb 4294967295 (length b)) (build (length b) p) x (length b) (build_fair p.first p.pos (length b))
+closable-sound p b x = built-sound (ltb 4294967295 (length b)) (build (length b) p) x (length b) (build-sound p.first p.pos (length b))
 
-not_fair : (t : Result ⊤ Refusal) → Fair t → t ≡ Err BadState → ⊥
-not_fair t k e = (rw e at k) refl
+not-fair : (t : Registered) (x : SszDecoderBuilder) → Fair t → t ≡ old x BadState → ⊥
+not-fair t x k e = (rw e at k) refl
+
+not-sound : (t : Built) → Sound t → t ≡ Err BadState → ⊥
+not-sound t k e = (rw e at k) refl
 
 -- No run over the bytes reaches the state.
 abbrev pub NoRun : List ℕ → SszDecoderBuilder → Type 0
@@ -113,15 +110,15 @@ module _ (b : List ℕ) (x : SszDecoderBuilder) (l : Long x) where
   register-bad_iff h = (
     λ e p r.
         let k = rw ((reached_iff b p x l).1 r) at e in
-        not_fair (allowed p h b x).told (allowed_fair h b x p) (ap (λ (y : Registered). y.told) k),
+        not-fair (allowed p h b x) x (allowed_fair h b x p) k,
     λ none_runs. rw (unreached none_runs).1,
   )
 
-  pub build-bad_iff : (build_items b x ≡ not_built_lem BadState) ↔ NoRun b x
+  pub build-bad_iff : (build_items b x ≡ Err BadState) ↔ NoRun b x
   unfolding build_items
   build-bad_iff = (
     λ e p r.
         let k = rw ((reached_iff b p x l).1 r) at e in
-        not_fair (closable p b x).told (closable_fair p b x) (ap (λ (y : Built). y.told) k),
+        not-sound (closable p b x) (closable-sound p b x) k,
     λ none_runs. rw (unreached none_runs).1,
   )

@@ -1,6 +1,6 @@
 -- The runs are just what the builder's own calls reach: so a state is refused with 23 just if no calls over the bytes give it.
 -- Assumes nothing.
-use mathlib.Core.Path.{◌≡◌, refl, sym, ap, ◌∙◌}
+use mathlib.Core.Path.{◌≡◌, refl, ap, ◌∙◌}
 use mathlib.Core.Logic.{◌↔◌}
 use mathlib.Core.List.{List}
 use mathlib.Core.Bool.{Bool, true, false}
@@ -18,8 +18,7 @@ use Rattle.decode.specs.Held.{put, Run, none, more, old, taken, register_item}
 use Rattle.decode.specs.Heads.{Calls, start, call}
 use Rattle.decode.specs.declared.builder.Progress.{Progress}
 use Rattle.decode.specs.declared.decoder.SszDecoderBuilder.{SszDecoderBuilder}
-use Rattle.decode.specs.declared.decoder.Registered.{Registered}
-use Rattle.decode.proofs.Register.{refused_fine}
+use Rattle.decode.proofs.Register.{refused_next}
 use Rattle.decode.proofs.Reached.{Long, run_recalled}
 use Rattle.decode.proofs.BadState.{register-bad_iff}
 use Rattle.decode.proofs.Heads.{item-registered}
@@ -34,18 +33,18 @@ record Taken (c d : Bool) (s : Result Progress Refusal) (h : Head) (b : List ℕ
   stepped : s ≡ Ok progress
   state_is : y ≡ put h b x
 
-old_fine : {A : Type 0} (x y : SszDecoderBuilder) (r : Refusal) → old x r ≡ record { state = y; told = Ok tt } → A
-old_fine x y r e = refused_fine r (ap (λ (z : Registered). z.told) e)
+old_fine : {A : Type 0} (x y : SszDecoderBuilder) (r : Refusal) → old x r ≡ Ok y → A
+old_fine x y r e = refused_next _ y e
 
 taken-says : (c d : Bool) (s : Result Progress Refusal) (h : Head) (b : List ℕ) (x y : SszDecoderBuilder)
-    → pick c (old x TooLarge) (pick d (taken s h b x) (old x (BuilderFull 64))) ≡ record { state = y; told = Ok tt } → Taken c d s h b x y
+    → pick c (old x TooLarge) (pick d (taken s h b x) (old x (BuilderFull 64))) ≡ Ok y → Taken c d s h b x y
 taken-says true d s h b x y e = old_fine x y TooLarge e
 taken-says false false s h b x y e = old_fine x y (BuilderFull 64) e
 taken-says false true (Ok q) h b x y e =
-    record { short = refl; few = refl; progress = q; stepped = refl; state_is = ap (λ (z : Registered). z.state) (sym e) }
+    record { short = refl; few = refl; progress = q; stepped = refl; state_is = cc e }
 taken-says false true (Err r) h b x y e = old_fine x y r e
 
-called : (h : Head) (b : List ℕ) (p : Progress) (x y : SszDecoderBuilder) → Run b p x → register_item h b x ≡ record { state = y; told = Ok tt }
+called : (h : Head) (b : List ℕ) (p : Progress) (x y : SszDecoderBuilder) → Run b p x → register_item h b x ≡ Ok y
     → Taken (ltb 4294967295 (length b)) (ltb x.count 64) (step h b p) h b x y
 unfolding register_item
 called h b p x y r e = taken-says (ltb 4294967295 (length b)) (ltb x.count 64) (step h b p) h b x y (rw (run_recalled r) at e)

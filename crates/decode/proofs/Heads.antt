@@ -8,7 +8,7 @@ use lib.ListN.{length}
 use Rattle.standard.specs.declared.Head.{Head}
 use Rattle.decode.specs.Builder.{fresh, step, follow, register}
 use Rattle.decode.specs.Held.{new, put, Run, none, more, taken, register_item}
-use Rattle.decode.specs.Heads.{if_fine, register_all_lem, told_by, put_all, state_of}
+use Rattle.decode.specs.Heads.{if_fine, register_all_lem, told_lem, told_by, put_all, state_of}
 use Rattle.decode.specs.declared.builder.Progress.{Progress}
 use Rattle.decode.specs.declared.decoder.SszDecoderBuilder.{SszDecoderBuilder}
 use Rattle.decode.proofs.Register.{follow-next}
@@ -25,14 +25,14 @@ item-registered h b p x r small few = rw (run_recalled r, le-ltb 4294967295 (len
 
 -- All of them: what is told,
 told-next : (s : Result Progress Refusal) (h : Head) (hs : List Head) (b : List ℕ) (x : SszDecoderBuilder)
-    → ((y : Progress) → s ≡ Ok y → (register_all_lem hs b (put h b x)).told ≡ told_by (register hs b y))
-    → (if_fine (taken s h b x).told (register_all_lem hs b (taken s h b x).state) (taken s h b x)).told ≡ told_by (follow s (register hs b))
+    → ((y : Progress) → s ≡ Ok y → told_lem (register_all_lem hs b (put h b x)) ≡ told_by (register hs b y))
+    → told_lem (if_fine (taken s h b x) (register_all_lem hs b)) ≡ told_by (follow s (register hs b))
 told-next (Ok y) h hs b x k = k y refl
 told-next (Err r) h hs b x k = refl
 
 module _ (b : List ℕ) (small : length b < 2 ^ 32) where
   pub registers_told : (hs : List Head) (p : Progress) (x : SszDecoderBuilder) → Run b p x → x.count + length hs ≤ 64
-      → (register_all_lem hs b x).told ≡ told_by (register hs b p)
+      → told_lem (register_all_lem hs b x) ≡ told_by (register hs b p)
   unfolding register_all_lem register
   registers_told [] p x r few = refl
   registers_told (h ∷ hs) p x r few =
@@ -43,7 +43,7 @@ module _ (b : List ℕ) (small : length b < 2 ^ 32) where
 
   -- and the state that they reach, where all are accepted.
   pub registers_state : (hs : List Head) (p q : Progress) (x : SszDecoderBuilder) → Run b p x → x.count + length hs ≤ 64
-      → register hs b p ≡ Ok q → (register_all_lem hs b x ≡ record { state = put_all hs b x; told = Ok tt }) × Run b q (put_all hs b x)
+      → register hs b p ≡ Ok q → (register_all_lem hs b x ≡ Ok (put_all hs b x)) × Run b q (put_all hs b x)
   unfolding register_all_lem register put_all
   registers_state [] p q x r few e = let s : p ≡ q = cc in (refl, rw s at r)
   registers_state (h ∷ hs) p q x r few e =

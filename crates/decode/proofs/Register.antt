@@ -27,19 +27,12 @@ use Rattle.std.specs.declared.option.Option.TheVariants.{Some, None}
 use Rattle.std.specs.Prelude.{⊤}
 
 -- A refusal is no acceptance.
-pub refused_next : {A : Type 0} (r : Refusal) (y : Progress) → Err r ≡ Ok y → A
+pub refused_next : {A B E : Type 0} (r : E) (y : B) → ◌≡◌ {A = Result B E} (Err r) (Ok y) → A
 refused_next r y e = let z : ◌≡◌ {A = ℕ} 0 1 = cc in absurd (omega arith)
 
-pub refused_fine : {A : Type 0} (r : Refusal) → Err r ≡ Ok tt → A
-refused_fine r e = let z : ◌≡◌ {A = ℕ} 0 1 = cc in absurd (omega arith)
-
-pub past : (c : Bool) (r : Refusal) (u : Result Progress Refusal) (y : Progress) → pick c (Err r) u ≡ Ok y → (c ≡ false) × (u ≡ Ok y)
+pub past : {B E : Type 0} (c : Bool) (r : E) (u : Result B E) (y : B) → pick c (Err r) u ≡ Ok y → (c ≡ false) × (u ≡ Ok y)
 past true r u y e = refused_next r y e
 past false r u y e = (refl, e)
-
-pub past_fine : (c : Bool) (r : Refusal) (u : Result ⊤ Refusal) → pick c (Err r) u ≡ Ok tt → (c ≡ false) × (u ≡ Ok tt)
-past_fine true r u e = refused_fine r e
-past_fine false r u e = (refl, e)
 
 pub follow-next : (s : Result Progress Refusal) (k : Progress → (Result Progress Refusal)) (y : Progress) → follow s k ≡ Ok y → (z : Progress) × (s ≡ Ok z) × (k z ≡ Ok y)
 follow-next (Ok z) k y e = (z, refl, e)
@@ -47,7 +40,7 @@ follow-next (Err r) k y e = refused_next r y e
 
 pub ended_fine : (s : Result Progress Refusal) (k : Progress → (Result ⊤ Refusal)) → ended s k ≡ Ok tt → (z : Progress) × (s ≡ Ok z) × (k z ≡ Ok tt)
 ended_fine (Ok z) k e = (z, refl, e)
-ended_fine (Err r) k e = refused_fine r e
+ended_fine (Err r) k e = refused_next r tt e
 
 -- For a progress within bytes below 2^32, one registration is a step.
 pub register-step : (h : Head) (b : List ℕ) (x : Progress) → x.pos ≤ length b → length b < 2 ^ 32 → register_head_lem h b x ≡ step h b x
@@ -164,16 +157,16 @@ register-says (Variable ∷ hs) b x y e =
 build-says : (m : Option ℕ) (p n len : ℕ) → build_at m p len ≡ Ok tt → Says None m n len → n ≡ p
 unfolding Says
 build-says (Some o) p n len e s =
-    let q = past_fine (ltb o p) _ _ e in
-    let r = past_fine (ltb p o) _ _ q.1 in
+    let q = past (ltb o p) _ _ tt e in
+    let r = past (ltb p o) _ _ tt q.1 in
     let i : p ≤ o = ltb-false _ _ q.0 in
     let j : o ≤ p = ltb-false _ _ r.0 in
     omega arith
 build-says None p n len e s = go (eqb p len) refl e
   where
-    go : (c : Bool) → eqb p len ≡ c → pick c (Ok tt) (Err (InvalidByteLength len p)) ≡ Ok tt → n ≡ p
+    go : (c : Bool) → eqb p len ≡ c → ◌≡◌ {A = Result ⊤ Refusal} (pick c (Ok tt) (Err (InvalidByteLength len p))) (Ok tt) → n ≡ p
     go true q f = s ∙ sym (eqb-true _ _ q)
-    go false q f = refused_fine (InvalidByteLength len p) f
+    go false q f = refused_next (InvalidByteLength len p) tt f
 
 build-passes : (m : Option ℕ) (p n len : ℕ) → Says None m n len → n ≡ p → build_at m p len ≡ Ok tt
 unfolding Says

@@ -164,8 +164,8 @@ module _ (hs : List Head) (b : List ℕ) (d : SszDecoder) (g : Spans hs b d) (r 
 -- The whole, where the heads are accepted: registered one by one, built, and read item by item, the bytes come apart as the split has
 -- them, and behind the last item there is none.
 pub record Reads (hs : List Head) (b : List ℕ) : Type 0 where
-  pub registered : register_all_lem hs b new ≡ record { state = state_of hs b; told = Ok tt }
-  pub built : build_items b (state_of hs b) ≡ record { told = Ok tt; decoder = ranges (state_of hs b) (length b) }
+  pub registered : register_all_lem hs b new ≡ Ok (state_of hs b)
+  pub built : build_items b (state_of hs b) ≡ Ok (ranges (state_of hs b) (length b))
   pub items : (i : ℕ) → i < length hs
       → (item_told_lem (ranges (state_of hs b) (length b)) i (length b) ≡ Ok tt) ×
       (item_of (ranges (state_of hs b) (length b)) i b ≡ get_or (pieces (split hs b 0)) i [])

@@ -3,9 +3,9 @@ use Rattle.std.specs.Prelude.{◌≡◌, List, [], ◌∷◌, ℕ, ◌+◌}
 use Rattle.standard.specs.Types.{width}
 use Rattle.standard.specs.Parts.{Part, piece, span_of}
 use Rattle.standard.specs.declared.Head.{Head}
-use Rattle.decode.specs.Held.{new, end_of, put, register_item}
+use Rattle.decode.specs.Held.{new, end_of, put, Registered, register_item}
+use Rattle.decode.specs.declared.builder.Progress.{Progress}
 use Rattle.decode.specs.declared.decoder.SszDecoderBuilder.{SszDecoderBuilder}
-use Rattle.decode.specs.declared.decoder.Registered.{Registered}
 use Rattle.std.specs.declared.result.Result.{Result}
 use Rattle.std.specs.declared.result.Result.TheVariants.{Ok, Err}
 use Rattle.std.specs.Prelude.{⊤}
@@ -14,19 +14,22 @@ use Rattle.standard.specs.declared.Refusal.{Refusal}
 -- The states that the builder's own calls over b give, from a new one on, while each is accepted
 pub data Calls (b : List ℕ) : SszDecoderBuilder → Type 0 where
   start : Calls b new
-  call : (h : Head) {x y : SszDecoderBuilder} → Calls b x → register_item h b x ≡ record { state = y; told = Ok tt } → Calls b y
+  call : (h : Head) {x y : SszDecoderBuilder} → Calls b x → register_item h b x ≡ Ok y → Calls b y
 
 -- Goes on with the next state, unless there is a refusal.
-abbrev pub if_fine : Result ⊤ Refusal → Registered → Registered → Registered
-if_fine (Ok tt) next here = next
-if_fine (Err r) next here = here
+abbrev pub if_fine : Registered → (SszDecoderBuilder → Registered) → Registered
+if_fine (Ok y) k = k y
+if_fine (Err e) k = Err e
 
 -- The heads registered one by one, by the builder's own calls
 unfoldable pub register_all_lem : List Head → List ℕ → SszDecoderBuilder → Registered
-register_all_lem [] b x = record { state = x; told = Ok tt }
-register_all_lem (h ∷ hs) b x =
-    let r = register_item h b x in
-    if_fine r.told (register_all_lem hs b r.state) r
+register_all_lem [] b x = Ok x
+register_all_lem (h ∷ hs) b x = if_fine (register_item h b x) (register_all_lem hs b)
+
+-- What a registration tells, without its state
+abbrev pub told_lem : Registered → Result ⊤ Refusal
+told_lem (Ok y) = Ok tt
+told_lem (Err e) = Err e.refusal
 
 -- What the fold over the heads tells
 abbrev pub told_by : Result Progress Refusal → Result ⊤ Refusal

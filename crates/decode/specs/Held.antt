@@ -9,7 +9,7 @@ use Rattle.standard.specs.declared.Refusal.{Refusal}
 use Rattle.standard.specs.declared.Refusal.TheVariants.{TooLarge, BadState, BuilderFull}
 use Rattle.decode.specs.declared.builder.Progress.{Progress}
 use Rattle.decode.specs.declared.decoder.SszDecoderBuilder.{SszDecoderBuilder}
-use Rattle.decode.specs.declared.decoder.Registered.{Registered}
+use Rattle.standard.specs.declared.Refused.{Refused}
 use Rattle.decode.specs.Builder.{fresh, step, register_head_lem, follow}
 use Rattle.std.specs.declared.result.Result.{Result}
 use Rattle.std.specs.declared.result.Result.TheVariants.{Ok, Err}
@@ -86,12 +86,16 @@ pub record Come (p : Progress) (x : SszDecoderBuilder) (b : List ℕ) : Type 0 w
   pub same : p.pos ≡ x.pos
   pub within : p.pos ≤ length b
 
+-- What a registration gives: the next state, or the old one beside what is wrong
+abbrev pub Registered : Type 0
+Registered = Result SszDecoderBuilder (Refused SszDecoderBuilder)
+
 -- One registration: 23 for a state that no run reaches, 21, 26, then the rules of reading. "refusals return the old state"
 abbrev pub old : SszDecoderBuilder → Refusal → Registered
-old x r = record { state = x; told = Err r }
+old x r = Err (record { state = x; refusal = r })
 
 abbrev pub taken : Result Progress Refusal → Head → List ℕ → SszDecoderBuilder → Registered
-taken (Ok y) h b x = record { state = put h b x; told = Ok tt }
+taken (Ok y) h b x = Ok (put h b x)
 taken (Err r) h b x = old x r
 
 abbrev pub allowed : Progress → Head → List ℕ → SszDecoderBuilder → Registered

@@ -1,12 +1,11 @@
 -- The ranges that a builder gives, and the items that a reader hands out: document 01, module 4. Assumes nothing: these are definitions.
-use Rattle.std.specs.Prelude.{List, [], ◌∷◌, ℕ, zero, suc, ◌-◌, length, replicate, get_or, take, drop, eqb, ltb}
+use Rattle.std.specs.Prelude.{List, [], ◌∷◌, ℕ, zero, suc, ◌-◌, length, get_or, take, drop, eqb, ltb}
 use Rattle.standard.specs.Choice.{pick}
 use Rattle.standard.specs.declared.Refusal.{Refusal}
 use Rattle.standard.specs.declared.Refusal.TheVariants.{TooLarge, BadState}
 use Rattle.decode.specs.declared.builder.Progress.{Progress}
 use Rattle.decode.specs.declared.decoder.SszDecoderBuilder.{SszDecoderBuilder}
 use Rattle.decode.specs.declared.decoder.SszDecoder.{SszDecoder}
-use Rattle.decode.specs.declared.decoder.Built.{Built}
 use Rattle.decode.specs.Builder.{build}
 use Rattle.decode.specs.Held.{open_end, recalled}
 use Rattle.std.specs.declared.result.Result.{Result}
@@ -33,24 +32,24 @@ close_ends_lem [] es (suc n) len = es
 close_ends_lem (s ∷ ss) [] (suc n) len = []
 close_ends_lem (s ∷ ss) (e ∷ es) (suc n) len = closed_end_lem e (first_start ss es n len) ∷ close_ends_lem ss es n len
 
--- A refusal to build gives no ranges.
-abbrev pub not_built_lem : Refusal → Built
-not_built_lem r = record { told = Err r; decoder = record { count = 0; starts = replicate 64 0; ends = replicate 64 0 } }
+-- What building gives: the ranges, or what is wrong and no ranges
+abbrev pub Built : Type 0
+Built = Result SszDecoder Refusal
 
 abbrev pub ranges : SszDecoderBuilder → ℕ → SszDecoder
 ranges x len = record { count = x.count; starts = x.starts; ends = close_ends_lem x.starts x.ends x.count len }
 
 abbrev pub built_as : Result ⊤ Refusal → SszDecoderBuilder → ℕ → Built
-built_as (Ok tt) x len = record { told = Ok tt; decoder = ranges x len }
-built_as (Err r) x len = not_built_lem r
+built_as (Ok tt) x len = Ok (ranges x len)
+built_as (Err r) x len = Err r
 
 -- Building: 23 for a state that no run reaches, 21, then the rules of building
 abbrev pub closable : Progress → List ℕ → SszDecoderBuilder → Built
-closable p b x = pick (ltb 4294967295 (length b)) (not_built_lem TooLarge) (built_as (build (length b) p) x (length b))
+closable p b x = pick (ltb 4294967295 (length b)) (Err TooLarge) (built_as (build (length b) p) x (length b))
 
 abbrev pub build_known : Result Progress Refusal → List ℕ → SszDecoderBuilder → Built
 build_known (Ok p) b x = closable p b x
-build_known (Err r) b x = not_built_lem BadState
+build_known (Err r) b x = Err BadState
 
 unfoldable pub build_items : List ℕ → SszDecoderBuilder → Built
 build_items b x = build_known (recalled x b) b x

@@ -5,6 +5,7 @@ use Rattle.standard.specs.declared.Refusal.TheVariants.{OutOfBoundsByte, UnionSe
 use Rattle.std.specs.declared.result.Result.{Result}
 use Rattle.std.specs.declared.result.Result.TheVariants.{Ok, Err}
 use Rattle.standard.specs.declared.Refusal.{Refusal}
+use Rattle.decode.specs.declared.union_selector.UnionSelector.{UnionSelector}
 
 -- "Legal selectors are 0 to 127": else 8 with the selector
 abbrev pub selector_of : ℕ → Result UnionSelector Refusal

@@ -3,12 +3,12 @@
 ghost use Rattle.std.specs.Prelude.{◌≡◌, ◌+◌, ◌≤◌, ◌<◌, drop};
 ghost use Rattle.standard.specs.Types.{width};
 ghost use Rattle.decode.specs.Builder.{fresh};
-ghost use Rattle.decode.specs.Held.{new, start_of, end_of, put, zeros, recall, walk, arrived, recalled, Come, old, allowed, register_item, head_for};
-ghost use Rattle.decode.specs.Reader.{not_built_lem, closed_end_lem, start_from_lem, close_ends_lem, closable, build_items, item_told_lem, item_of};
+ghost use Rattle.decode.specs.Held.{new, start_of, end_of, put, zeros, recall, walk, arrived, recalled, Come, allowed, register_item, head_for};
+ghost use Rattle.decode.specs.Reader.{closed_end_lem, start_from_lem, close_ends_lem, closable, build_items, item_told_lem, item_of};
 
 use crate::builder::{Progress, finalize, register_head};
 use standard::words::four_at;
-use standard::{Head, Refusal};
+use standard::{Head, Refusal, Refused};
 
 pub const MAX_ITEMS: usize = 64;
 // Stands for the end of a variable item until the container is built. No fixed item can end there.
@@ -23,26 +23,12 @@ pub struct SszDecoderBuilder {
     pub ends: [usize; 64],
 }
 
-// The next state, or the old one beside a refusal: an enum holds no array.
-#[derive(Clone, Copy)]
-pub struct Registered {
-    pub state: SszDecoderBuilder,
-    pub told: Result<(), Refusal>,
-}
-
 // Where each item lies in the bytes.
 #[derive(Clone, Copy)]
 pub struct SszDecoder {
     pub count: usize,
     pub starts: [usize; 64],
     pub ends: [usize; 64],
-}
-
-// The ranges of all items; none beside a refusal.
-#[derive(Clone, Copy)]
-pub struct Built {
-    pub told: Result<(), Refusal>,
-    pub decoder: SszDecoder,
 }
 
 // Whether all entries from a place on are zero.
@@ -81,7 +67,12 @@ fn recall_item(x: Progress, start: usize, end: usize, bytes: &[u8]) -> Result<Pr
 }
 
 // Registers anew all the items that the record tells of.
-fn recall_items(starts: [usize; 64], ends: [usize; 64], count: usize, bytes: &[u8]) -> Result<Progress, Refusal>
+fn recall_items(
+    starts: [usize; 64],
+    ends: [usize; 64],
+    count: usize,
+    bytes: &[u8],
+) -> Result<Progress, Refusal>
     requires { count ≤ 64 }
     ensures { result ≡ walk starts ends count bytes.now fresh }
 {
@@ -133,30 +124,6 @@ fn end_of(head: Head, next: usize) -> usize
     match head {
         Head::Fixed(_) => next,
         Head::Variable => OPEN_END,
-    }
-}
-
-// What a refusal gives back: the old state.
-fn refused(x: SszDecoderBuilder, r: Refusal) -> Registered
-    ensures { result ≡ old x r }
-{
-    Registered {
-        state: x,
-        told: Err(r),
-    }
-}
-
-// What a refusal to build gives: no ranges.
-fn not_built(r: Refusal) -> Built
-    ensures { result ≡ not_built_lem r }
-{
-    Built {
-        told: Err(r),
-        decoder: SszDecoder {
-            count: 0,
-            starts: [0; 64],
-            ends: [0; 64],
-        },
     }
 }
 
@@ -226,6 +193,16 @@ impl SszDecoderBuilder {
         arrive(s, self.pos)
     }
 
+    // What a refusal gives back: the old state.
+    fn refused(self, refusal: Refusal) -> Refused<Self>
+        ensures { result ≡ record { state = self; refusal = refusal } }
+    {
+        Refused {
+            state: self,
+            refusal,
+        }
+    }
+
     // The state with one item more, behind which the next head is at next.
     fn put(self, head: Head, next: usize, bytes: &[u8]) -> Self
         requires { (self.count < 64) × (next ≡ self.pos + width head) }
@@ -249,49 +226,41 @@ impl SszDecoderBuilder {
 
     // Registers an item in a state that is reached: 21, 26, then the rules of reading.
     #[tactic(auto, using(crate::proofs::Walk::come_step, crate::proofs::Walk::come_pos))]
-    fn admit(self, x: Progress, head: Head, bytes: &[u8]) -> Registered
+    fn admit(self, x: Progress, head: Head, bytes: &[u8]) -> Result<Self, Refused<Self>>
         requires { Come x self bytes.now }
         ensures { result ≡ allowed x head bytes.now self }
     {
         if bytes.len() > 4294967295 {
-            return refused(self, Refusal::TooLarge);
+            return Err(self.refused(Refusal::TooLarge));
         }
         if self.count >= MAX_ITEMS {
-            return refused(self, Refusal::BuilderFull(MAX_ITEMS));
+            return Err(self.refused(Refusal::BuilderFull(MAX_ITEMS)));
         }
-        let s = register_head(x, head, bytes);
-        match s {
-            Ok(y) => {
-                let state = self.put(head, y.pos, bytes);
-                Registered {
-                    state,
-                    told: Ok(()),
-                }
-            }
-            Err(r) => refused(self, r),
+        match register_head(x, head, bytes) {
+            Ok(y) => Ok(self.put(head, y.pos, bytes)),
+            Err(r) => Err(self.refused(r)),
         }
     }
 
     #[tactic(auto, using(crate::proofs::Walk::recalled_come), unfolding(crate::specs::Held::register_item))]
-    fn register(self, head: Head, bytes: &[u8]) -> Registered
+    fn register(self, head: Head, bytes: &[u8]) -> Result<Self, Refused<Self>>
         ensures { result ≡ register_item head bytes.now self }
     {
-        let s = self.recall(bytes);
-        match s {
+        match self.recall(bytes) {
             Ok(x) => self.admit(x, head, bytes),
-            Err(_) => refused(self, Refusal::BadState),
+            Err(_) => Err(self.refused(Refusal::BadState)),
         }
     }
 
     // Registers an item of so many bytes.
-    pub fn register_fixed(self, len: usize, bytes: &[u8]) -> Registered
+    pub fn register_fixed(self, len: usize, bytes: &[u8]) -> Result<Self, Refused<Self>>
         ensures { result ≡ register_item (Head.Fixed len) bytes.now self }
     {
         self.register(Head::Fixed(len), bytes)
     }
 
     // Registers an item that an offset stands for.
-    pub fn register_variable(self, bytes: &[u8]) -> Registered
+    pub fn register_variable(self, bytes: &[u8]) -> Result<Self, Refused<Self>>
         ensures { result ≡ register_item Head.Variable bytes.now self }
     {
         self.register(Head::Variable, bytes)
@@ -303,7 +272,7 @@ impl SszDecoderBuilder {
         is_ssz_fixed_len: bool,
         ssz_fixed_len: usize,
         bytes: &[u8],
-    ) -> Registered
+    ) -> Result<Self, Refused<Self>>
         ensures { result ≡ register_item (head_for is_ssz_fixed_len ssz_fixed_len) bytes.now self }
     {
         if is_ssz_fixed_len {
@@ -314,44 +283,32 @@ impl SszDecoderBuilder {
     }
 
     // Builds a state that is reached: 21, then the rules of building.
-    fn close(self, x: Progress, bytes: &[u8]) -> Built
+    fn close(self, x: Progress, bytes: &[u8]) -> Result<SszDecoder, Refusal>
         requires { self.count ≤ 64 }
         ensures { result ≡ closable x bytes.now self }
     {
         let len = bytes.len();
         if len > 4294967295 {
-            return not_built(Refusal::TooLarge);
+            return Err(Refusal::TooLarge);
         }
-        let told = finalize(x, len);
-        match told {
-            Ok(()) => {
-                let count = self.count;
-                let starts = self.starts;
-                let open = self.ends;
-                let ends = close_ends(starts, open, count, len);
-                let decoder = SszDecoder {
-                    count,
-                    starts,
-                    ends,
-                };
-                Built {
-                    told: Ok(()),
-                    decoder,
-                }
-            }
-            Err(r) => not_built(r),
-        }
+        finalize(x, len)?;
+        let starts = self.starts;
+        let ends = close_ends(starts, self.ends, self.count, len);
+        Ok(SszDecoder {
+            count: self.count,
+            starts,
+            ends,
+        })
     }
 
     // The ranges of all items.
     #[tactic(auto, unfolding(crate::specs::Reader::build_items))]
-    pub fn build(self, bytes: &[u8]) -> Built
+    pub fn build(self, bytes: &[u8]) -> Result<SszDecoder, Refusal>
         ensures { result ≡ build_items bytes.now self }
     {
-        let s = self.recall(bytes);
-        match s {
+        match self.recall(bytes) {
             Ok(x) => self.close(x, bytes),
-            Err(_) => not_built(Refusal::BadState),
+            Err(_) => Err(Refusal::BadState),
         }
     }
 }

@@ -9,8 +9,8 @@ ghost use Rattle.std.specs.Prelude.{◌≡◌};
 ghost use Rattle.decode.specs.Offsets.{is_below_lem, skips, is_above_lem, read_offset_lem, sanitize_offset_lem};
 ghost use Rattle.decode.specs.Unions.{split_union, union_body_lem};
 
-use standard::words::four_at;
 use standard::Refusal;
+use standard::words::four_at;
 use union_selector::UnionSelector;
 
 pub const BYTES_PER_LENGTH_OFFSET: usize = 4;

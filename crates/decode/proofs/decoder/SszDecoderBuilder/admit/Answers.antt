@@ -3,6 +3,6 @@ use Rattle.std.proofs.Common.{arith}
 use Rattle.decode.proofs.Walk.{come_step, come_pos}
 use Rattle.decode.proofs.decoder.SszDecoderBuilder.admit.Goals as goal
 
-pub put-state-requires : goal.put-state-requires
-put-state-requires c =
-    (omega arith, come_pos _ _ _ _ _ c.requires (come_step _ _ _ _ _ c.requires (omega arith) c.in-Next.ensures))
+pub put-requires : goal.put-requires
+put-requires c =
+    (omega arith, come_pos _ _ _ _ _ c.requires (come_step _ _ _ _ _ c.requires (omega arith) c.in-Ok.ensures))
