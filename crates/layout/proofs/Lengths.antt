@@ -25,6 +25,7 @@ use Rattle.layout.proofs.Facts.{trees-get, fields_at, fields-none, filled-get, f
 use Rattle.layout.proofs.Tables.{Adding, adding-next, adding-end, bad-upto, may_lower, refs-wrong, refs-lower, refs-cut}
 use Rattle.layout.proofs.Tables.{Counted, counted-says, element-lower, known_len, known-head, known_small}
 use Rattle.layout.proofs.Trees.{legal_tree, len_small, leaf-length, vector_len, all-portion}
+use Rattle.std.specs.Result.{IsOk}
 use Rattle.std.specs.declared.result.Result.{Result}
 use Rattle.std.specs.declared.result.Result.TheVariants.{Ok, Err}
 use Rattle.standard.specs.declared.Refusal.{Refusal}
@@ -136,7 +137,7 @@ module _ (l : List ℕ) (t known a₀ n : ℕ) (lens : List ℕ) (a left sum : �
               record { found = taking_kept lens' q; adding = taking_adding; same = sym (with_variable fixed sum _) ∙ taking_first Variable (rw z at taking_head) }
 
 pub taking_end : (l : List ℕ) (t known a₀ n : ℕ) (lens : List ℕ) (a left sum : ℕ) (fixed : Bool) → Taking l t known a₀ n lens a left sum fixed →
-    left ≤ 0 → record { end = Ok a; portion = sum; length = pick fixed sum 0 } ≡ sizes_of (refs l t false a₀ n) (fields l (trees l t) a₀ n)
+    left ≤ 0 → Ok (record { end = a; portion = sum; length = pick fixed sum 0 }) ≡ sizes_of (refs l t false a₀ n) (fields l (trees l t) a₀ n)
 unfolding head sizes_of
 taking_end l t known a₀ n lens a left sum fixed s h =
     let q = rw (fields-none l (trees l t) a left h) at s.same in
@@ -144,37 +145,38 @@ taking_end l t known a₀ n lens a left sum fixed s h =
     let d = adding-end l t a₀ n a left sum s.adding h in
     rw (← d.0, ← d.1, y)
 
-pub no-sizes : (x : Result ℕ Refusal) (w : ℕ) (ts : Tys) → Err (BadLayout w) ≡ x → record { end = Err (BadLayout w); portion = 0; length = 0 } ≡ sizes_of x ts
+pub no-sizes : (x : Result ℕ Refusal) (r : Refusal) (ts : Tys) → Err r ≡ x → Err r ≡ sizes_of x ts
 unfolding sizes_of
-no-sizes x w ts h = rw (← h)
+no-sizes x r ts h = rw (← h)
 
 -- Of fields whose words are accepted, all sizes are those of the fields.
-pub sizes-end : (x : Result ℕ Refusal) (ts : Tys) (s : Sizes) → s ≡ sizes_of x ts → s.end ≡ x
+pub record Sized (x : Result ℕ Refusal) (ts : Tys) (s : Sizes) : Type 0 where
+  pub ends : x ≡ Ok s.end
+  pub takes : s.portion ≡ portion (heads ts)
+  pub long : s.length ≡ len_of (head_all ts)
+
+pub sized : (x : Result ℕ Refusal) (ts : Tys) (s : Sizes) → Ok s ≡ sizes_of x ts → Sized x ts s
 unfolding sizes_of
-sizes-end (Err (BadLayout w)) ts s e = ap (λ (y : Sizes). y.end) e
-sizes-end (Ok i) ts s e = ap (λ (y : Sizes). y.end) e
-
-module _ (x : Result ℕ Refusal) (ts : Tys) (s : Sizes) (i : ℕ) (e : s ≡ sizes_of x ts) (u : x ≡ Ok i) where
-  sizes-known : s ≡ record { end = Ok i; portion = portion (heads ts); length = len_of (head_all ts) }
-  unfolding sizes_of
-  sizes-known = rw u at e
-
-  pub sizes-portion : s.portion ≡ portion (heads ts)
-  sizes-portion = ap (λ (y : Sizes). y.portion) sizes-known
-
-  pub sizes-length : s.length ≡ len_of (head_all ts)
-  sizes-length = ap (λ (y : Sizes). y.length) sizes-known
+sized (Err r) ts s e = let z : ◌≡◌ {A = ℕ} 0 1 = cc in absurd (omega arith)
+sized (Ok i) ts s e =
+    let q : s ≡ record { end = i; portion = portion (heads ts); length = len_of (head_all ts) } = cc in
+    rw q (record { ends = refl; takes = refl; long = refl })
 
 -- The length of a container is that of its fields.
-pub sizes_len : (l : List ℕ) (t : ℕ) (r : Node) (s : Sizes) (i : ℕ) → r ≡ node_of l t → r.kind ≡ 6 →
-    s ≡ sizes_of (refs l t false (r.at + 2) r.second) (fields l (trees l t) (r.at + 2) r.second) →
-    refs l t false (r.at + 2) r.second ≡ Ok i → s.length ≡ len_of (head (tree_of l t))
+pub sizes_len : (l : List ℕ) (t : ℕ) (r : Node) (s : Sizes) → r ≡ node_of l t → r.kind ≡ 6 →
+    Ok s ≡ sizes_of (refs l t false (r.at + 2) r.second) (fields l (trees l t) (r.at + 2) r.second) → s.length ≡ len_of (head (tree_of l t))
 unfolding head
-sizes_len l t r s i e h q u = rw (as_container l t r e h) (sizes-length _ _ s i q u)
+sizes_len l t r s e h q = rw (as_container l t r e h) (sized _ _ s q).long
 
 -- Of a legal container the words are accepted.
 pub legal-refs : (l : List ℕ) (t : ℕ) (r : Node) → LegalNode l t r → r.kind ≡ 6 → refs l t false (r.at + 2) r.second ≡ Ok (r.at + 2 + r.second)
 legal-refs l t r g h = refs-lower l t r.second (r.at + 2) (g.lower h) (g.within (omega arith) (omega arith))
+
+-- So its fields have sizes.
+pub legal-sizes : (l : List ℕ) (t : ℕ) (r : Node) (ts : Tys) (x : Result Sizes Refusal) → LegalNode l t r → r.kind ≡ 6 →
+    x ≡ sizes_of (refs l t false (r.at + 2) r.second) ts → IsOk x
+unfolding sizes_of
+legal-sizes l t r ts x g h e = rw (e, legal-refs l t r g h)
 
 -- A length that is found is remembered.
 pub lengthened : (l : List ℕ) (known t r : ℕ) (lens : List ℕ) → lens ≡ filled l known → t ≤ known → known ≤ t → t < 64 →
@@ -189,19 +191,14 @@ lengthened l known t r lens f i j b h =
 pub found-set : (l : List ℕ) (t v : ℕ) (lens : List ℕ) → lens ≡ filled l t → t < 64 → v ≡ len_of (head (tree_of l t)) → set lens t v ≡ filled l (t + 1)
 found-set l t v lens f b h = rw (h, f, add-one) (filled-set l t b)
 
-pub sizes-small : (x : Result ℕ Refusal) (ts : Tys) (s : Sizes) (i : ℕ) → s ≡ sizes_of x ts → x ≡ Ok i → s.portion ≤ 4294967295 → s.length < 2 ^ 32
-sizes-small x ts s i e u h = omega (arith, sizes-portion x ts s i e u, sizes-length x ts s i e u, all-portion ts)
+pub sizes-small : (x : Result ℕ Refusal) (ts : Tys) (s : Sizes) → Ok s ≡ sizes_of x ts → s.portion ≤ 4294967295 → s.length < 2 ^ 32
+sizes-small x ts s e h = let z = sized x ts s e in omega (arith, z.takes, z.long, all-portion ts)
 
 -- The type t, whose body starts at the word at.
 module _ (l : List ℕ) (t at : ℕ) (w : at ≡ word_at l (1 + t)) where
   node_here : (k m : ℕ) → k ≡ word_at l at → m ≡ word_at l (at + 1) → record { kind = k; at = at; second = m } ≡ node_of l t
   unfolding node_of
   node_here k m p q = rw (p, q, w)
-
-  pub container_len : (n : ℕ) (s : Sizes) (i : ℕ) → word_at l at ≡ 6 → n ≡ word_at l (at + 1) →
-      s ≡ sizes_of (refs l t false (at + 2) n) (fields l (trees l t) (at + 2) n) → refs l t false (at + 2) n ≡ Ok i →
-      s.length ≡ len_of (head (tree_of l t))
-  container_len n s i k m q u = sizes_len l t (record { kind = word_at l at; at = at; second = n }) s i (node_here _ n refl m) k q u
 
   pub leaf-found : (k m v : ℕ) (lens : List ℕ) → k ≡ word_at l at → m ≡ word_at l (at + 1) → k ≤ 8 → (k ≡ 6 → ⊥) →
       v ≡ leaf_len_lem (record { kind = k; at = at; second = m }) → lens ≡ filled l t → t < 64 → set lens t v ≡ filled l (t + 1)
@@ -295,15 +292,15 @@ container_filled l t b k = sym (found-set l t _ _ refl b (rw (as_container l t (
 
 -- An end that is none has no number.
 abbrev upto : Result ℕ Refusal → ℕ
-upto (Err (BadLayout w)) = 0
+upto (Err r) = 0
 upto (Ok e) = e
 
 abbrev ends : Result ℕ Refusal → Bool
-ends (Err (BadLayout w)) = false
+ends (Err r) = false
 ends (Ok e) = true
 
 ended_at : (x : Result ℕ Refusal) → ends x ≡ true → x ≡ Ok (upto x)
-ended_at (Err (BadLayout w)) h = cc
+ended_at (Err r) h = cc
 ended_at (Ok e) h = refl
 
 -- The head of a vector's element, and what the vector's length makes of the lengths before it, as `vector_end` leaves them.
@@ -332,14 +329,14 @@ module _ (l : List ℕ) (t : ℕ) where
 pub ruleset vector_rules = (element_head, vector_filled)
 
 -- A body that does not end leaves nothing found.
-pub ended-bad : (l : List ℕ) (t w : ℕ) (x : Result ℕ Refusal) (lens : List ℕ) → Err (BadLayout w) ≡ x → Ended l t x (Err (BadLayout w)) lens
-ended-bad l t w x lens h = record { gives = h; found = λ e q. bad-upto w e q }
+pub ended-bad : (l : List ℕ) (t : ℕ) (r : Refusal) (x : Result ℕ Refusal) (lens : List ℕ) → Err r ≡ x → Ended l t x (Err r) lens
+ended-bad l t r x lens h = record { gives = h; found = λ e q. bad-upto r e q }
 
 -- A container whose words are not all there ends nowhere: one of them is the first bad word.
 pub ended-cut : (l : List ℕ) (t at n : ℕ) (x : Result ℕ Refusal) (lens : List ℕ) → counted l at 64 ≡ Ok n → count l < at + 2 + n →
     x ≡ refs l t false (at + 2) n → Ended l t (container_end_lem l t at) x lens
 unfolding container_end_lem many
-ended-cut l t at n (Err (BadLayout w)) lens c h e = ended-bad l t w _ lens (rw (c, ← e))
+ended-cut l t at n (Err r) lens c h e = ended-bad l t r _ lens (rw (c, ← e))
 ended-cut l t at n (Ok i) lens c h e =
     absurd (refs-cut l t n (at + 2) i (omega (arith, (counted-says l at 64 n c).there)) h (sym e))
 

@@ -15,7 +15,7 @@ use Rattle.standard.proofs.Bytes.{word_bound}
 use Rattle.layout.specs.Tree.{node_of, fields, trees, tree_of, len_of, head_of, lengths, filled}
 use Rattle.layout.specs.Table.{onward, count, may_name_lem, refs, counted, many, container_end_lem, list_end_lem, vector_end_lem, leaf_word, leaf_end_lem, body_end_lem, types_end_lem, types_of, table_of, lengths_of}
 use Rattle.layout.specs.Legal.{Lower, LowerOrBare, LegalNode, Legal}
-use Rattle.layout.specs.Steps.{Known, Typed, Tabled}
+use Rattle.layout.specs.Steps.{Known, Typed}
 use Rattle.layout.proofs.Facts.{trees-get, each-kind, fields-none, heads-at, lower-here, lower-rest, filled-get, length-filled, head_len, legal-more}
 use Rattle.layout.proofs.Trees.{legal_tree, len_small}
 use Rattle.std.specs.declared.result.Result.{Result}
@@ -98,15 +98,15 @@ upto_left : (c : Bool) (u : Result ℕ Refusal) (w e : ℕ) → pick c u (Err (B
 upto_left true u w e h = (refl, h)
 upto_left false u w e h = let z : ◌≡◌ {A = ℕ} 0 1 = cc in absurd (omega arith)
 
-upto-onward : (x : Result ℕ Refusal) (k : ℕ → (Result ℕ Refusal)) (e : ℕ) → onward x k ≡ Ok e → (i : ℕ) × (x ≡ Ok i) × (k i ≡ Ok e)
-upto-onward (Err (BadLayout w)) k e h = let z : ◌≡◌ {A = ℕ} 0 1 = cc in absurd (omega arith)
+upto-onward : (x : Result ℕ Refusal) (k : ℕ → Result ℕ Refusal) (e : ℕ) → onward x k ≡ Ok e → (i : ℕ) × (x ≡ Ok i) × (k i ≡ Ok e)
+upto-onward (Err r) k e h = let z : ◌≡◌ {A = ℕ} 0 1 = cc in absurd (omega arith)
 upto-onward (Ok i) k e h = (i, refl, h)
 
-pub upto_inj : (i j : ℕ) → Ok i ≡ Ok j → i ≡ j
+pub upto_inj : (i j : ℕ) → ◌≡◌ {A = Result ℕ Refusal} (Ok i) (Ok j) → i ≡ j
 upto_inj i j g = cc
 
-pub bad-upto : {A : Type 0} (i e : ℕ) → Err (BadLayout i) ≡ Ok e → A
-bad-upto i e h = let z : ◌≡◌ {A = ℕ} 0 1 = cc in absurd (omega arith)
+pub bad-upto : {A : Type 0} (r : Refusal) (e : ℕ) → ◌≡◌ {A = Result ℕ Refusal} (Err r) (Ok e) → A
+bad-upto r e h = let z : ◌≡◌ {A = ℕ} 0 1 = cc in absurd (omega arith)
 
 both_true : (a b : Bool) → and_also a b ≡ true → (a ≡ true) × (b ≡ true)
 both_true true b h = (refl, h)
@@ -309,7 +309,7 @@ module _ (l : List ℕ) (t at e : ℕ) (h : body_end_lem l t at ≡ Ok e) where
       go true p =
           let i = ltb-true 9 (word_at l at) p in
           let no = ne_eqb (word_at l at) 1 (λ (q : word_at l at ≡ 1). omega arith) in
-          bad-upto at e (rw (no, le-ltb (word_at l at) 6 (omega arith)) at (other (λ x (j : word_at l at ≤ 9). omega arith)))
+          bad-upto (BadLayout at) e (rw (no, le-ltb (word_at l at) 6 (omega arith)) at (other (λ x (j : word_at l at ≤ 9). omega arith)))
       go false p = ltb-false 9 (word_at l at) p
 
   body-leaf : word_at l at < 6 → e ≤ count l
@@ -401,8 +401,8 @@ module _ (l lens : List ℕ) (n t at : ℕ) (g : Checking l lens n t at) (p : t 
     checking_body : onward (body_end_lem l t at) (λ e. types_end_lem l (n - t - 1) (t + 1) e) ≡ types_end_lem l n 0 (n + 1)
     checking_body = rw (types_cons l (n - t) t at (omega arith), ← q, eq-eqb _ _ k) at g.same
 
-    pub checking_bad : (i : ℕ) → Err (BadLayout i) ≡ body_end_lem l t at → Err (BadLayout i) ≡ types_end_lem l n 0 (n + 1)
-    checking_bad i h = rw (← h) at checking_body
+    pub checking_bad : (r : Refusal) → Err r ≡ body_end_lem l t at → Err r ≡ types_end_lem l n 0 (n + 1)
+    checking_bad r h = rw (← h) at checking_body
 
     module _ (b : Bytes l) (e : ℕ) (h : Ok e ≡ body_end_lem l t at) where
       pub checking_legal : Legal l (t + 1)
@@ -426,14 +426,8 @@ checking_end l lens n t at g h =
     let f : t ≡ n = omega (arith, g.some) in
     (rw e at g.same, rw f at g.known.found)
 
-pub typed-bad : (l : List ℕ) (n i : ℕ) (lens : List ℕ) → Err (BadLayout i) ≡ types_end_lem l n 0 (n + 1) → Typed l n (Err (BadLayout i)) lens
-typed-bad l n i lens h = record { gives = h; found = λ e q. bad-upto i e q }
-
-pub tabled-bad : (l : List ℕ) (i : ℕ) (lens : List ℕ) → Err (BadLayout i) ≡ table_of l → Tabled l (Err (BadLayout i)) lens
-tabled-bad l i lens h = record { gives = h; found = λ n q. bad-upto i n q }
-
-pub tabled : (l : List ℕ) (n : ℕ) (lens : List ℕ) → Ok n ≡ table_of l → lens ≡ filled l n → Tabled l (Ok n) lens
-tabled l n lens h f = record { gives = h; found = λ m q. rw (← upto_inj n m q) f }
+pub typed-bad : (l : List ℕ) (n : ℕ) (r : Refusal) (lens : List ℕ) → Err r ≡ types_end_lem l n 0 (n + 1) → Typed l n (Err r) lens
+typed-bad l n r lens h = record { gives = h; found = λ e q. bad-upto r e q }
 
 -- The types of an accepted table are legal.
 types-legal : (l : List ℕ) (k t at e : ℕ) → Bytes l → t + k < count l → Legal l t → types_end_lem l k t at ≡ Ok e → Legal l (t + k)

@@ -10,7 +10,6 @@ use Rattle.layout.specs.declared.Sizes.{Sizes}
 use Rattle.std.specs.declared.result.Result.{Result}
 use Rattle.std.specs.declared.result.Result.TheVariants.{Ok, Err}
 use Rattle.standard.specs.declared.Refusal.{Refusal}
-use Rattle.standard.specs.declared.Refusal.TheVariants.{BadLayout}
 
 -- The first k types of the table l are legal, and their lengths stand in lens.
 pub record Known (lens l : List ℕ) (k : ℕ) : Type 0 where
@@ -23,10 +22,10 @@ abbrev pub leaf_len_lem : Node → ℕ
 leaf_len_lem n = len_of (head (leaf_of 0 n))
 
 -- Where the words of some fields end, what the fields take of a fixed portion, and their length, where 0 stands for variable size; or the
--- first bad word alone
-unfoldable pub sizes_of : Result ℕ Refusal → Tys → Sizes
-sizes_of (Err (BadLayout w)) ts = record { end = Err (BadLayout w); portion = 0; length = 0 }
-sizes_of (Ok e) ts = record { end = Ok e; portion = portion (heads ts); length = len_of (head_all ts) }
+-- first bad word
+unfoldable pub sizes_of : Result ℕ Refusal → Tys → Result Sizes Refusal
+sizes_of (Err r) ts = Err r
+sizes_of (Ok e) ts = Ok (record { end = e; portion = portion (heads ts); length = len_of (head_all ts) })
 
 -- r is the length of the type t, and lens' has it.
 pub record Lengthened (l : List ℕ) (known t r : ℕ) (lens' : List ℕ) : Type 0 where

@@ -10,8 +10,8 @@ use Rattle.std.specs.declared.result.Result.TheVariants.{Ok, Err}
 use Rattle.std.specs.Prelude.{⊤}
 use Rattle.standard.specs.declared.Refusal.{Refusal}
 
-abbrev pub onward : Result ℕ Refusal → (ℕ → (Result ℕ Refusal)) → Result ℕ Refusal
-onward (Err (BadLayout w)) k = Err (BadLayout w)
+abbrev pub onward : Result ℕ Refusal → (ℕ → Result ℕ Refusal) → Result ℕ Refusal
+onward (Err r) k = Err r
 onward (Ok e) k = k e
 
 -- How many whole words there are: "a missing word has the table's length as its number"
@@ -110,9 +110,9 @@ table_of l =
 
 -- The types' fixed lengths where the table is legal, and nothing else
 abbrev pub lengths_of : Result ℕ Refusal → List ℕ → List ℕ
-lengths_of (Err (BadLayout w)) l = replicate 64 0
+lengths_of (Err r) l = replicate 64 0
 lengths_of (Ok n) l = filled l n
 
 abbrev pub told_of : Result ℕ Refusal → Result ⊤ Refusal
-told_of (Err (BadLayout w)) = Err (BadLayout w)
+told_of (Err r) = Err r
 told_of (Ok n) = Ok tt

@@ -9,8 +9,8 @@ ghost use Rattle.layout.specs.Table.{count, may_name_lem, refs, counted, many, c
 ghost use Rattle.layout.specs.Legal.{Legal};
 ghost use Rattle.layout.specs.Steps.{Known, leaf_len_lem, sizes_of, Lengthened, Ended, Typed, Tabled};
 
-use standard::words::{four_at, word_at};
 use standard::Refusal;
+use standard::words::{four_at, word_at};
 
 // What stands in an option's place where it has no body.
 pub const NO_BODY: usize = 4294967295;
@@ -23,11 +23,10 @@ pub struct Node {
     pub second: usize,
 }
 
-// Where the words of some fields end, or the first bad one; what the fields take of a fixed portion, and how long they are, 0 if one of them is
-// of variable size.
+// Where the words of some fields end, what the fields take of a fixed portion, and how long they are, 0 if one of them is of variable size.
 #[derive(Clone, Copy)]
 struct Sizes {
-    end: Result<usize, Refusal>,
+    end: usize,
     portion: usize,
     length: usize,
 }
@@ -88,8 +87,7 @@ fn refs_end(layout: &[u8], t: usize, none: bool, a0: usize, n: usize) -> Result<
             return Err(Refusal::BadLayout(words));
         }
         let w = word_at(layout, a);
-        let ok = may_name(w, t, none);
-        if !ok {
+        if !may_name(w, t, none) {
             return Err(Refusal::BadLayout(a));
         }
         a += 1;
@@ -125,11 +123,8 @@ fn union_end(layout: &[u8], t: usize, at: usize) -> Result<usize, Refusal>
     requires { at ≤ 2 ^ 61 }
     ensures { result ≡ many layout.now t at true 128 }
 {
-    let options = count_at(layout, at, 128);
-    match options {
-        Err(e) => Err(e),
-        Ok(n) => refs_end(layout, t, true, at + 2, n),
-    }
+    let n = count_at(layout, at, 128)?;
+    refs_end(layout, t, true, at + 2, n)
 }
 
 // How much of a fixed portion a type with this length takes.
@@ -202,7 +197,13 @@ fn keep(lens: &mut [u32; 64], t: usize, n: Node)
 
 // A leaf with one word behind its kind; its length goes to `lens`.
 #[tactic(auto, unfolding(crate::specs::Table::leaf_end_lem, crate::specs::Table::count))]
-fn leaf_end(lens: &mut [u32; 64], layout: &[u8], t: usize, kind: usize, at: usize) -> Result<usize, Refusal>
+fn leaf_end(
+    lens: &mut [u32; 64],
+    layout: &[u8],
+    t: usize,
+    kind: usize,
+    at: usize,
+) -> Result<usize, Refusal>
     requires { Known lens.old layout.now t × (t < 64) × (at < 2 ^ 32) × (at ≡ word_at layout.now (1 + t)) × (kind ≡ word_at layout.now at) × (kind < 6) }
     ensures { Ended layout.now t (leaf_end_lem layout.now at) result lens.new }
 {
@@ -212,8 +213,7 @@ fn leaf_end(lens: &mut [u32; 64], layout: &[u8], t: usize, kind: usize, at: usiz
         return Err(Refusal::BadLayout(words));
     }
     let second = word_in(layout, next);
-    let ok = leaf_ok(kind, second);
-    if !ok {
+    if !leaf_ok(kind, second) {
         return Err(Refusal::BadLayout(next));
     }
     let n = Node { kind, at, second };
@@ -253,24 +253,14 @@ fn work_out(lens: &mut [u32; 64], layout: &[u8], t: usize) -> usize
         return len;
     }
     let first = n.at + 2;
-    let sizes = fields_len(lens, t, layout, t, first, n.second);
+    let sizes = fields_len(lens, t, layout, t, first, n.second).unwrap();
     let len = sizes.length;
     lens[t] = len as u32;
     len
 }
 
-// The words are not those of fields: nothing is known of their sizes.
-fn no_fields(w: usize) -> Sizes
-    ensures { result ≡ record { end = Bad w; portion = 0; length = 0 } }
-{
-    Sizes {
-        end: Err(Refusal::BadLayout(w)),
-        portion: 0,
-        length: 0,
-    }
-}
-
-// The n words from a0 on, which are there, name types below t, the fields of type t: their sizes, from their fixed lengths.
+// The n words from a0 on, which are there, name types below t, the fields of type t: their sizes, from their fixed lengths, or the first bad
+// word.
 #[cycle(fields_len_fixed_len_work_out)]
 fn fields_len(
     lens: &mut [u32; 64],
@@ -279,7 +269,7 @@ fn fields_len(
     t: usize,
     a0: usize,
     n: usize,
-) -> Sizes
+) -> Result<Sizes, Refusal>
     requires { Known lens.old layout.now known × (t ≤ known) × (n ≤ 64) × (a0 < 2 ^ 62) × (a0 + n ≤ count layout.now) }
     ensures value { result ≡ sizes_of (refs layout.now t false a0 n) (fields layout.now (trees layout.now t) a0 n) }
     ensures lens_unchanged { lens.new ≡ lens.old }
@@ -290,9 +280,8 @@ fn fields_len(
     let mut fixed = true;
     while left > 0 {
         let f = word_in(layout, a);
-        let ok = may_name(f, t, false);
-        if !ok {
-            return no_fields(a);
+        if !may_name(f, t, false) {
+            return Err(Refusal::BadLayout(a));
         }
         let k = fixed_len(lens, known, layout, f);
         if k == 0 {
@@ -303,11 +292,11 @@ fn fields_len(
         left -= 1;
     }
     let length = if fixed { portion } else { 0 };
-    Sizes {
-        end: Ok(a),
+    Ok(Sizes {
+        end: a,
         portion,
         length,
-    }
+    })
 }
 
 // The container t at the word at: a number of fields, their words, and a fixed portion that fits an offset; its length goes to `lens`.
@@ -316,29 +305,18 @@ fn container_end(lens: &mut [u32; 64], layout: &[u8], t: usize, at: usize) -> Re
     requires { Known lens.old layout.now t × (t < 64) × (at < 2 ^ 32) × (at ≡ word_at layout.now (1 + t)) × (word_at layout.now at ≡ 6) }
     ensures { Ended layout.now t (container_end_lem layout.now t at) result lens.new }
 {
-    let fields = count_at(layout, at, 64);
-    match fields {
-        Err(e) => Err(e),
-        Ok(n) => {
-            let first = at + 2;
-            // only where a word is missing is each looked for
-            if first + n > layout.len() / 4 {
-                return refs_end(layout, t, false, first, n);
-            }
-            let sizes = fields_len(lens, t, layout, t, first, n);
-            let end = sizes.end;
-            match end {
-                Err(e) => Err(e),
-                Ok(e) => {
-                    if sizes.portion > 4294967295 {
-                        return Err(Refusal::BadLayout(at));
-                    }
-                    lens[t] = sizes.length as u32;
-                    Ok(e)
-                }
-            }
-        }
+    let n = count_at(layout, at, 64)?;
+    let first = at + 2;
+    // only where a word is missing is each looked for
+    if first + n > layout.len() / 4 {
+        return refs_end(layout, t, false, first, n);
     }
+    let sizes = fields_len(lens, t, layout, t, first, n)?;
+    if sizes.portion > 4294967295 {
+        return Err(Refusal::BadLayout(at));
+    }
+    lens[t] = sizes.length as u32;
+    Ok(sizes.end)
 }
 
 // The list t at the word at: its element's type, and any greatest count.
@@ -348,16 +326,11 @@ fn list_end(layout: &[u8], t: usize, at: usize) -> Result<usize, Refusal>
     ensures { result ≡ list_end_lem layout.now t at }
 {
     let words = layout.len() / 4;
-    let named = refs_end(layout, t, false, at + 1, 1);
-    match named {
-        Err(e) => Err(e),
-        Ok(e) => {
-            if e < words {
-                Ok(e + 1)
-            } else {
-                Err(Refusal::BadLayout(words))
-            }
-        }
+    let e = refs_end(layout, t, false, at + 1, 1)?;
+    if e < words {
+        Ok(e + 1)
+    } else {
+        Err(Refusal::BadLayout(words))
     }
 }
 
@@ -368,25 +341,15 @@ fn vector_end(lens: &mut [u32; 64], layout: &[u8], t: usize, at: usize) -> Resul
     requires { Known lens.old layout.now t × (t < 64) × (at < 2 ^ 32) × (at ≡ word_at layout.now (1 + t)) × (word_at layout.now at ≡ 9) }
     ensures { Ended layout.now t (vector_end_lem layout.now t at) result lens.new }
 {
-    let named = refs_end(layout, t, false, at + 1, 1);
-    match named {
-        Err(e) => Err(e),
-        Ok(_) => {
-            let elements = count_at(layout, at + 1, 4294967295);
-            match elements {
-                Err(e) => Err(e),
-                Ok(n) => {
-                    let f = word_at(layout, at + 1);
-                    let len = lens[f] as usize;
-                    if n * width_of(len) > 4294967295 {
-                        return Err(Refusal::BadLayout(at));
-                    }
-                    lens[t] = (n * len) as u32;
-                    Ok(at + 3)
-                }
-            }
-        }
+    refs_end(layout, t, false, at + 1, 1)?;
+    let n = count_at(layout, at + 1, 4294967295)?;
+    let f = word_at(layout, at + 1);
+    let len = lens[f] as usize;
+    if n * width_of(len) > 4294967295 {
+        return Err(Refusal::BadLayout(at));
     }
+    lens[t] = (n * len) as u32;
+    Ok(at + 3)
 }
 
 // Where the body of type t ends, which starts at the word at; its length goes to `lens`.
@@ -437,15 +400,7 @@ fn types_end(lens: &mut [u32; 64], layout: &[u8], n: usize) -> Result<usize, Ref
         if w != at {
             return Err(Refusal::BadLayout(next));
         }
-        let c = body_end(lens, layout, t, at);
-        match c {
-            Err(Refusal::BadLayout(i)) => {
-                return Err(Refusal::BadLayout(i));
-            }
-            Ok(e) => {
-                at = e;
-            }
-        }
+        at = body_end(lens, layout, t, at)?;
         t += 1;
     }
     Ok(at)
@@ -482,22 +437,12 @@ fn table_end(lens: &mut [u32; 64], layout: &[u8]) -> Result<usize, Refusal>
     requires { Known lens.old layout.now 0 }
     ensures { Tabled layout.now result lens.new }
 {
-    let begun = types_of(layout);
-    match begun {
-        Err(e) => Err(e),
-        Ok(n) => {
-            let c = types_end(lens, layout, n);
-            match c {
-                Err(e) => Err(e),
-                Ok(e) => {
-                    if e == layout.len() / 4 {
-                        Ok(n)
-                    } else {
-                        Err(Refusal::BadLayout(e))
-                    }
-                }
-            }
-        }
+    let n = types_of(layout)?;
+    let e = types_end(lens, layout, n)?;
+    if e == layout.len() / 4 {
+        Ok(n)
+    } else {
+        Err(Refusal::BadLayout(e))
     }
 }
 
@@ -507,14 +452,11 @@ pub fn table_of(lens: &mut [u32; 64], layout: &[u8]) -> Result<usize, Refusal>
     ensures lens_after { lens.new ≡ lengths_of (table_of layout.now) layout.now }
 {
     *lens = [0; 64];
-    let c = table_end(lens, layout);
-    match c {
-        Err(Refusal::BadLayout(w)) => {
-            *lens = [0; 64];
-            Err(Refusal::BadLayout(w))
-        }
-        Ok(n) => Ok(n),
+    let end = table_end(lens, layout);
+    if end.is_err() {
+        *lens = [0; 64];
     }
+    end
 }
 
 // The check of a layout table: 20 with the first bad word.
@@ -522,9 +464,6 @@ pub fn layout_check(layout: &[u8]) -> Result<(), Refusal>
     ensures { result ≡ told_of (table_of layout.now) }
 {
     let mut lens = [0u32; 64];
-    let c = table_of(&mut lens, layout);
-    match c {
-        Err(e) => Err(e),
-        Ok(_) => Ok(()),
-    }
+    table_of(&mut lens, layout)?;
+    Ok(())
 }

@@ -10,6 +10,6 @@ unfolding leaf_end_lem count
 returns c =
     let two : c.args.at + 1 + 1 ≡ c.args.at + 2 = omega arith in
     ended _ _ _ _ _
-    (rw (lt-ltb _ _ c.if-next-words.false, ← c.requires.4, ← c.word_in-second.ensures.0, ← c.leaf_ok-ok.ensures, c.if-not-ok.false, two))
+    (rw (lt-ltb _ _ c.if-next-words.false, ← c.requires.4, ← c.word_in-second.ensures.0, ← c.leaf_ok.ensures, c.if-not-leaf_ok.false, two))
     (c.keep.ensures ∙ leaf-found _ _ _ c.requires.3 _ _ _ _ c.requires.4 c.word_in-second.ensures.0
     (omega (arith, c.requires.5)) (λ z. omega (arith, c.requires.5)) refl c.requires.0.found c.requires.1)

@@ -12,18 +12,18 @@ pub returns-then-a-words : goal.returns-then-a-words
 unfolding count
 returns-then-a-words c = refs_missing _ _ _ _ _ _ c.loop-left-test.true c.loop-left.invariant.1 c.if-a-words.true
 
-pub returns-then-not-ok : goal.returns-then-not-ok
+pub returns-then-not-may_name : goal.returns-then-not-may_name
 unfolding count
-returns-then-not-ok c =
+returns-then-not-may_name c =
     refs-wrong _ _ _ _ _ _ c.loop-left-test.true c.loop-left.invariant.1 _ _ c.if-a-words.false c.word_at-w.ensures.0
-    c.may_name-ok.ensures c.if-not-ok.true
+    c.may_name.ensures c.if-not-may_name.true
 
 pub loop-left-preserved : goal.loop-left-preserved
 unfolding count
 loop-left-preserved c = (
   refl,
   refs-next _ _ _ _ _ _ c.loop-left-test.true c.loop-left.invariant.1 _ _ c.if-a-words.false c.word_at-w.ensures.0
-      c.may_name-ok.ensures c.if-not-ok.false,
+      c.may_name.ensures c.if-not-may_name.false,
 )
 
 pub returns : goal.returns

@@ -1,5 +1,5 @@
 -- The types so far are legal, and what is left of the check gives the whole. Assumes nothing.
-use Rattle.std.proofs.Common.{◌≡◌, sym, ◌∙◌, ◌-◌, arith}
+use Rattle.std.proofs.Common.{◌≡◌, refl, sym, ◌∙◌, ◌-◌, arith, rules}
 use Rattle.standard.proofs.Bytes.{bytes-known}
 use Rattle.layout.proofs.Tables.{typed-bad, checking_start, checking_bad, checking_next, checking_end}
 use Rattle.layout.proofs.types_end.Goals as goal
@@ -13,19 +13,19 @@ pub returns-then-w-at : goal.returns-then-w-at
 returns-then-w-at c =
     typed-bad _ _ _ _ (checking_start _ _ _ _ _ c.loop-t.invariant c.loop-t-test.true _ c.word_in-w.ensures.0 c.if-w-at.true)
 
-pub body_end-c-requires : goal.body_end-c-requires
-body_end-c-requires c = (c.loop-t.invariant.known, omega arith, omega arith, sym c.if-w-at.false ∙ c.word_in-w.ensures.0)
+pub body_end-requires : goal.body_end-requires
+body_end-requires c = (c.loop-t.invariant.known, omega arith, omega arith, sym c.if-w-at.false ∙ c.word_in-w.ensures.0)
 
-pub returns-in-Bad : goal.returns-in-Bad
-returns-in-Bad c =
-    typed-bad _ _ _ _
-    (checking_bad _ _ _ _ _ c.loop-t.invariant c.loop-t-test.true _ c.word_in-w.ensures.0 c.if-w-at.false _ (sym c.in-Bad.is ∙ c.body_end-c.ensures.gives))
+pub returns-in_err-at : goal.returns-in_err-at
+returns-in_err-at c =
+    let e = checking_bad _ _ _ _ _ c.loop-t.invariant c.loop-t-test.true _ c.word_in-w.ensures.0 c.if-w-at.false _ c.in_err-at.ensures.gives in
+    record { gives = search rules; found = λ n q. search rules }
 
 pub loop-t-preserved : goal.loop-t-preserved
 loop-t-preserved c =
     let b = bytes-known _ (λ i. (c.type_inv.layout i).fits) in
     checking_next _ _ _ _ _ c.loop-t.invariant c.loop-t-test.true _ c.word_in-w.ensures.0 c.if-w-at.false b _
-    (sym c.in-Upto.is ∙ c.body_end-c.ensures.gives) _ c.requires.1 (c.body_end-c.ensures.found _ c.in-Upto.is)
+    c.in_ok-at.ensures.gives _ c.requires.1 (c.in_ok-at.ensures.found _ refl)
 
 pub returns : goal.returns
 returns c =
