@@ -4,6 +4,7 @@ use mathlib.Core.List.{List, []}
 use Prim.Native.Nat.{ℕ}
 use Rattle.encode.specs.Encoder.{appended}
 use Rattle.std.specs.declared.result.Result.{Result}
+use Rattle.encode.specs.declared.encoder.SszEncoder.{SszEncoder}
 use Rattle.std.specs.declared.result.Result.TheVariants.{Ok, Err}
 use Rattle.standard.specs.declared.Refusal.{Refusal}
 

@@ -1,5 +1,4 @@
 -- Laws of the encoder.
-pub mod Copy
 pub mod Container
 pub mod Round
 pub mod Kept

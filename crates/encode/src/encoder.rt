@@ -18,29 +18,19 @@ pub struct SszEncoder {
 }
 
 // Stores the bytes of src from at on.
+#[tactic(auto, using(standard::proofs::Store::part_sets))]
 fn copy_into(out: &mut [u8], at: usize, src: &[u8])
     requires { at + length src.now ≤ length out.old }
     ensures { out.new ≡ sets out.old at src.now }
 {
-    let mut i = 0;
-    while i < src.len() {
-        out[at + i] = src[i];
-        i += 1;
-    }
+    out[at..at + src.len()].copy_from_slice(src);
 }
 
 // Whether the sum is at most the greatest offset.
 fn is_offset(size: usize, used: usize) -> bool
     ensures { result ≡ leb (size + used) 4294967295 }
 {
-    if size > super::MAX_LENGTH_VALUE {
-        return false;
-    }
-    if used <= super::MAX_LENGTH_VALUE - size {
-        true
-    } else {
-        false
-    }
+    size <= super::MAX_LENGTH_VALUE && used <= super::MAX_LENGTH_VALUE - size
 }
 
 impl SszEncoder {

@@ -12,31 +12,13 @@ pub const BYTES_PER_LENGTH_OFFSET: usize = 4;
 // The greatest length that an offset can say.
 pub const MAX_LENGTH_VALUE: usize = 4294967295;
 
-// The bytes of a length, all zero beside a refusal: an enum holds no array.
-#[derive(Clone, Copy)]
-pub struct Encoded {
-    pub told: Result<(), Refusal>,
-    pub bytes: [u8; 4],
-}
-
-#[tactic(auto, unfolding(standard::specs::Bytes::le))]
-pub fn encode_length(len: usize) -> Encoded
+// The bytes of a length, as an offset has them.
+#[tactic(auto, using(standard::proofs::Bytes::le_bytes))]
+pub fn encode_length(len: usize) -> Result<[u8; 4], Refusal>
     ensures { result ≡ encode_length_lem len }
 {
-    if len <= MAX_LENGTH_VALUE {
-        Encoded {
-            told: Ok(()),
-            bytes: [
-                (len % 256) as u8,
-                (len / 256 % 256) as u8,
-                (len / 256 / 256 % 256) as u8,
-                (len / 256 / 256 / 256 % 256) as u8,
-            ],
-        }
-    } else {
-        Encoded {
-            told: Err(Refusal::TooLarge),
-            bytes: [0; 4],
-        }
+    if len > MAX_LENGTH_VALUE {
+        return Err(Refusal::TooLarge);
     }
+    Ok((len as u32).to_le_bytes())
 }

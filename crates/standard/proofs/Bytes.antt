@@ -9,6 +9,7 @@ use lib.Seq.{get_or-drop, take_at, take_all}
 use lib.Dec.{ltb}
 use mathlib.Core.Bool.{Bool, true, false}
 use borrow.Author.Tests.{lt-ltb, le-ltb}
+use Rattle.std.specs.Int.{w32, to_le_bytes}
 use Rattle.standard.specs.Choice.{pick}
 use Rattle.standard.specs.Bytes.{Bytes, le, num, num_at, four, word_at}
 
@@ -65,6 +66,14 @@ num-le (suc w) n h =
     let k = rw (pow-succ' 256 w) at h in
     let q : n / 256 < 256 ^ w = omega arith in
     rw (num-le w (n / 256) q) (omega arith)
+
+-- The same as std has it, of 32 bits.
+pub le_bytes : (n : ℕ) → to_le_bytes w32 n ≡ le 4 n
+unfolding le
+le_bytes n =
+    let e : n / 256 / 256 ≡ n / 65536 = omega arith in
+    let f : n / 256 / 256 / 256 ≡ n / 16777216 = omega arith in
+    rw (f, e)
 
 -- Two lists of bytes of one length that say one number are equal.
 pub num-injective : (a b : List ℕ) → Bytes a → Bytes b → length a ≡ length b → num a ≡ num b → a ≡ b

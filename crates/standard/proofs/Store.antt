@@ -5,8 +5,10 @@ use Prim.Native.Nat.{ℕ, suc, ◌+◌, ◌≤◌, ◌<◌}
 use native.Mathlib.Nat.{add-zero}
 use native.Mathlib.Numerals.{add-one}
 use native.Mathlib.Omega.{arith}
-use lib.ListN.{length, get_or, drop, set, length-append, length-set, drop_of_length-le}
-use lib.Seq.{sets, length-sets, set_out, drop-cons}
+use borrow.Rule.Slice.PartMut.{put_mid}
+use Rattle.std.proofs.Common.{append_assoc, drop-drop}
+use lib.ListN.{length, get_or, take, drop, set, length-append, length-set, drop_of_length-le}
+use lib.Seq.{sets, sets-eq, length-sets, set_out, drop-cons}
 use Rattle.standard.specs.Bytes.{Stored, Room}
 
 pub sets-append : (xs ys l : List ℕ) (i : ℕ) → sets (sets l i xs) (i + length xs) ys ≡ sets l i (xs ++ ys)
@@ -19,6 +21,10 @@ sets-append (x ∷ xs) ys l i =
 pub sets_out : (xs l : List ℕ) (i : ℕ) → length l ≤ i → sets l i xs ≡ l
 sets_out [] l i h = refl
 sets_out (x ∷ xs) l i h = rw (set_out l i x h) (sets_out xs l (suc i) (omega arith))
+
+-- A part that was written over whole, as std has it: k is its length, and xs what it holds now.
+pub part_sets : (l xs ys : List ℕ) (at k : ℕ) → xs ≡ ys → k ≡ length ys → at + length ys ≤ length l → put_mid at k l xs ≡ sets l at ys
+part_sets l xs ys at k e f h = rw (e, f, sets-eq ys l at h, drop-drop, append_assoc (take at l) ys (drop (at + length ys) l)) refl
 
 -- First xs, then ys: together x.
 pub stored_then : (o : List ℕ) (at : ℕ) (xs : List ℕ) (n : ℕ) (o₁ ys : List ℕ) (r : ℕ) (o₂ x : List ℕ) → Stored o at xs n o₁ → Stored o₁ n ys r o₂ →
