@@ -1,7 +1,7 @@
 -- The contract of each public function has one answer only, and the parts that it hands out have one content. Of `step_after`, `item_after` and `item_then` it
 -- is said of the postconditions themselves, for the same arguments at entry; of `new` and `decode_next`, of the equations that they promise. Assumes
 -- nothing.
-use mathlib.Core.Path.{◌≡◌}
+use mathlib.Core.Path.{◌≡◌, sym, ◌∙◌}
 use Prim.Native.Nat.{ℕ}
 use mathlib.Core.List.{List}
 use contract.Lifetimes.{Lfts}
@@ -10,7 +10,11 @@ use denote.Triple.Clauses.{AtExit}
 use borrow.Fn.Kinds.{Dens, res_t, ended_of}
 use Rattle.standard.proofs.Only.{Only, only_answer}
 use Rattle.decode.specs.declared.decoder.SszDecoder.{SszDecoder}
-use Rattle.reader.specs.Walked.{reader_at, told_next, item_next, reader_after}
+use Rattle.std.specs.declared.result.Result.{Result}
+use Rattle.std.specs.declared.result.Result.TheVariants.{Ok, Err}
+use Rattle.standard.specs.declared.Refused.{Refused}
+use Rattle.decode.proofs.Register.{refused_next}
+use Rattle.reader.specs.Walked.{reader_at, Decoded, item_next, reader_after}
 use Rattle.reader.specs.declared.SszReader.{SszReader}
 use Rattle.reader.specs.declared.Taken.{Taken}
 use Rattle.reader.proofs.step_after.Kinds as step_after_kinds
@@ -38,13 +42,18 @@ item_then_only κs a x y e f p q = only_answer _ _ _ p q
 pub new_only : (b : Bor (List ℕ)) (d : SszDecoder) (n : ℕ) (x y : SszReader) → x ≡ reader_at b d n → y ≡ reader_at b d n → x ≡ y
 new_only b d n x y p q = only_answer (reader_at b d n) x y p q
 
--- What `decode_next` promises of what it gives
-abbrev Promised : SszReader → Taken → Type 0
-Promised r t = (t.told ≡ told_next r) × ((t.item.now ≡ item_next r) × (t.rest ≡ reader_after r))
+-- Two answers that hand out parts of one content, and are else the same
+abbrev Alike : Result Taken (Refused SszReader) → Result Taken (Refused SszReader) → Type 0
+Alike (Ok t) (Ok u) = (t.item.now ≡ u.item.now) × (t.rest ≡ u.rest)
+Alike (Ok t) (Err f) = ⊥
+Alike (Err e) (Ok u) = ⊥
+Alike (Err e) (Err f) = e ≡ f
 
-pub decode_next_only :
-    (r : SszReader) (t u : Taken) → Promised r t → Promised r u → (t.told ≡ u.told) × ((t.item.now ≡ u.item.now) × (t.rest ≡ u.rest))
-decode_next_only r t u p q = (
-  only_answer (told_next r) _ _ p.0 q.0,
-  (only_answer (item_next r) _ _ p.1.0 q.1.0, only_answer (reader_after r) _ _ p.1.1 q.1.1),
-)
+pub decode_next_only : (r : SszReader) (x y : Result Taken (Refused SszReader)) → Decoded r x → Decoded r y → Alike x y
+decode_next_only r (Ok t) (Ok u) p q = (only_answer (item_next r) _ _ p.1.0 q.1.0, only_answer (reader_after r) _ _ p.1.1 q.1.1)
+decode_next_only r (Ok t) (Err f) p q = refused_next f.refusal tt (sym q.0 ∙ p.0)
+decode_next_only r (Err e) (Ok u) p q = refused_next e.refusal tt (sym p.0 ∙ q.0)
+decode_next_only r (Err e) (Err f) p q =
+    let s : e.refusal ≡ f.refusal = cc (sym p.0 ∙ q.0) in
+    let t : e.state ≡ f.state = only_answer r _ _ p.1 q.1 in
+    λ i. record { state = t i; refusal = s i }

@@ -3,11 +3,12 @@
 // leave the work to `step_after` and `SszDecoder::item`.
 #![tactic(auto)]
 
-ghost use Rattle.std.specs.Prelude.{◌≡◌, length};
-ghost use Rattle.decode.specs.Reader.{item_told_lem, item_of};
-ghost use Rattle.reader.specs.Walked.{step_after_lem, reader_at, told_next, item_next, reader_after};
+ghost use Rattle.std.specs.Prelude.{◌≡◌};
+ghost use Rattle.decode.specs.Reader.{item_of};
+ghost use Rattle.reader.specs.Walked.{step_after_lem, reader_at, Decoded, item_next, reader_after};
 
 use decode::decoder::SszDecoder;
+use standard::Refused;
 
 #[derive(Clone, Copy)]
 pub struct SszReader<'a> {
@@ -16,36 +17,24 @@ pub struct SszReader<'a> {
     pub next: usize,
 }
 
-// Whether there is a next item, and the number of the one after it; the same number beside a refusal.
-#[derive(Clone, Copy)]
-pub struct ReaderStep {
-    pub told: Result<(), Refusal>,
-    pub next: usize,
-}
-
-// An item, or an empty part beside a refusal, and the reader that comes after it.
+// An item, and the reader that comes after it.
 #[derive(Clone, Copy)]
 pub struct Taken<'a> {
-    pub told: Result<(), Refusal>,
     pub item: &'a [u8],
     pub rest: SszReader<'a>,
 }
 
-// The work, on numbers.
+// The work, on numbers: the number behind a next item that there is, or the same number beside a refusal.
 #[tactic(auto, using(decode::proofs::Items::item_fine))]
-pub fn step_after(ranges: SszDecoder, next: usize, len: usize) -> ReaderStep
+pub fn step_after(ranges: SszDecoder, next: usize, len: usize) -> Result<usize, Refused<usize>>
     ensures { result ≡ step_after_lem ranges next len }
 {
-    let told = ranges.item_told(next, len);
-    match told {
-        Ok(()) => ReaderStep {
-            told: Ok(()),
-            next: next + 1,
-        },
-        Err(r) => ReaderStep {
-            told: Err(r),
-            next,
-        },
+    match ranges.item_told(next, len) {
+        Ok(()) => Ok(next + 1),
+        Err(refusal) => Err(Refused {
+            state: next,
+            refusal,
+        }),
     }
 }
 
@@ -60,32 +49,32 @@ pub fn new<'a>(bytes: &'a [u8], ranges: SszDecoder, next: usize) -> SszReader<'a
     }
 }
 
-// The next item, told 23 past the last one, and the reader that comes after it.
-pub fn decode_next<'a>(r: SszReader<'a>) -> Taken<'a>
-    ensures { (result.told ≡ told_next r.entry) × ((result.item.now ≡ item_next r.entry) × (result.rest ≡ reader_after r.entry)) }
+// The next item and the reader that comes after it; past the last one 23, and the reader as it was.
+pub fn decode_next<'a>(r: SszReader<'a>) -> Result<Taken<'a>, Refused<SszReader<'a>>>
+    ensures { Decoded r.entry result }
 {
     let bytes = r.bytes;
     let ranges = r.ranges;
-    let next = r.next;
-    let step = step_after(ranges, next, bytes.len());
-    let item = ranges.item(next, bytes);
-    Taken {
-        told: step.told,
-        item,
-        rest: SszReader {
-            bytes,
-            ranges,
-            next: step.next,
-        },
+    match step_after(ranges, r.next, bytes.len()) {
+        Ok(next) => Ok(Taken {
+            item: ranges.item(r.next, bytes),
+            rest: new(bytes, ranges, next),
+        }),
+        Err(refused) => Err(Refused {
+            state: r,
+            refusal: refused.refusal,
+        }),
     }
 }
 
-// The item behind so many, by a reader. Its parameters are plain.
+// The item behind so many, by a reader; the empty part where there is none. Its parameters are plain.
 pub fn item_after<'a>(bytes: &'a [u8], ranges: SszDecoder, skip: usize) -> &'a [u8]
     ensures { result.now ≡ item_of ranges skip bytes.now }
 {
-    let taken = decode_next(new(bytes, ranges, skip));
-    taken.item
+    match decode_next(new(bytes, ranges, skip)) {
+        Ok(taken) => taken.item,
+        Err(_) => &bytes[..0],
+    }
 }
 
 // The item behind the one that is behind so many, by a reader that goes on: the second step is one of the reader that the first leaves.
@@ -93,7 +82,12 @@ pub fn item_after<'a>(bytes: &'a [u8], ranges: SszDecoder, skip: usize) -> &'a [
 pub fn item_then<'a>(bytes: &'a [u8], ranges: SszDecoder, skip: usize) -> &'a [u8]
     ensures { result.now ≡ item_next (reader_after (reader_at bytes.entry ranges skip)) }
 {
-    let first = decode_next(new(bytes, ranges, skip));
-    let second = decode_next(first.rest);
-    second.item
+    let rest = match decode_next(new(bytes, ranges, skip)) {
+        Ok(taken) => taken.rest,
+        Err(refused) => refused.state,
+    };
+    match decode_next(rest) {
+        Ok(taken) => taken.item,
+        Err(_) => &bytes[..0],
+    }
 }
