@@ -1,9 +1,8 @@
 // Registration as SszDecoderBuilder does it, in numbers alone: where the next head comes, the first offset and the last.
 ghost use Rattle.std.specs.Prelude.{◌≡◌, ◌+◌, ◌≤◌, ◌<◌, ◌^◌, length};
-ghost use Rattle.decode.specs.Builder.{fresh, or_else_just, step, register_head_lem, build};
+ghost use Rattle.decode.specs.Builder.{fresh, step, register_head_lem, build};
 
-use crate::sanitize_offset;
-use standard::words::four_at;
+use crate::{BYTES_PER_LENGTH_OFFSET, read_offset, sanitize_offset};
 use standard::{Head, Refusal};
 
 // How far registration has come.
@@ -27,15 +26,6 @@ impl Progress {
     }
 }
 
-fn or_just(known: Option<usize>, n: usize) -> Option<usize>
-    ensures { result ≡ or_else_just known n }
-{
-    match known {
-        Some(k) => Some(k),
-        None => Some(n),
-    }
-}
-
 // Registers an item that takes n bytes.
 #[tactic(auto, unfolding(crate::specs::Builder::step))]
 fn register_fixed(x: Progress, n: usize, bytes: &[u8]) -> Result<Progress, Refusal>
@@ -49,42 +39,22 @@ fn register_fixed(x: Progress, n: usize, bytes: &[u8]) -> Result<Progress, Refus
     if end > bytes.len() {
         return Err(Refusal::InvalidByteLength(bytes.len(), end));
     }
-    let first = x.first;
-    let previous = x.previous;
-    Ok(Progress {
-        pos: end,
-        first,
-        previous,
-    })
+    Ok(Progress { pos: end, ..x })
 }
 
 // Registers an item that an offset stands for. The fixed portion is not known yet.
-#[tactic(auto, unfolding(crate::specs::Builder::step))]
+#[tactic(auto, unfolding(crate::specs::Builder::step, standard::specs::Bytes::num_at))]
 fn register_variable(x: Progress, bytes: &[u8]) -> Result<Progress, Refusal>
     requires { (x.pos ≤ length bytes.now) × (length bytes.now < 2 ^ 32) }
     ensures { result ≡ step Head.Variable bytes.now x }
 {
-    let pos = x.pos;
-    let len = bytes.len();
-    let left = len - pos;
-    if left < 4 {
-        return Err(Refusal::InvalidLengthPrefix(left, 4));
-    }
-    let previous = x.previous;
-    let s = sanitize_offset(four_at(bytes, pos), previous, len, None);
-    match s {
-        Ok(o) => {
-            let known = x.first;
-            let first = or_just(known, o);
-            let next = pos + 4;
-            Ok(Progress {
-                pos: next,
-                first,
-                previous: Some(o),
-            })
-        }
-        Err(r) => Err(r),
-    }
+    let read = read_offset(&bytes[x.pos..])?;
+    let offset = sanitize_offset(read, x.previous, bytes.len(), None)?;
+    Ok(Progress {
+        pos: x.pos + BYTES_PER_LENGTH_OFFSET,
+        first: x.first.or(Some(offset)),
+        previous: Some(offset),
+    })
 }
 
 // Registers an item by its head.
@@ -108,23 +78,10 @@ pub fn register_head(x: Progress, head: Head, bytes: &[u8]) -> Result<Progress, 
 pub fn finalize(x: Progress, len: usize) -> Result<(), Refusal>
     ensures { result ≡ build len x }
 {
-    let first = x.first;
-    match first {
-        Some(o) => {
-            if o < x.pos {
-                Err(Refusal::OffsetIntoFixedPortion(o))
-            } else if o > x.pos {
-                Err(Refusal::OffsetSkipsVariableBytes(o))
-            } else {
-                Ok(())
-            }
-        }
-        None => {
-            if x.pos == len {
-                Ok(())
-            } else {
-                Err(Refusal::InvalidByteLength(len, x.pos))
-            }
-        }
+    match x.first {
+        Some(first) if first < x.pos => Err(Refusal::OffsetIntoFixedPortion(first)),
+        Some(first) if first > x.pos => Err(Refusal::OffsetSkipsVariableBytes(first)),
+        None if x.pos != len => Err(Refusal::InvalidByteLength(len, x.pos)),
+        _ => Ok(()),
     }
 }

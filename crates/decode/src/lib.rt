@@ -6,7 +6,7 @@ pub mod decoder;
 pub mod union_selector;
 
 ghost use Rattle.std.specs.Prelude.{◌≡◌};
-ghost use Rattle.decode.specs.Offsets.{is_below_lem, skips, is_above_lem, read_offset_lem, sanitize_offset_lem};
+ghost use Rattle.decode.specs.Offsets.{read_offset_lem, sanitize_offset_lem};
 ghost use Rattle.decode.specs.Unions.{split_union, union_body_lem};
 
 use standard::Refusal;
@@ -19,43 +19,10 @@ pub const BYTES_PER_LENGTH_OFFSET: usize = 4;
 pub fn read_offset(bytes: &[u8]) -> Result<usize, Refusal>
     ensures { result ≡ read_offset_lem bytes.now }
 {
-    let len = bytes.len();
-    if len < BYTES_PER_LENGTH_OFFSET {
-        Err(Refusal::InvalidLengthPrefix(len, BYTES_PER_LENGTH_OFFSET))
-    } else {
-        Ok(four_at(bytes, 0))
+    if bytes.len() < BYTES_PER_LENGTH_OFFSET {
+        return Err(Refusal::InvalidLengthPrefix(bytes.len(), BYTES_PER_LENGTH_OFFSET));
     }
-}
-
-fn is_below(offset: usize, bound: Option<usize>) -> bool
-    ensures { result ≡ is_below_lem offset bound }
-{
-    match bound {
-        Some(n) => offset < n,
-        None => false,
-    }
-}
-
-fn is_above(bound: Option<usize>, offset: usize) -> bool
-    ensures { result ≡ is_above_lem bound offset }
-{
-    match bound {
-        Some(n) => n > offset,
-        None => false,
-    }
-}
-
-// Whether a first offset leaves bytes out behind the fixed ones, where these are known.
-fn does_skip(offset: usize, previous: Option<usize>, fixed: Option<usize>) -> bool
-    ensures { result ≡ skips offset previous fixed }
-{
-    match previous {
-        Some(_) => false,
-        None => match fixed {
-            Some(n) => offset != n,
-            None => false,
-        },
-    }
+    Ok(four_at(bytes, 0))
 }
 
 // The source's four tests, in its order.
@@ -67,38 +34,32 @@ pub fn sanitize_offset(
 ) -> Result<usize, Refusal>
     ensures { result ≡ sanitize_offset_lem offset previous_offset num_bytes num_fixed_bytes }
 {
-    let into = is_below(offset, num_fixed_bytes);
-    if into {
-        return Err(Refusal::OffsetIntoFixedPortion(offset));
+    if num_fixed_bytes.is_some_and(|fixed_bytes| offset < fixed_bytes) {
+        Err(Refusal::OffsetIntoFixedPortion(offset))
+    } else if previous_offset.is_none()
+        && num_fixed_bytes.is_some_and(|fixed_bytes| offset != fixed_bytes)
+    {
+        Err(Refusal::OffsetSkipsVariableBytes(offset))
+    } else if offset > num_bytes {
+        Err(Refusal::OffsetOutOfBounds(offset))
+    } else if previous_offset.is_some_and(|previous| previous > offset) {
+        Err(Refusal::OffsetsAreDecreasing(offset))
+    } else {
+        Ok(offset)
     }
-    let leaves = does_skip(offset, previous_offset, num_fixed_bytes);
-    if leaves {
-        return Err(Refusal::OffsetSkipsVariableBytes(offset));
-    }
-    if offset > num_bytes {
-        return Err(Refusal::OffsetOutOfBounds(offset));
-    }
-    let falls = is_above(previous_offset, offset);
-    if falls {
-        return Err(Refusal::OffsetsAreDecreasing(offset));
-    }
-    Ok(offset)
 }
 
-// The selector that begins a union's bytes. The body behind it is `union_body`: an enum holds no part of a slice.
+// The selector that begins a union's bytes. The body behind it is `union_body`.
 pub fn split_union_bytes(bytes: &[u8]) -> Result<UnionSelector, Refusal>
     ensures { result ≡ split_union bytes.now }
 {
-    if bytes.len() == 0 {
-        Err(Refusal::OutOfBoundsByte(0))
-    } else {
-        UnionSelector::new(bytes[0])
-    }
+    let selector = bytes.first().ok_or(Refusal::OutOfBoundsByte(0))?;
+    UnionSelector::new(*selector)
 }
 
 // The bytes behind the selector, as a part of the caller's own; none where there is no selector.
 pub fn union_body(bytes: &[u8]) -> &[u8]
     ensures { result.now ≡ union_body_lem bytes.now }
 {
-    if bytes.len() == 0 { bytes } else { &bytes[1..] }
+    if bytes.is_empty() { bytes } else { &bytes[1..] }
 }

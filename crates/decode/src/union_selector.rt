@@ -7,15 +7,23 @@ use standard::Refusal;
 pub const MAX_UNION_SELECTOR: u8 = 127;
 
 // A number of its own kind: made from 0 to 127 alone, and no type's or field's number.
-#[derive(Clone, Copy)]
+#[derive(Clone, Copy, Debug, PartialEq, Eq)]
 pub struct UnionSelector(u8);
 
+impl From<UnionSelector> for u8 {
+    ghost from_gives = { λ selector byte. byte ≡ selector.0 };
+
+    fn from(union_selector: UnionSelector) -> u8 {
+        union_selector.0
+    }
+}
+
 impl UnionSelector {
-    pub fn new(selector: u8) -> Result<UnionSelector, Refusal>
+    pub fn new(selector: u8) -> Result<Self, Refusal>
         ensures { result ≡ selector_of selector }
     {
         if selector <= MAX_UNION_SELECTOR {
-            Ok(UnionSelector(selector))
+            Ok(Self(selector))
         } else {
             Err(Refusal::UnionSelectorInvalid(selector))
         }
