@@ -18,6 +18,7 @@ use Rattle.standard.specs.Bytes.{Bytes, num}
 use Rattle.standard.specs.Types.{Ty, Tys, Opts, number, boolean, fixed_bytes, free_bytes, bit_vector, bit_list, container, union, list, vector, end, field, over, bare, body}
 use Rattle.standard.specs.Types.{Rising, LegalTy, LegalAll, LegalOptions}
 use Rattle.standard.specs.Serialize.{Val, Vals, Option, Each, Ok, OkAll, OkOption, serialize}
+use Rattle.standard.specs.declared.Refusal.{Refusal}
 use Rattle.standard.specs.declared.Refusal.TheVariants.{BadValue, TooLarge, NoRoom}
 use Rattle.standard.proofs.Bytes.{num-le}
 use Rattle.standard.proofs.Bits.{bit_num-injective}
@@ -31,11 +32,9 @@ use Rattle.message.specs.Form.{in_order, contents, contents_all, contents_option
 use Rattle.value.specs.Walk.{Walked, upto, wrong, walk_item}
 use Rattle.value.specs.Write.{whole, walk_all, write_item_lem, written_of, write_message, written_bytes}
 use Rattle.value.specs.Steps.{IsUpto}
+use Rattle.std.specs.declared.result.Result.{Result}
 use Rattle.value.proofs.Forms.{raw-num, Formed, formed, formed-option, formed-alone, walked-alone, form-written}
 use Rattle.value.proofs.Values.{Fault, item, Says, item-said}
-use Rattle.std.specs.declared.result.Result.{Result}
-use Rattle.std.specs.declared.result.Result.TheVariants.{Err}
-use Rattle.standard.specs.declared.Refusal.{Refusal}
 
 -- Two lists with one start of one length
 same_start : (x y r s : List ℕ) → length x ≡ length y → x ++ r ≡ y ++ s → (x ≡ y) × (r ≡ s)
@@ -163,7 +162,7 @@ SomeForm t c b = (v : Val t) × IsForm t c b v
 
 -- The answer is 25.
 abbrev pub Is25 : Result ℕ Refusal → Type 0
-Is25 w = (which at : ℕ) × (w ≡ Err (BadValue which at))
+Is25 w = (which at : ℕ) × (w ≡ Result.Err (BadValue which at))
 
 module _ (t : Ty) (c b : List ℕ) where
   -- What the walk of a whole message says: nothing is left over, or there is a fault.
@@ -207,17 +206,17 @@ module _ (i j : ℕ) (x o : List ℕ) where
   never_25 : Is25 (written_of (upto i j) x o) → ⊥
   never_25 = go (ltb 4294967295 (length x)) (ltb (length o) (length x))
     where
-      go : (p q : Bool) → Is25 (pick p (Err TooLarge) (pick q (Err (NoRoom (length x) (length o))) (Ok (length x)))) → ⊥
+      go : (p q : Bool) → Is25 (pick p (Result.Err TooLarge) (pick q (Result.Err (NoRoom (length x) (length o))) (Result.Ok (length x)))) → ⊥
       go true q k = let e = k.2 in let z : ◌≡◌ {A = ℕ} 0 1 = cc in omega arith
       go false true k = let e = k.2 in let z : ◌≡◌ {A = ℕ} 0 1 = cc in omega arith
       go false false k = let e = k.2 in let z : ◌≡◌ {A = ℕ} 0 1 = cc in omega arith
 
-  length-says : (k : ℕ) → written_of (upto i j) x o ≡ Ok k → (length x ≡ k) × (length x < 2 ^ 32) × (length x ≤ length o)
+  length-says : (k : ℕ) → written_of (upto i j) x o ≡ Result.Ok k → (length x ≡ k) × (length x < 2 ^ 32) × (length x ≤ length o)
   length-says k = go (ltb 4294967295 (length x)) (ltb (length o) (length x)) refl refl
     where
       go :
           (p q : Bool) → ltb 4294967295 (length x) ≡ p → ltb (length o) (length x) ≡ q
-          → pick p (Err TooLarge) (pick q (Err (NoRoom (length x) (length o))) (Ok (length x))) ≡ Ok k
+          → pick p (Result.Err TooLarge) (pick q (Result.Err (NoRoom (length x) (length o))) (Result.Ok (length x))) ≡ Result.Ok k
           → (length x ≡ k) × (length x < 2 ^ 32) × (length x ≤ length o)
       go true q d f e = let z : ◌≡◌ {A = ℕ} 0 1 = cc in absurd (omega arith)
       go false true d f e = let z : ◌≡◌ {A = ℕ} 0 1 = cc in absurd (omega arith)
@@ -231,7 +230,7 @@ pub record Writes (t : Ty) (c b o : List ℕ) (k : ℕ) (v : Val t) : Type 0 whe
   pub room : k ≤ length o
 
 -- The call, under a legal table.
-module _ (l : List ℕ) (n : ℕ) (g : Bytes l) (e : table_of l ≡ Ok n) (c b : List ℕ) (h : Bytes b) (o : List ℕ) where
+module _ (l : List ℕ) (n : ℕ) (g : Bytes l) (e : table_of l ≡ Result.Ok n) (c b : List ℕ) (h : Bytes b) (o : List ℕ) where
   legal : LegalTy (message_type l n)
   legal = message-legal l n g e [] (omega arith)
 
@@ -247,7 +246,7 @@ module _ (l : List ℕ) (n : ℕ) (g : Bytes l) (e : table_of l ≡ Ok n) (c b :
           (w : Walked) → walk_all (message_type l n) c b ≡ w → Ends (message_type l n) c b w
           → SomeForm (message_type l n) c b ⊎ Is25 (write_message l c b o)
       go (upto i j) d p = inl p
-      go (wrong r) d p = inr (p.0, p.1, answered (wrong r) d ∙ ap Err p.2)
+      go (wrong r) d p = inr (p.0, p.1, answered (wrong r) d ∙ ap Result.Err p.2)
 
   form-answered :
       (v : Val (message_type l n)) → IsForm (message_type l n) c b v
@@ -281,19 +280,19 @@ module _ (l : List ℕ) (n : ℕ) (g : Bytes l) (e : table_of l ≡ Ok n) (c b :
   -- What is written then: the value's encoding
   pub written :
       (k : ℕ) (v : Val (message_type l n)) → Writes (message_type l n) c b o k v
-      → (write_message l c b o ≡ Ok k) × (written_bytes l c b o ≡ sets o 0 (serialize (message_type l n) v))
+      → (write_message l c b o ≡ Result.Ok k) × (written_bytes l c b o ≡ sets o 0 (serialize (message_type l n) v))
   written k v w =
       let f = w.form in
       let p = form-written l n g e v f.ok o (rw w.long w.small) (rw w.long w.room) in
       rw (f.words, f.bytes, w.long) at p
 
   -- A length is answered exactly if the form is that of a value whose encoding has it, and there is room.
-  no_length : (k : ℕ) → write_message l c b o ≡ Ok k → Is25 (write_message l c b o) → ⊥
-  no_length k d p = let e : Ok k ≡ Err (BadValue p.0 p.1) = sym d ∙ p.2 in let z : ◌≡◌ {A = ℕ} 0 1 = cc in omega arith
+  no_length : (k : ℕ) → write_message l c b o ≡ Result.Ok k → Is25 (write_message l c b o) → ⊥
+  no_length k d p = let e : Result.Ok k ≡ Result.Err (BadValue p.0 p.1) = sym d ∙ p.2 in let z : ◌≡◌ {A = ℕ} 0 1 = cc in omega arith
 
-  pub written_iff : (k : ℕ) → (write_message l c b o ≡ Ok k) ↔ ((v : Val (message_type l n)) × Writes (message_type l n) c b o k v)
+  pub written_iff : (k : ℕ) → (write_message l c b o ≡ Result.Ok k) ↔ ((v : Val (message_type l n)) × Writes (message_type l n) c b o k v)
   written_iff k = (
-    (λ (d : write_message l c b o ≡ Ok k).
+    (λ (d : write_message l c b o ≡ Result.Ok k).
         let p = form_iff.0 (no_length k d) in
         let s = length-says (length c) (length b) (serialize (message_type l n) p.0) o k (sym (form-answered p.0 p.1) ∙ d) in
         (p.0, record { form = p.1; long = s.0; small = rw s.0 at s.1; room = rw s.0 at s.2 })),

@@ -16,6 +16,7 @@ use Rattle.message.specs.Steps.{Row, row_of, is_plain}
 use Rattle.value.specs.Walk.{upto, with_body, walk_fields}
 use Rattle.value.specs.Write.{parts_from}
 use Rattle.value.specs.Steps.{cap, measured, AllPlain}
+use Rattle.value.specs.declared.measure.Mark.{Mark}
 use Rattle.value.proofs.Walks.{measured-cap}
 use Rattle.value.proofs.Rows.{Measuring, measuring_none, measuring_end}
 use Rattle.value.proofs.Plain.{Plain, plain-field, measuring_plain, measuring_short}

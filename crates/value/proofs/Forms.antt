@@ -30,6 +30,7 @@ use Rattle.message.proofs.Theorem.{message-legal}
 use Rattle.message.proofs.Copies.{contents-copies, bodies-copies}
 use Rattle.value.specs.Walk.{upto, last_bits, walk_bits, walk_item, walk_fields, walk_option}
 use Rattle.value.specs.Write.{bytes_at, with_mark, write_item_lem, parts_from, write_option, walk_all, write_message, written_bytes}
+use Rattle.std.specs.declared.result.Result.{Result}
 use Rattle.value.proofs.Copies.{walk-copies, parts-copies}
 
 -- A part x that stands in b at j, and a word that stands in c at i.
@@ -315,9 +316,9 @@ module _ (t : Ty) (v : Val t) (l : LegalTy t) (o : Ok t v) where
 
 -- The call: the form of a value within its bounds is accepted, and what is stored is the value's serialization.
 pub form-written :
-    (l : List ℕ) (n : ℕ) → Bytes l → table_of l ≡ Ok n → (v : Val (message_type l n)) → Ok (message_type l n) v → (o : List ℕ)
+    (l : List ℕ) (n : ℕ) → Bytes l → table_of l ≡ Result.Ok n → (v : Val (message_type l n)) → Ok (message_type l n) v → (o : List ℕ)
     → length (serialize (message_type l n) v) < 2 ^ 32 → length (serialize (message_type l n) v) ≤ length o
-    → (write_message l (contents (message_type l n) v) (bodies (message_type l n) v) o ≡ Ok (length (serialize (message_type l n) v)))
+    → (write_message l (contents (message_type l n) v) (bodies (message_type l n) v) o ≡ Result.Ok (length (serialize (message_type l n) v)))
     × (written_bytes l (contents (message_type l n) v) (bodies (message_type l n) v) o ≡ sets o 0 (serialize (message_type l n) v))
 unfolding write_message written_bytes
 form-written l n b e v k o small room =

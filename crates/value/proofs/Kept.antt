@@ -9,15 +9,14 @@ use lib.Seq.{sets}
 use lib.Dec.{ltb}
 use Rattle.standard.specs.Choice.{pick}
 use Rattle.standard.specs.declared.Refusal.{Refusal}
+use Rattle.std.specs.declared.result.Result.{Result}
 use Rattle.standard.specs.declared.Refusal.TheVariants.{TooLarge, NoRoom}
 use Rattle.standard.proofs.Kept.{pick-kept}
 use Rattle.layout.specs.Table.{table_of}
 use Rattle.message.specs.Check.{message_type}
 use Rattle.value.specs.Walk.{Walked, upto, wrong}
 use Rattle.value.specs.Write.{write_item_lem, walk_all, written_of, stored_of, written_under, stored_under, write_message, written_bytes}
-use Rattle.std.specs.declared.result.Result.{Result}
 use Rattle.std.specs.declared.result.Result.TheVariants.{Ok, Err}
-use Rattle.standard.specs.declared.Refusal.TheVariants.{BadLayout}
 
 length_refused : {A : Type 0} (n : ℕ) (r : Refusal) → Ok n ≡ Err r → A
 length_refused n r e = let z : ◌≡◌ {A = ℕ} 0 1 = cc in absurd (omega arith)
@@ -32,7 +31,7 @@ kept (upto i j) x o r e =
     o (pick (ltb (length o) n) o (sets o 0 x)) room e
 
 under-kept : (t : Result ℕ Refusal) (l c b o : List ℕ) (r : Refusal) → written_under t l c b o ≡ Err r → stored_under t l c b o ≡ o
-under-kept (Err (BadLayout w)) l c b o r e = refl
+under-kept (Err x) l c b o r e = refl
 under-kept (Ok n) l c b o r e = kept (walk_all (message_type l n) c b) (write_item_lem (message_type l n) c b 0 0) o r e
 
 pub write_refused : (l c b o : List ℕ) (r : Refusal) → write_message l c b o ≡ Err r → written_bytes l c b o ≡ o

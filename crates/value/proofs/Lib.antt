@@ -11,7 +11,6 @@ pub mod Fixed
 pub mod Fills
 pub mod Plain
 pub mod Made
-pub mod Calls
 pub mod Forms
 pub mod Values
 pub mod Accepts

@@ -24,6 +24,7 @@ use Rattle.value.specs.Walk.{upto, wrong, with_body, walk_item, walk_fields}
 use Rattle.value.specs.Write.{bytes_at, write_item_lem, parts_from}
 use Rattle.value.specs.Steps.{cap, measured, IsUpto}
 use Rattle.value.specs.Stores.{Put}
+use Rattle.value.specs.declared.measure.Mark.{Mark}
 use Rattle.value.specs.declared.store.Stop.{Stop}
 use Rattle.value.proofs.Walks.{length-bytes_at}
 use Rattle.value.proofs.Rows.{Measuring, measuring_next, measuring_stop}

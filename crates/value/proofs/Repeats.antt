@@ -21,6 +21,7 @@ use Rattle.message.specs.Steps.{Under, Row, row_of}
 use Rattle.message.proofs.Rows.{row_below, row-fixed, row_variable, heads-none}
 use Rattle.message.proofs.Bodies.{container-row}
 use Rattle.message.proofs.Repeats.{else_list, element-below, element-copies, element-row, shared-copies, shared-heads}
+use Rattle.std.specs.declared.result.Result.TheVariants.{Ok, Err}
 use Rattle.value.specs.Walk.{with_word, walk_item, walk_fields}
 use Rattle.value.specs.Write.{write_item_lem, parts_from}
 use Rattle.value.specs.Steps.{LaidAs}
@@ -67,7 +68,7 @@ module _ (l : List ℕ) (t : ℕ) (g : Legal l (t + 1)) (f : t < 64) (n : Node) 
   under : Under (filled l (t + 1)) l (t + 1)
   under = record { legal = g; few = omega arith; room = length-filled l (t + 1) (omega arith); found = λ x h. filled-get l (t + 1) x h }
 
-  pub laid-container : n.kind ≡ 6 → LaidAs l t c i (Laid.Fields (n.at + 2) 1 n.second i)
+  pub laid-container : n.kind ≡ 6 → LaidAs l t c i (Ok (Laid.Fields (n.at + 2) 1 n.second i))
   laid-container q =
       record {
         row = λ lens u. container-row lens l t n e u q;
@@ -78,7 +79,7 @@ module _ (l : List ℕ) (t : ℕ) (g : Legal l (t + 1)) (f : t < 64) (n : Node) 
 
   module _ (k : 8 ≤ n.kind) where
     module _ (m : ℕ) (d : m ≡ word_at l (n.at + 2)) where
-      pub laid-vector : n.kind ≡ 9 → m < 2 ^ 32 → LaidAs l t c i (Laid.Fields (n.at + 1) 0 m i)
+      pub laid-vector : n.kind ≡ 9 → m < 2 ^ 32 → LaidAs l t c i (Ok (Laid.Fields (n.at + 1) 0 m i))
       laid-vector q h =
           record {
             row = λ lens u. element-row lens l t n e u k m h;
@@ -91,23 +92,24 @@ module _ (l : List ℕ) (t : ℕ) (g : Legal l (t + 1)) (f : t < 64) (n : Node) 
         kind-list : n.kind ≡ 8
         kind-list = else_list (filled l (t + 1)) l t n e under k z
 
-        pub laid_missing : length c ≤ i → LaidAs l t c i (Laid.Wrong (BadValue 0 (length c)))
+        pub laid_missing : length c ≤ i → LaidAs l t c i (Err (BadValue 0 (length c)))
         laid_missing h b j = rw (list-walk (filled l (t + 1)) l t n e under k c b i j kind-list, le-ltb i (length c) h)
 
         module _ (h : i < length c) where
-          pub laid-over : m < get_or c i 0 → LaidAs l t c i (Laid.Wrong (BadValue 0 i))
-          laid-over o b j =
-              rw (list-walk (filled l (t + 1)) l t n e under k c b i j kind-list, lt-ltb i (length c) h, ← d, lt-leb (get_or c i 0) m o)
+          module _ (x : ℕ) (y : x ≡ get_or c i 0) where
+            pub laid-over : m < x → LaidAs l t c i (Err (BadValue 0 i))
+            laid-over o b j =
+                rw (list-walk (filled l (t + 1)) l t n e under k c b i j kind-list, lt-ltb i (length c) h, ← d, ← y, lt-leb x m o)
 
-          pub laid-list : get_or c i 0 ≤ m → get_or c i 0 < 2 ^ 32 → LaidAs l t c i (Laid.Fields (n.at + 1) 0 (get_or c i 0) (i + 1))
-          laid-list o s =
-              record {
-                row = λ lens u. element-row lens l t n e u k (get_or c i 0) s;
-                small = s;
-                walk = λ b j.
-                    rw (list-walk (filled l (t + 1)) l t n e under k c b i j kind-list, lt-ltb i (length c) h, ← d, le-leb (get_or c i 0) m o);
-                write = λ b j. list-write (filled l (t + 1)) l t n e under k c b i j kind-list;
-              }
+            pub laid-list : x ≤ m → x < 2 ^ 32 → LaidAs l t c i (Ok (Laid.Fields (n.at + 1) 0 x (i + 1)))
+            laid-list o s =
+                record {
+                  row = λ lens u. element-row lens l t n e u k x s;
+                  small = s;
+                  walk = λ b j.
+                      rw (list-walk (filled l (t + 1)) l t n e under k c b i j kind-list, lt-ltb i (length c) h, ← d, ← y, le-leb x m o);
+                  write = λ b j. rw y (list-write (filled l (t + 1)) l t n e under k c b i j kind-list);
+                }
 
 -- Elements of fixed size are of their length together, others have an offset each.
 some_factor : (n k : ℕ) → 0 < n * k → 0 < k

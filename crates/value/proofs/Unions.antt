@@ -15,6 +15,9 @@ use Rattle.layout.specs.Tree.{node_of, leaf_of, options, trees, tree_of}
 use Rattle.layout.specs.Legal.{LowerOrBare, LegalNode, Legal}
 use Rattle.layout.specs.declared.Node.{Node}
 use Rattle.layout.proofs.Facts.{trees-get, as_union, legal_node}
+use Rattle.std.specs.declared.result.Result.{Result}
+use Rattle.std.specs.declared.result.Result.TheVariants.{Ok, Err}
+use Rattle.standard.specs.declared.Refusal.{Refusal}
 use Rattle.value.specs.Walk.{Walked, upto, wrong, walk_item, walk_option}
 use Rattle.value.specs.Write.{write_item_lem, write_option}
 use Rattle.value.specs.Steps.{choose, LaidAs}
@@ -112,44 +115,44 @@ module _ (l : List ℕ) (a n : ℕ) (c : List ℕ) (i : ℕ) where
   w : ℕ
   w = word_at l (a + get_or c i 0)
 
-  Cases : Bool → Bool → Bool → Laid
-  Cases p q r = pick p (pick q (pick r Laid.Bare (Laid.Body w)) (Laid.Wrong (BadValue 0 i))) (Laid.Wrong (BadValue 0 (length c)))
+  Cases : Bool → Bool → Bool → Result Laid Refusal
+  Cases p q r = pick p (pick q (Ok (pick r Laid.Bare (Laid.Body w))) (Err (BadValue 0 i))) (Err (BadValue 0 (length c)))
 
-  chosen-bare : Laid.Bare ≡ choose l a n c i → (ltb i (length c) ≡ true) × (ltb (get_or c i 0) n ≡ true) × (eqb w 4294967295 ≡ true)
+  chosen-bare : Ok Laid.Bare ≡ choose l a n c i → (ltb i (length c) ≡ true) × (ltb (get_or c i 0) n ≡ true) × (eqb w 4294967295 ≡ true)
   unfolding choose w Cases
   chosen-bare e = go (ltb i (length c)) (ltb (get_or c i 0) n) (eqb w 4294967295) refl refl refl e
     where
-      go : (p q r : Bool) → ltb i (length c) ≡ p → ltb (get_or c i 0) n ≡ q → eqb w 4294967295 ≡ r → Laid.Bare ≡ Cases p q r →
+      go : (p q r : Bool) → ltb i (length c) ≡ p → ltb (get_or c i 0) n ≡ q → eqb w 4294967295 ≡ r → Ok Laid.Bare ≡ Cases p q r →
           (ltb i (length c) ≡ true) × (ltb (get_or c i 0) n ≡ true) × (eqb w 4294967295 ≡ true)
       go true true true f g h e = (f, g, h)
       go true true false f g h e = let z : ◌≡◌ {A = ℕ} 0 1 = cc in absurd (omega arith)
       go true false r f g h e = let z : ◌≡◌ {A = ℕ} 0 1 = cc in absurd (omega arith)
       go false q r f g h e = let z : ◌≡◌ {A = ℕ} 0 1 = cc in absurd (omega arith)
 
-  chosen-body : (o : ℕ) → Laid.Body o ≡ choose l a n c i → (ltb i (length c) ≡ true) × (ltb (get_or c i 0) n ≡ true) × (eqb w 4294967295 ≡ false) × (o ≡ w)
+  chosen-body : (o : ℕ) → Ok (Laid.Body o) ≡ choose l a n c i → (ltb i (length c) ≡ true) × (ltb (get_or c i 0) n ≡ true) × (eqb w 4294967295 ≡ false) × (o ≡ w)
   unfolding choose w Cases
   chosen-body o e = go (ltb i (length c)) (ltb (get_or c i 0) n) (eqb w 4294967295) refl refl refl e
     where
-      go : (p q r : Bool) → ltb i (length c) ≡ p → ltb (get_or c i 0) n ≡ q → eqb w 4294967295 ≡ r → Laid.Body o ≡ Cases p q r →
+      go : (p q r : Bool) → ltb i (length c) ≡ p → ltb (get_or c i 0) n ≡ q → eqb w 4294967295 ≡ r → Ok (Laid.Body o) ≡ Cases p q r →
           (ltb i (length c) ≡ true) × (ltb (get_or c i 0) n ≡ true) × (eqb w 4294967295 ≡ false) × (o ≡ w)
       go true true true f g h e = let z : ◌≡◌ {A = ℕ} 0 1 = cc in absurd (omega arith)
       go true true false f g h e = (f, g, h, cc)
       go true false r f g h e = let z : ◌≡◌ {A = ℕ} 0 1 = cc in absurd (omega arith)
       go false q r f g h e = let z : ◌≡◌ {A = ℕ} 0 1 = cc in absurd (omega arith)
 
-  abbrev wrong_of : Laid → Walked → Type 0
-  wrong_of (Laid.Wrong x) y = y ≡ wrong x
-  wrong_of Laid.Bare y = Unit {0}
-  wrong_of (Laid.Body o) y = Unit {0}
-  wrong_of (Laid.Fields a b c d) y = ⊥
+  abbrev wrong_of : Result Laid Refusal → Walked → Type 0
+  wrong_of (Err x) y = y ≡ wrong x
+  wrong_of (Ok Laid.Bare) y = Unit {0}
+  wrong_of (Ok (Laid.Body o)) y = Unit {0}
+  wrong_of (Ok (Laid.Fields a b c d)) y = ⊥
 
   chosen-wrong : (lower : List Ty) (b : List ℕ) (j : ℕ) → wrong_of (choose l a n c i)
       (pick (ltb i (length c)) (walk_found c b i j (pick (ltb (get_or c i 0) n) (found_at lower w) nothing)) (wrong (BadValue 0 (length c))))
   unfolding choose w
   chosen-wrong lower b j = go (ltb i (length c)) (ltb (get_or c i 0) n) (eqb w 4294967295)
     where
-      go : (p q r : Bool) → wrong_of (pick p (pick q (pick r Laid.Bare (Laid.Body w)) (Laid.Wrong (BadValue 0 i)))
-          (Laid.Wrong (BadValue 0 (length c)))) (pick p (walk_found c b i j (pick q (found_at lower w) nothing)) (wrong (BadValue 0 (length c))))
+      go : (p q r : Bool) → wrong_of (pick p (pick q (Ok (pick r Laid.Bare (Laid.Body w))) (Err (BadValue 0 i)))
+          (Err (BadValue 0 (length c)))) (pick p (walk_found c b i j (pick q (found_at lower w) nothing)) (wrong (BadValue 0 (length c))))
       go true true true = tt
       go true true false = tt
       go true false r = refl
@@ -181,10 +184,10 @@ module _ (l : List ℕ) (t : ℕ) (r : Node) (e : r ≡ node_of l t) (k : r.kind
   few : LegalNode l t r
   few = legal_node l t r e g
 
-  pub laid-union : (x : Laid) → x ≡ choose l (r.at + 2) r.second c i → LaidAs l t c i x
+  pub laid-union : (x : Result Laid Refusal) → x ≡ choose l (r.at + 2) r.second c i → LaidAs l t c i x
   unfolding w LowerOrBare
-  laid-union (Laid.Fields a b n p) q = absurd (rw (← q) at (chosen-wrong l (r.at + 2) r.second c i (trees l t) [] 0))
-  laid-union Laid.Bare q =
+  laid-union (Ok (Laid.Fields a b n p)) q = absurd (rw (← q) at (chosen-wrong l (r.at + 2) r.second c i (trees l t) [] 0))
+  laid-union (Ok Laid.Bare) q =
       let p = chosen-bare l (r.at + 2) r.second c i q in
       record {
         there = ltb-true _ _ p.0;
@@ -192,7 +195,7 @@ module _ (l : List ℕ) (t : ℕ) (r : Node) (e : r ≡ node_of l t) (k : r.kind
         walk = λ b j. union-walk b j ∙ rw (p.0, p.1, p.2);
         write = λ b j. union-write b j ∙ rw (p.1, p.2);
       }
-  laid-union (Laid.Body o) q =
+  laid-union (Ok (Laid.Body o)) q =
       let p = chosen-body l (r.at + 2) r.second c i o q in
       let h : o < t = rw p.3 (few.optional k (get_or c i 0) (ltb-true _ _ p.1) (eqb-false _ _ p.2)) in
       let y = trees-get l t o (boolean 0) h in (
@@ -204,7 +207,7 @@ module _ (l : List ℕ) (t : ℕ) (r : Node) (e : r ≡ node_of l t) (k : r.kind
           write = λ b j. union-write b j ∙ rw (p.1, p.2, ← p.3, y);
         },
       )
-  laid-union (Laid.Wrong x) q = λ b j. union-walk b j ∙ rw (← q) at (chosen-wrong l (r.at + 2) r.second c i (trees l t) b j)
+  laid-union (Err x) q = λ b j. union-walk b j ∙ rw (← q) at (chosen-wrong l (r.at + 2) r.second c i (trees l t) b j)
 
 -- A leaf's number is no matter.
 module _ (t : ℕ) (n : Node) where

@@ -12,6 +12,7 @@ use Rattle.message.specs.Steps.{Under, Row, row_of}
 use Rattle.value.specs.Walk.{Walked, upto, wrong, with_body, walk_item, walk_fields}
 use Rattle.value.specs.Write.{write_item_lem, parts_from}
 use Rattle.value.specs.declared.laid.Laid.{Laid}
+use Rattle.value.specs.declared.measure.Mark.{Mark}
 use Rattle.std.specs.declared.result.Result.{Result}
 use Rattle.std.specs.declared.result.Result.TheVariants.{Ok, Err}
 use Rattle.standard.specs.declared.Refusal.{Refusal}
@@ -39,14 +40,14 @@ extra Variable = 4
 abbrev pub laid_at : ℕ → Laid
 laid_at w = pick (eqb w 4294967295) Laid.Bare (Laid.Body w)
 
-abbrev pub laid_of : List ℕ → ℕ → ℕ → ℕ → ℕ → Laid
-laid_of l a n k i = pick (ltb k n) (laid_at (word_at l (a + k))) (Laid.Wrong (BadValue 0 i))
+abbrev pub laid_of : List ℕ → ℕ → ℕ → ℕ → ℕ → Result Laid Refusal
+laid_of l a n k i = pick (ltb k n) (Ok (laid_at (word_at l (a + k)))) (Err (BadValue 0 i))
 
-unfoldable pub choose : List ℕ → ℕ → ℕ → List ℕ → ℕ → Laid
+unfoldable pub choose : List ℕ → ℕ → ℕ → List ℕ → ℕ → Result Laid Refusal
 choose l a n c i =
     pick (ltb i (length c))
     (laid_of l a n (get_or c i 0) i)
-    (Laid.Wrong (BadValue 0 (length c)))
+    (Err (BadValue 0 (length c)))
 
 -- A walk without fault
 abbrev pub IsUpto : Walked → Type 0
@@ -69,12 +70,12 @@ pub record AsOption (l : List ℕ) (t : ℕ) (c : List ℕ) (i : ℕ) (of : List
   pub write : (b : List ℕ) (j : ℕ) → write_item_lem (tree_of l t) c b i j ≡ get_or c i 0 ∷ x b j
 
 -- What the item of the type t, which starts at the contents word i, is made of
-abbrev pub LaidAs : List ℕ → ℕ → List ℕ → ℕ → Laid → Type 0
-LaidAs l t c i (Laid.Fields a step n p) = AsRow l t c i a step n p
-LaidAs l t c i Laid.Bare = AsOption l t c i (λ b j. upto (i + 1) j) (λ b j. [])
-LaidAs l t c i (Laid.Body o) =
+abbrev pub LaidAs : List ℕ → ℕ → List ℕ → ℕ → Result Laid Refusal → Type 0
+LaidAs l t c i (Ok (Laid.Fields a step n p)) = AsRow l t c i a step n p
+LaidAs l t c i (Ok Laid.Bare) = AsOption l t c i (λ b j. upto (i + 1) j) (λ b j. [])
+LaidAs l t c i (Ok (Laid.Body o)) =
     (o < t) × AsOption l t c i (λ b j. walk_item (tree_of l o) c b (i + 1) j) (λ b j. write_item_lem (tree_of l o) c b (i + 1) j)
-LaidAs l t c i (Laid.Wrong r) = (b : List ℕ) (j : ℕ) → walk_item (tree_of l t) c b i j ≡ wrong r
+LaidAs l t c i (Err r) = (b : List ℕ) (j : ℕ) → walk_item (tree_of l t) c b i j ≡ wrong r
 
 -- What is measured of these fields is what is measured of n bytes of the bodies.
 unfoldable pub AllPlain : Tys → ℕ → Type 0

@@ -5,7 +5,7 @@ use Rattle.standard.specs.Choice.{pick}
 use Rattle.standard.specs.Types.{Ty, Tys, Opts, number, boolean, fixed_bytes, free_bytes, bit_vector, bit_list, container, union, list, vector, end, field, over, bare, body, head}
 use Rattle.standard.specs.Parts.{Part, piece, join}
 use Rattle.standard.specs.declared.Head.{Head}
-use Rattle.standard.specs.declared.Refusal.TheVariants.{BadLayout, TooLarge, NoRoom, BadValue}
+use Rattle.standard.specs.declared.Refusal.TheVariants.{TooLarge, NoRoom, BadValue}
 use Rattle.layout.specs.Table.{table_of}
 use Rattle.message.specs.Read.{raw_bytes_lem}
 use Rattle.message.specs.Check.{message_type}
@@ -86,11 +86,11 @@ stored_of (upto i j) x o = pick (ltb 4294967295 (length x)) o (pick (ltb (length
 
 -- Under a table
 abbrev pub written_under : Result ℕ Refusal → List ℕ → List ℕ → List ℕ → List ℕ → Result ℕ Refusal
-written_under (Err (BadLayout w)) l c b o = Err (BadLayout w)
+written_under (Err r) l c b o = Err r
 written_under (Ok n) l c b o = written_of (walk_all (message_type l n) c b) (write_item_lem (message_type l n) c b 0 0) o
 
 abbrev pub stored_under : Result ℕ Refusal → List ℕ → List ℕ → List ℕ → List ℕ → List ℕ
-stored_under (Err (BadLayout w)) l c b o = o
+stored_under (Err r) l c b o = o
 stored_under (Ok n) l c b o = stored_of (walk_all (message_type l n) c b) (write_item_lem (message_type l n) c b 0 0) o
 
 -- The call: what it answers, and what its buffer is afterwards

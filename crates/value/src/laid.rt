@@ -4,20 +4,24 @@ ghost use Rattle.layout.specs.Tree.{node_of};
 ghost use Rattle.layout.specs.Legal.{Legal};
 ghost use Rattle.value.specs.Steps.{choose, laid_of, laid_at, LaidAs};
 
-use crate::words::word_in;
+use crate::words::{content_at, word_in};
 use decode::union_selector::UnionSelector;
 use layout::{NO_BODY, Node};
 use standard::Refusal;
 use standard::words::word_at;
 
 // Of a row: the table's word that names the first, how many words apart they are named, how many they are, and the contents word that
-// theirs start with. Of a union: an option without body, the type of a body. Or a refusal.
+// theirs start with. Of a union: an option without body, the type of a body.
 #[derive(Clone, Copy)]
 pub(crate) enum Laid {
-    Fields(usize, usize, usize, usize),
+    Fields {
+        first: usize,
+        step: usize,
+        count: usize,
+        word: usize,
+    },
     Bare,
     Body(usize),
-    Wrong(Refusal),
 }
 
 // The option whose word is w.
@@ -32,50 +36,58 @@ fn option_at(w: usize) -> Laid
 }
 
 // The option that the selector names among the n whose words stand from a on. Its contents word is the one at i.
-fn option_of(layout: &[u8], a: usize, n: usize, selector: UnionSelector, i: usize) -> Laid
+fn option_of(
+    layout: &[u8],
+    a: usize,
+    n: usize,
+    selector: UnionSelector,
+    i: usize,
+) -> Result<Laid, Refusal>
     requires { a < 2 ^ 34 }
     ensures { result ≡ laid_of layout.now a n selector.0 i }
 {
-    let byte = selector.get();
-    let k = byte as usize;
+    let k = selector.get() as usize;
     if k >= n {
-        return Laid::Wrong(Refusal::BadValue(0, i));
+        return Err(Refusal::BadValue(0, i));
     }
-    let place = a + k;
-    let w = word_at(layout, place);
-    option_at(w)
+    Ok(option_at(word_at(layout, a + k)))
 }
 
 // What the contents word at i chooses among the n options that the words from a on name. No table has more than 128 options.
-fn select(layout: &[u8], a: usize, n: usize, contents: &[u32], i: usize) -> Laid
+fn select(layout: &[u8], a: usize, n: usize, contents: &[u32], i: usize) -> Result<Laid, Refusal>
     requires { (a < 2 ^ 34) × (n ≤ 128) }
     ensures { result ≡ choose layout.now a n contents.now i }
 {
-    let words = contents.len();
-    if i >= words {
-        return Laid::Wrong(Refusal::BadValue(0, words));
-    }
-    let k = contents[i];
+    let k = content_at(contents, i)?;
     if k > 127 {
-        return Laid::Wrong(Refusal::BadValue(0, i));
+        return Err(Refusal::BadValue(0, i));
     }
-    let byte = k as u8;
-    let s = UnionSelector::new(byte);
-    match s {
-        Ok(selector) => option_of(layout, a, n, selector, i),
-        Err(_) => Laid::Wrong(Refusal::BadValue(0, i)),
-    }
+    let Ok(selector) = UnionSelector::new(k as u8) else {
+        return Err(Refusal::BadValue(0, i));
+    };
+    option_of(layout, a, n, selector, i)
 }
 
 // What the item of the type t is made of, whose words are n: t only says whose. Fields are named by a word each, elements share one. A
 // vector's count is in the table, a list's is the contents word before its elements.
-pub(crate) fn lay(layout: &[u8], t: usize, n: Node, contents: &[u32], i: usize) -> Laid
+pub(crate) fn lay(
+    layout: &[u8],
+    t: usize,
+    n: Node,
+    contents: &[u32],
+    i: usize,
+) -> Result<Laid, Refusal>
     requires { Legal layout.now (t + 1) × (t < 64) × (n ≡ node_of layout.now t) × (6 ≤ n.kind) }
     ensures { LaidAs layout.now t contents.now i result }
 {
     let third = n.at + 2;
     if n.kind == 6 {
-        return Laid::Fields(third, 1, n.second, i);
+        return Ok(Laid::Fields {
+            first: third,
+            step: 1,
+            count: n.second,
+            word: i,
+        });
     }
     if n.kind == 7 {
         return select(layout, third, n.second, contents, i);
@@ -83,16 +95,21 @@ pub(crate) fn lay(layout: &[u8], t: usize, n: Node, contents: &[u32], i: usize) 
     let most = word_in(layout, third);
     let element = n.at + 1;
     if n.kind == 9 {
-        return Laid::Fields(element, 0, most, i);
+        return Ok(Laid::Fields {
+            first: element,
+            step: 0,
+            count: most,
+            word: i,
+        });
     }
-    let words = contents.len();
-    if i >= words {
-        return Laid::Wrong(Refusal::BadValue(0, words));
+    let count = content_at(contents, i)?;
+    if count > most {
+        return Err(Refusal::BadValue(0, i));
     }
-    let m = contents[i] as usize;
-    if m > most {
-        return Laid::Wrong(Refusal::BadValue(0, i));
-    }
-    let word = i + 1;
-    Laid::Fields(element, 0, m, word)
+    Ok(Laid::Fields {
+        first: element,
+        step: 0,
+        count,
+        word: i + 1,
+    })
 }

@@ -25,47 +25,41 @@ fn write_under(
     bodies: &[u8],
 ) -> Result<usize, Refusal>
     requires { Under lens.now layout.now n × (1 ≤ n) }
-    ensures value { result ≡ written_under (Upto n) layout.now contents.now bodies.now out.old }
-    ensures out_after { out.new ≡ stored_under (Upto n) layout.now contents.now bodies.now out.old }
+    ensures value { result ≡ written_under (Ok n) layout.now contents.now bodies.now out.old }
+    ensures out_after { out.new ≡ stored_under (Ok n) layout.now contents.now bodies.now out.old }
 {
     let last = n - 1;
-    let r = measure_item(lens, layout, last, contents, bodies, 0, 0);
-    match r {
-        Err(x) => Err(x),
-        Ok(m) => {
-            let word = m.word;
-            let byte = m.byte;
-            let len = m.len;
-            if word < contents.len() {
-                return Err(Refusal::BadValue(0, word));
-            }
-            if byte < bodies.len() {
-                return Err(Refusal::BadValue(1, byte));
-            }
-            if len > 4294967295 {
-                return Err(Refusal::TooLarge);
-            }
-            let room = out.len();
-            if len > room {
-                return Err(Refusal::NoRoom(len, room));
-            }
-            write_item(out, 0, lens, layout, last, contents, bodies, 0, 0);
-            Ok(len)
-        }
+    let m = measure_item(lens, layout, last, contents, bodies, 0, 0)?;
+    if m.word < contents.len() {
+        return Err(Refusal::BadValue(0, m.word));
     }
+    if m.byte < bodies.len() {
+        return Err(Refusal::BadValue(1, m.byte));
+    }
+    if m.len > 4294967295 {
+        return Err(Refusal::TooLarge);
+    }
+    let room = out.len();
+    if m.len > room {
+        return Err(Refusal::NoRoom(m.len, room));
+    }
+    write_item(out, 0, lens, layout, last, contents, bodies, 0, 0);
+    Ok(m.len)
 }
 
 // Writes the message whose value has this form: 20 for a bad table, 25 for the first fault of the form, 21 for 2^32 bytes or more, then
 // 22 (bytes needed, room).
 #[tactic(auto, unfolding(crate::specs::Write::write_message, crate::specs::Write::written_bytes))]
-pub fn write(layout: &[u8], contents: &[u32], bodies: &[u8], out: &mut [u8]) -> Result<usize, Refusal>
+pub fn write(
+    layout: &[u8],
+    contents: &[u32],
+    bodies: &[u8],
+    out: &mut [u8],
+) -> Result<usize, Refusal>
     ensures value { result ≡ write_message layout.now contents.now bodies.now out.old }
     ensures out_after { out.new ≡ written_bytes layout.now contents.now bodies.now out.old }
 {
     let mut lens = [0u32; 64];
-    let c = table_of(&mut lens, layout);
-    match c {
-        Err(e) => Err(e),
-        Ok(n) => write_under(out, &lens, layout, n, contents, bodies),
-    }
+    let n = table_of(&mut lens, layout)?;
+    write_under(out, &lens, layout, n, contents, bodies)
 }

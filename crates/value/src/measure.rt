@@ -13,7 +13,7 @@ ghost use Rattle.value.specs.Steps.{cap, measured, selected, extra, AllPlain};
 ghost use Rattle.value.specs.declared.measure.Mark.{Mark};
 
 use crate::laid::{Laid, lay};
-use crate::words::{look_in, word_in};
+use crate::words::{content_at, look_in, word_in};
 use layout::Node;
 use standard::Refusal;
 
@@ -134,42 +134,50 @@ fn measure_bits(bodies: &[u8], k: usize, i: usize, j: usize, n: usize) -> Result
 
 // Free bytes up to their limit.
 #[tactic(auto, unfolding(crate::specs::Walk::walk_item))]
-fn measure_free(contents: &[u32], bodies: &[u8], i: usize, j: usize, limit: usize) -> Result<Mark, Refusal>
+fn measure_free(
+    contents: &[u32],
+    bodies: &[u8],
+    i: usize,
+    j: usize,
+    limit: usize,
+) -> Result<Mark, Refusal>
     ensures { result ≡ measured (walk_item (free_bytes 0 limit) contents.now bodies.now i j) (get_or contents.now i 0) }
 {
-    let words = contents.len();
-    if i >= words {
-        return Err(Refusal::BadValue(0, words));
-    }
-    let n = contents[i] as usize;
+    let n = content_at(contents, i)?;
     if n > limit {
         return Err(Refusal::BadValue(0, i));
     }
-    let next = i + 1;
-    measure_exact(bodies, next, j, n)
+    measure_exact(bodies, i + 1, j, n)
 }
 
 // A bit list of at most limit bits.
 #[tactic(auto, unfolding(crate::specs::Walk::walk_item))]
-fn measure_list(contents: &[u32], bodies: &[u8], i: usize, j: usize, limit: usize) -> Result<Mark, Refusal>
+fn measure_list(
+    contents: &[u32],
+    bodies: &[u8],
+    i: usize,
+    j: usize,
+    limit: usize,
+) -> Result<Mark, Refusal>
     ensures { result ≡ measured (walk_item (bit_list 0 limit) contents.now bodies.now i j) (get_or contents.now i 0 / 8 + 1) }
 {
-    let words = contents.len();
-    if i >= words {
-        return Err(Refusal::BadValue(0, words));
-    }
-    let k = contents[i] as usize;
+    let k = content_at(contents, i)?;
     if k > limit {
         return Err(Refusal::BadValue(0, i));
     }
-    let next = i + 1;
     let n = k / 8 + 1;
-    measure_bits(bodies, k, next, j, n)
+    measure_bits(bodies, k, i + 1, j, n)
 }
 
 // An item of a type that has no lower types.
 #[tactic(auto, unfolding(crate::specs::Walk::walk_item, crate::specs::Write::write_item_lem, layout::specs::Tree::leaf_of))]
-fn measure_leaf(n: Node, contents: &[u32], bodies: &[u8], i: usize, j: usize) -> Result<Mark, Refusal>
+fn measure_leaf(
+    n: Node,
+    contents: &[u32],
+    bodies: &[u8],
+    i: usize,
+    j: usize,
+) -> Result<Mark, Refusal>
     ensures { result ≡ measured (walk_item (leaf_of 0 n) contents.now bodies.now i j) (length (write_item_lem (leaf_of 0 n) contents.now bodies.now i j)) }
 {
     let kind = n.kind;
@@ -194,19 +202,12 @@ fn measure_leaf(n: Node, contents: &[u32], bodies: &[u8], i: usize, j: usize) ->
 }
 
 // A union's selector byte, with what its body has.
-fn with_selector(r: Result<Mark, Refusal>) -> Result<Mark, Refusal>
-    ensures { result ≡ selected r }
+fn with_selector(m: Mark) -> Mark
+    ensures { Ok result ≡ selected (Ok m) }
 {
-    match r {
-        Ok(m) => {
-            let len = add(1, m.len);
-            Ok(Mark {
-                word: m.word,
-                byte: m.byte,
-                len,
-            })
-        }
-        Err(x) => Err(x),
+    Mark {
+        len: add(1, m.len),
+        ..m
     }
 }
 
@@ -255,29 +256,30 @@ pub(crate) fn measure_item(
     if n.kind < 6 {
         return measure_leaf(n, contents, bodies, i, j);
     }
-    let made = lay(layout, t, n, contents, i);
-    match made {
-        Laid::Fields(first, step, m, word) => {
-            let all = plain_bytes(lens, layout, t, first, step, m);
+    match lay(layout, t, n, contents, i)? {
+        Laid::Fields {
+            first,
+            step,
+            count,
+            word,
+        } => {
+            let all = plain_bytes(lens, layout, t, first, step, count);
             if all > 0 {
                 return measure_exact(bodies, word, j, all);
             }
-            measure_fields(lens, layout, t, first, step, m, contents, bodies, word, j)
+            measure_fields(
+                lens, layout, t, first, step, count, contents, bodies, word, j,
+            )
         }
-        Laid::Bare => {
-            let word = i + 1;
-            Ok(Mark {
-                word,
-                byte: j,
-                len: 1,
-            })
-        }
+        Laid::Bare => Ok(Mark {
+            word: i + 1,
+            byte: j,
+            len: 1,
+        }),
         Laid::Body(o) => {
-            let word = i + 1;
-            let r = measure_item(lens, &layout[..], o, contents, bodies, word, j);
-            with_selector(r)
+            let m = measure_item(lens, &layout[..], o, contents, bodies, i + 1, j)?;
+            Ok(with_selector(m))
         }
-        Laid::Wrong(x) => Err(x),
     }
 }
 
@@ -324,14 +326,10 @@ fn measure_fields(
         } else {
             measure_item(lens, &layout[..], f, contents, bodies, i, j)
         };
-        match r {
-            Ok(m) => {
-                sum = add(sum, with_offset(k, m.len));
-                i = m.word;
-                j = m.byte;
-            }
-            Err(x) => return Err(x),
-        }
+        let m = r?;
+        sum = add(sum, with_offset(k, m.len));
+        i = m.word;
+        j = m.byte;
     }
     Ok(Mark {
         word: i,

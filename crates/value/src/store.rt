@@ -184,14 +184,23 @@ pub(crate) fn write_item(
     if n.kind < 6 {
         return put_leaf(out, at, n, contents, bodies, i, j);
     }
-    let made = lay(layout, t, n, contents, i);
+    let Ok(made) = lay(layout, t, n, contents, i) else {
+        unreachable!()
+    };
     match made {
-        Laid::Fields(a, step, m, w) => {
-            let all = copied_bytes(lens, layout, t, a, step, m);
+        Laid::Fields {
+            first,
+            step,
+            count,
+            word,
+        } => {
+            let all = copied_bytes(lens, layout, t, first, step, count);
             if all > 0 {
-                return put_part(out, at, bodies, w, j, all);
+                return put_part(out, at, bodies, word, j, all);
             }
-            write_fields(out, at, lens, layout, t, a, step, m, contents, bodies, w, j)
+            write_fields(
+                out, at, lens, layout, t, first, step, count, contents, bodies, word, j,
+            )
         }
         Laid::Bare => put_selector(out, at, contents, i, j),
         Laid::Body(o) => {
@@ -208,11 +217,6 @@ pub(crate) fn write_item(
                 s.byte,
             )
         }
-        Laid::Wrong(_) => Stop {
-            word: i,
-            byte: j,
-            to: at,
-        },
     }
 }
 

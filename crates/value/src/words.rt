@@ -1,12 +1,24 @@
 // The words of a table that is known to be legal: they are there, so none is compared with the table's length.
-ghost use Rattle.std.specs.Prelude.{◌≡◌, ◌+◌, ◌<◌, ◌^◌};
+ghost use Rattle.std.specs.Prelude.{◌≡◌, ◌+◌, ◌≤◌, ◌<◌, ◌^◌, length, get_or, MatchResult};
+ghost use Rattle.standard.specs.declared.Refusal.TheVariants.{BadValue};
 ghost use Rattle.standard.specs.Bytes.{word_at};
 ghost use Rattle.layout.specs.Table.{count};
 ghost use Rattle.layout.specs.Tree.{node_of};
 ghost use Rattle.layout.specs.Legal.{Legal};
 
 use layout::Node;
+use standard::Refusal;
 use standard::words::{four_at, word_at};
+
+// The contents word at i. Where there is none, the refusal names the end of the contents.
+pub(crate) fn content_at(contents: &[u32], i: usize) -> Result<usize, Refusal>
+    ensures { MatchResult result (λ k. (i < length contents.now) × (k ≡ get_or contents.now i 0)) (λ r. (length contents.now ≤ i) × (r ≡ BadValue 0 (length contents.now))) }
+{
+    match contents.get(i) {
+        Some(w) => Ok(*w as usize),
+        None => Err(Refusal::BadValue(0, contents.len())),
+    }
+}
 
 // The i-th word.
 #[tactic(auto, unfolding(layout::specs::Table::count))]

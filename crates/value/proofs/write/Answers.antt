@@ -1,5 +1,5 @@
 -- As the table goes. Assumes nothing.
-use Rattle.std.proofs.Common.{◌∙◌, sym}
+use Rattle.std.proofs.Common.{sym}
 use Rattle.standard.proofs.Bytes.{bytes-known}
 use Rattle.layout.proofs.Tables.{table_known}
 use Rattle.message.proofs.Rows.{under_table}
@@ -7,6 +7,5 @@ use Rattle.value.proofs.write.Goals as goal
 
 pub write_under-requires : goal.write_under-requires
 write_under-requires c =
-    let e = sym c.table_of-c.ensures.value ∙ c.in-Upto.is in
-    let k = table_known _ _ _ (bytes-known _ (λ i. (c.type_inv.layout i).fits)) e c.table_of-c.ensures.lens_after in
+    let k = table_known _ _ _ (bytes-known _ (λ i. (c.type_inv.layout i).fits)) (sym c.in_ok-n.ensures.value) c.in_ok-n.ensures.lens_after in
     (under_table _ _ _ k.0, k.1)

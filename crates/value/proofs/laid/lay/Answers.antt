@@ -1,5 +1,6 @@
 -- By the kind, and for a list by its count. Assumes nothing.
 use Rattle.std.proofs.Common.{arith}
+use Rattle.std.proofs.lemmas.Result.{err_from_is_err_and}
 use Rattle.layout.proofs.Facts.{legal_node}
 use Rattle.value.proofs.Unions.{laid-union}
 use Rattle.value.proofs.Repeats.{laid-container, laid-vector, laid_missing, laid-over, laid-list}
@@ -29,16 +30,18 @@ pub returns-then-n-eq9 : goal.returns-then-n-eq9
 returns-then-n-eq9 c =
     laid-vector _ _ c.requires.0 c.requires.1 _ c.requires.2 _ _ (omega arith) _ c.word_in-most.ensures.0 c.if-n-eq9.true c.word_in-most.ensures.1
 
-pub returns-then-i-words : goal.returns-then-i-words
-returns-then-i-words c =
-    laid_missing _ _ c.requires.0 c.requires.1 _ c.requires.2 _ _ (omega arith) _ c.word_in-most.ensures.0 c.if-n-eq9.false c.if-i-words.true
+pub returns-in_err-count : goal.returns-in_err-count
+returns-in_err-count c =
+    let p = err_from_is_err_and c.from_residual.result c.from_residual.ensures.1 in
+    rw (p.1, p.2, c.in_err-count.ensures.1)
+    (laid_missing _ _ c.requires.0 c.requires.1 _ c.requires.2 _ _ (omega arith) _ c.word_in-most.ensures.0 c.if-n-eq9.false c.in_err-count.ensures.0)
 
-pub returns-then-m-most : goal.returns-then-m-most
-returns-then-m-most c =
-    laid-over _ _ c.requires.0 c.requires.1 _ c.requires.2 _ _ (omega arith) _ c.word_in-most.ensures.0 c.if-n-eq9.false c.if-i-words.false
-    c.if-m-most.true
+pub returns-then-count-most : goal.returns-then-count-most
+returns-then-count-most c =
+    laid-over _ _ c.requires.0 c.requires.1 _ c.requires.2 _ _ (omega arith) _ c.word_in-most.ensures.0 c.if-n-eq9.false c.in_ok-count.ensures.0
+    _ c.in_ok-count.ensures.1 c.if-count-most.true
 
 pub returns : goal.returns
 returns c =
-    laid-list _ _ c.requires.0 c.requires.1 _ c.requires.2 _ _ (omega arith) _ c.word_in-most.ensures.0 c.if-n-eq9.false c.if-i-words.false
-    c.if-m-most.false (omega (arith, c.type_inv.contents c.args.i))
+    laid-list _ _ c.requires.0 c.requires.1 _ c.requires.2 _ _ (omega arith) _ c.word_in-most.ensures.0 c.if-n-eq9.false c.in_ok-count.ensures.0
+    _ c.in_ok-count.ensures.1 c.if-count-most.false (omega (arith, c.type_inv.contents c.args.i, c.in_ok-count.ensures.1))

@@ -1,19 +1,23 @@
 -- By the tests, then as the selector goes. Assumes nothing.
-use Rattle.std.proofs.Common.{◌∙◌, sym, arith, get_or, lt-ltb, le-ltb}
+use Rattle.std.proofs.Common.{arith, lt-ltb, le-ltb}
+use Rattle.std.proofs.lemmas.Result.{err_from_is_err_and}
 use Rattle.value.specs.Steps.{choose}
 use Rattle.value.proofs.Selectors.{selector-word, no-option}
 use Rattle.value.proofs.laid.select.Goals as goal
 
-pub returns-then-i-words : goal.returns-then-i-words
+pub returns-in_err-k : goal.returns-in_err-k
 unfolding choose
-returns-then-i-words c = rw (le-ltb _ _ c.if-i-words.true)
+returns-in_err-k c =
+    let p = err_from_is_err_and c.from_residual.result c.from_residual.ensures.1 in
+    rw (p.1, p.2, le-ltb _ _ c.in_err-k.ensures.0, c.in_err-k.ensures.1)
 
 pub returns-then-k-gt127 : goal.returns-then-k-gt127
 unfolding choose
 returns-then-k-gt127 c =
-    rw (lt-ltb _ _ c.if-i-words.false, no-option (get_or c.args.contents.now c.args.i 0) c.args.n c.if-k-gt127.true (omega arith))
+    rw (lt-ltb _ _ c.in_ok-k.ensures.0, ← c.in_ok-k.ensures.1, no-option c.in_ok-k.k c.args.n c.if-k-gt127.true (omega arith))
 
-pub returns-in-Selector : goal.returns-in-Selector
+pub returns : goal.returns
 unfolding choose
-returns-in-Selector c =
-    rw (lt-ltb _ _ c.if-i-words.false, ← selector-word _ _ c.if-k-gt127.false (sym c.in-Selector.is ∙ c.new-s.ensures)) c.option_of.ensures
+returns c =
+    rw (lt-ltb _ _ c.in_ok-k.ensures.0, ← c.in_ok-k.ensures.1, ← selector-word _ _ c.if-k-gt127.false (c.in-Ok.ensures))
+    c.option_of.ensures

@@ -1,5 +1,6 @@
 -- Items and fields call each other; the type number falls. The loop over the fields keeps `Measuring`. Assumes nothing.
 use Rattle.std.proofs.Common.{◌∙◌, sym, refl, arith}
+use Rattle.std.proofs.lemmas.Result.{err_from_is_err_and}
 use Rattle.message.proofs.Rows.{row-there, row-legal, row_below, row_under, row-few, under-below}
 use Rattle.value.proofs.Rows.{measuring_next, measuring_stop, measuring_end}
 use Rattle.value.proofs.Plain.{below-measured, plain-field, measuring_plain, measuring_short}
@@ -38,23 +39,25 @@ pub measure_fields-loop-left-preserved : goal.measure_fields-loop-left-preserved
 measure_fields-loop-left-preserved t c =
     elim c.if-n-lt6.branch [
       | measure_fields-then-n-lt6 w ↦
-          rw c.add-sum-in-Upto.ensures
+          rw c.add-sum-in-loop-left.ensures
           (measuring_next _ _ _ _ _ _ _ _ _ _ _ _ _ _ _ _ c.loop-left.invariant c.loop-left-test.true c.word_in-f.ensures.0 _
-          (sym c.in-Upto.is ∙ w.r-is ∙ below-measured _ _ _ c.look_in-n.ensures w.if-n-lt6.true _ _ _ _ _ w.measure_leaf-r.ensures) _ refl _
+          (sym c.in_ok-m.was ∙ w.r-is ∙ below-measured _ _ _ c.look_in-n.ensures w.if-n-lt6.true _ _ _ _ _ w.measure_leaf-r.ensures) _ refl _
           c.with_offset.ensures)
       | measure_fields-else-n-lt6 w ↦
-          rw c.add-sum-in-Upto.ensures
+          rw c.add-sum-in-loop-left.ensures
           (measuring_next _ _ _ _ _ _ _ _ _ _ _ _ _ _ _ _ c.loop-left.invariant c.loop-left-test.true c.word_in-f.ensures.0 _
-          (sym c.in-Upto.is ∙ w.r-is ∙ w.measure_item-r.ensures) _ refl _ c.with_offset.ensures)
+          (sym c.in_ok-m.was ∙ w.r-is ∙ w.measure_item-r.ensures) _ refl _ c.with_offset.ensures)
     ]
 
-pub measure_fields-returns-in-Wrong : goal.measure_fields-returns-in-Wrong
-measure_fields-returns-in-Wrong t c =
-    measuring_stop _ _ _ _ _ _ _ _ _ _ _ _ _ _ _ _ c.loop-left.invariant c.loop-left-test.true c.word_in-f.ensures.0 _
-    (sym c.in-Wrong.is ∙ elim c.if-n-lt6.branch [
+pub measure_fields-returns-in_err-m : goal.measure_fields-returns-in_err-m
+measure_fields-returns-in_err-m t c =
+    let p = err_from_is_err_and c.from_residual.result c.from_residual.ensures.1 in
+    rw (p.1, p.2)
+    (measuring_stop _ _ _ _ _ _ _ _ _ _ _ _ _ _ _ _ c.loop-left.invariant c.loop-left-test.true c.word_in-f.ensures.0 _
+    (sym c.in_err-m.was ∙ elim c.if-n-lt6.branch [
       | measure_fields-then-n-lt6 w ↦ w.r-is ∙ below-measured _ _ _ c.look_in-n.ensures w.if-n-lt6.true _ _ _ _ _ w.measure_leaf-r.ensures
       | measure_fields-else-n-lt6 w ↦ w.r-is ∙ w.measure_item-r.ensures
-    ])
+    ]))
 
 pub measure_fields-returns : goal.measure_fields-returns
 measure_fields-returns t c = measuring_end _ _ _ _ _ _ _ _ _ _ _ _ _ _ _ c.loop-left.invariant c.loop-left-test.false
@@ -64,10 +67,10 @@ measure_item-returns-then-n-lt6 t c = below-measured _ _ _ c.look_in-n.ensures c
 
 pub measure_item-returns-then-all-gt0 : goal.measure_item-returns-then-all-gt0
 measure_item-returns-then-all-gt0 t c =
-    plain-measured _ _ _ _ _ _ _ c.lay-made.ensures _ _ _ _ c.in-Fields.is _ (c.plain_bytes-all.ensures c.if-all-gt0.true) _
+    plain-measured _ _ _ _ _ _ _ c.in_ok-first.ensures _ _ _ _ c.in-Fields.is _ (c.plain_bytes-all.ensures c.if-all-gt0.true) _
     c.measure_exact.ensures
 
-pub measure_item-measure_item-r-requires : goal.measure_item-measure_item-r-requires
-measure_item-measure_item-r-requires t c =
-    let below = laid-below _ _ _ _ _ c.lay-made.ensures _ c.in-Body.is in
+pub measure_item-measure_item-requires : goal.measure_item-measure_item-requires
+measure_item-measure_item-requires t c =
+    let below = laid-below _ _ _ _ _ c.in_ok-first.ensures _ c.in-Body.is in
     (omega (arith, below, c.decreases), under-below _ _ _ _ (omega (arith, below)) c.requires)

@@ -80,17 +80,17 @@ write_item-returns-then-n-lt6 t c = below_put _ _ _ c.look_in-n.ensures c.if-n-l
 pub write_item-put_part-requires-then-all-gt0 : goal.write_item-put_part-requires-then-all-gt0
 write_item-put_part-requires-then-all-gt0 t c =
     part_need
-    (row-all _ _ _ _ _ c.lay-made.ensures _ _ _ _ _ _ c.in-Fields.is _ c.requires.0 c.requires.1 _ c.if-all-gt0.true c.copied_bytes-all.ensures)
+    (row-all _ _ _ _ _ _ _ c.in-Ok.ensures _ _ _ _ c.in-Fields.is _ c.requires.0 c.requires.1 _ c.if-all-gt0.true c.copied_bytes-all.ensures)
     c.requires.2
 
 pub write_item-returns-then-all-gt0 : goal.write_item-returns-then-all-gt0
 write_item-returns-then-all-gt0 t c =
     part-done
-    (row-all _ _ _ _ _ c.lay-made.ensures _ _ _ _ _ _ c.in-Fields.is _ c.requires.0 c.requires.1 _ c.if-all-gt0.true c.copied_bytes-all.ensures)
+    (row-all _ _ _ _ _ _ _ c.in-Ok.ensures _ _ _ _ c.in-Fields.is _ c.requires.0 c.requires.1 _ c.if-all-gt0.true c.copied_bytes-all.ensures)
     c.put_part-then-all-gt0.ensures
 
 pub write_item-write_item-requires : goal.write_item-write_item-requires
 write_item-write_item-requires t c =
-    let below = laid-below _ _ _ _ _ c.lay-made.ensures _ c.in-Body.is in
-    let ready = body_ready _ _ _ _ _ _ _ _ _ c.lay-made.ensures _ c.in-Body.is _ _ c.put_selector-s.ensures c.requires.1 c.requires.2 in
+    let below = laid-below _ _ _ _ _ c.in-Ok.ensures _ c.in-Body.is in
+    let ready = body_ready _ _ _ _ _ _ _ _ _ c.in-Ok.ensures _ c.in-Body.is _ _ c.put_selector-s.ensures c.requires.1 c.requires.2 in
     (omega (arith, below, c.decreases), (under-below _ _ _ _ (omega (arith, below)) c.requires.0, ready.0, ready.1))
