@@ -22,7 +22,6 @@ use Rattle.layout.specs.declared.Node.{Node}
 use Rattle.message.specs.Read.{one, plus, and_then, elements, vector_told_lem, read_exact, read_item, read_fields}
 use Rattle.message.specs.Steps.{Under, Row, Alike, Found, row_of, heads_of, is_plain}
 use Rattle.message.specs.declared.items.Inside.{Inside}
-use Rattle.message.specs.declared.Answer.TheVariants.{Accepted, Refused}
 use Rattle.message.proofs.Answers.{single, then_accepts}
 use Rattle.message.proofs.Rows.{under-head}
 use Rattle.message.proofs.Copies.{Laid, laid-fixed, vector-laid, elements_laid}
@@ -30,12 +29,13 @@ use Rattle.message.proofs.Repeats.{else_list, shared-copies, shared-heads, eleme
 use Rattle.message.proofs.Repeats.{element-some, element-row, list_read, vector-read}
 use Rattle.message.proofs.Bodies.{plain_type, exact_read}
 use Rattle.std.specs.declared.result.Result.TheVariants.{Ok, Err}
+use Rattle.message.specs.Read.{located}
 
 -- n elements of k bytes, of which only the length is asked
 plain-each :
     (x : Ty) (k f : ℕ) → head x ≡ Fixed k → ((b : List ℕ) (s : ℕ) → read_item x b s ≡ read_exact k f b s)
     → (n : ℕ) (b : List ℕ) (p s : ℕ) → p + n * k ≤ length b
-    → read_fields (copies x n) b p s ≡ Accepted (record { records = n; words = 0; bytes = n * k })
+    → read_fields (copies x n) b p s ≡ Ok (record { records = n; words = 0; bytes = n * k })
 unfolding read_item
 plain-each x k f h r zero b p s e = let z : 0 * k ≡ 0 = omega arith in rw z
 plain-each x k f h r (suc n) b p s e =
@@ -47,7 +47,7 @@ plain-each x k f h r (suc n) b p s e =
     let z : suc n * k ≡ k + n * k = omega arith in
     let same : plus (single 0 k) (record { records = n; words = 0; bytes = n * k }) ≡ record { records = suc n; words = 0; bytes = suc n * k } =
     rw (z, i) in
-    rw h (then_accepts _ _ _ _ first rest ∙ ap Accepted same)
+    rw h (then_accepts _ _ _ _ first rest ∙ ap Ok same)
 
 module _ (lens l : List ℕ) (t at m e : ℕ) (b : List ℕ) (g : Alike lens l t at m e b) (d : Node) (i : d ≡ node_of l e) (k : is_plain d.kind ≡ true) where
   plain-laid : Laid (replicate m (Fixed d.second)) b
@@ -56,7 +56,7 @@ module _ (lens l : List ℕ) (t at m e : ℕ) (b : List ℕ) (g : Alike lens l t
       shared-heads l t at e g.shared g.lower m ∙ ap (replicate m) (plain_type l e d i k).0 in
       record { ranges = rw hs at g.ranges; first = rw hs at g.first }
 
-  plain-read : (s : ℕ) → read_fields (row_of l t at 0 m) b 0 s ≡ Accepted (record { records = m; words = 0; bytes = length b })
+  plain-read : (s : ℕ) → read_fields (row_of l t at 0 m) b 0 s ≡ Ok (record { records = m; words = 0; bytes = length b })
   plain-read s =
       let w = laid-fixed m d.second b plain-laid in
       let x = plain_type l e d i k in
@@ -65,7 +65,7 @@ module _ (lens l : List ℕ) (t at m e : ℕ) (b : List ℕ) (g : Alike lens l t
 -- What is found of m elements in an item with `own` contents words: all of it, where they are numbers or fixed bytes.
 module _ (lens l : List ℕ) (t at m e own : ℕ) (b : List ℕ) (g : Alike lens l t at m e b) (o : own ≤ 1)
     (same : (s : ℕ) → and_then (one own 0) (read_fields (row_of l t at 0 m) b 0 s) ≡ read_item (tree_of l t) b s) where
-  plain-found : (k : is_plain (node_of l e).kind ≡ true) (s : ℕ) → Accepted (record { records = 1 + m; words = own; bytes = length b }) ≡ read_item (tree_of l t) b s
+  plain-found : (k : is_plain (node_of l e).kind ≡ true) (s : ℕ) → Ok (record { records = 1 + m; words = own; bytes = length b }) ≡ read_item (tree_of l t) b s
   plain-found k s = sym (simp (zero-add, add-zero)) ∙ rw (plain-read lens l t at m e b g (node_of l e) refl k s) at (same s)
 
   pub row-found : Found lens l t b (pick (is_plain (node_of l e).kind) (Inside.Counted (1 + m) own) (Inside.Fields at 0 m own))
@@ -113,7 +113,7 @@ module _ (lens l : List ℕ) (t : ℕ) (n : Node) (e : n ≡ node_of l t) (g : U
         → and_then (one 0 0) (read_fields (row_of l t (n.at + 1) 0 m) b 0 s) ≡ read_item (tree_of l t) b s
     vector_on d s = rw (vector-read lens l t n e g k q b s, ← i, ← d)
 
-    pub vector_stop : (r : Refusal) → Err r ≡ vector_told_lem (head (tree_of l n.second)) m b → (s : ℕ) → Refused r t s ≡ read_item (tree_of l t) b s
+    pub vector_stop : (r : Refusal) → Err r ≡ vector_told_lem (head (tree_of l n.second)) m b → (s : ℕ) → Err (located r t s) ≡ read_item (tree_of l t) b s
     vector_stop r d s = rw (vector-read lens l t n e g k q b s, ← i, ← d)
 
   -- A list whose elements have the length w
@@ -121,7 +121,7 @@ module _ (lens l : List ℕ) (t : ℕ) (n : Node) (e : n ≡ node_of l t) (g : U
     list-says : elements (head_of w) limit b ≡ elements (head (tree_of l n.second)) (word_at l (n.at + 2)) b
     list-says = rw (j, element-head lens l t n e g k, i)
 
-    pub list_stop : (r : Refusal) → Err r ≡ elements (head_of w) limit b → (s : ℕ) → Refused r t s ≡ read_item (tree_of l t) b s
+    pub list_stop : (r : Refusal) → Err r ≡ elements (head_of w) limit b → (s : ℕ) → Err (located r t s) ≡ read_item (tree_of l t) b s
     list_stop r d s = rw (list_read lens l t n e g k (else_list lens l t n e g k q) b s, ← d ∙ list-says)
 
     module _ (m : ℕ) (d : Ok m ≡ elements (head_of w) limit b) where

@@ -9,11 +9,11 @@ use Rattle.standard.specs.declared.Refusal.{Refusal}
 use Rattle.message.specs.Read.{raw_bytes_lem, one, plus, and_then, built, of_vector_lem, of_list, of_elements}
 use Rattle.message.specs.Steps.{IsAccepted}
 use Rattle.message.specs.declared.Counts.{Counts}
-use Rattle.message.specs.declared.Answer.{Answer}
-use Rattle.message.specs.declared.Answer.TheVariants.{Accepted, Refused}
+use Rattle.std.specs.Prelude.{⊤}
 use Rattle.std.specs.declared.result.Result.{Result}
 use Rattle.std.specs.declared.result.Result.TheVariants.{Ok, Err}
-use Rattle.std.specs.Prelude.{⊤}
+use Rattle.message.specs.declared.RefusedAt.{RefusedAt}
+use Rattle.message.specs.Read.{located}
 
 -- no item
 abbrev pub none : Counts
@@ -23,10 +23,10 @@ none = record { records = 0; words = 0; bytes = 0 }
 abbrev pub single : ℕ → ℕ → Counts
 single w b = record { records = 1; words = w; bytes = b }
 
-pub not_accepted : {A : Type 0} (r : Refusal) (t s : ℕ) (c : Counts) → Refused r t s ≡ Accepted c → A
+pub not_accepted : {A : Type 0} (r : Refusal) (t s : ℕ) (c : Counts) → Err (located r t s) ≡ Ok c → A
 not_accepted r t s c e = let z : ◌≡◌ {A = ℕ} 0 1 = cc in absurd (omega arith)
 
-pub accepted-same : (c d : Counts) → Accepted c ≡ Accepted d → c ≡ d
+pub accepted-same : (c d : Counts) → Ok c ≡ Ok d → c ≡ d
 accepted-same c d e = cc
 
 -- A test: which of its sides gives what is asked, where the other does not.
@@ -48,15 +48,15 @@ pick-holds P true x y f g = f refl
 pick-holds P false x y f g = g refl
 
 pub left-accepted :
-    (q : Bool) (x : Answer) (r : Refusal) (t s : ℕ) (c : Counts) → pick q x (Refused r t s) ≡ Accepted c → (q ≡ true) × (x ≡ Accepted c)
-left-accepted q x r t s c = pick-left q x (Refused r t s) (Accepted c) (not_accepted r t s c)
+    (q : Bool) (x : Result Counts RefusedAt) (r : Refusal) (t s : ℕ) (c : Counts) → pick q x (Err (located r t s)) ≡ Ok c → (q ≡ true) × (x ≡ Ok c)
+left-accepted q x r t s c = pick-left q x (Err (located r t s)) (Ok c) (not_accepted r t s c)
 
 pub right_accepted :
-    (q : Bool) (x : Answer) (r : Refusal) (t s : ℕ) (c : Counts) → pick q (Refused r t s) x ≡ Accepted c → (q ≡ false) × (x ≡ Accepted c)
-right_accepted q x r t s c = pick_right q (Refused r t s) x (Accepted c) (not_accepted r t s c)
+    (q : Bool) (x : Result Counts RefusedAt) (r : Refusal) (t s : ℕ) (c : Counts) → pick q (Err (located r t s)) x ≡ Ok c → (q ≡ false) × (x ≡ Ok c)
+right_accepted q x r t s c = pick_right q (Err (located r t s)) x (Ok c) (not_accepted r t s c)
 
 pub leaf-accepted :
-    (q : Bool) (w n : ℕ) (r : Refusal) (t s : ℕ) (c : Counts) → pick q (one w n) (Refused r t s) ≡ Accepted c
+    (q : Bool) (w n : ℕ) (r : Refusal) (t s : ℕ) (c : Counts) → pick q (one w n) (Err (located r t s)) ≡ Ok c
     → (q ≡ true) × (c ≡ single w n)
 leaf-accepted q w n r t s c e =
     let p = left-accepted q (one w n) r t s c e in
@@ -64,48 +64,48 @@ leaf-accepted q w n r t s c e =
 
 -- One answer behind another.
 pub then_accepted :
-    (x y : Answer) (c : Counts) → and_then x y ≡ Accepted c
-    → (a : Counts) × (b : Counts) × (x ≡ Accepted a) × (y ≡ Accepted b) × (c ≡ plus a b)
-then_accepted (Refused r t s) y c e = not_accepted r t s c e
-then_accepted (Accepted a) (Refused r t s) c e = not_accepted r t s c e
-then_accepted (Accepted a) (Accepted b) c e = (a, b, refl, refl, sym (accepted-same (plus a b) c e))
+    (x y : Result Counts RefusedAt) (c : Counts) → and_then x y ≡ Ok c
+    → (a : Counts) × (b : Counts) × (x ≡ Ok a) × (y ≡ Ok b) × (c ≡ plus a b)
+then_accepted (Err r) y c e = not_accepted r t s c e
+then_accepted (Ok a) (Err r) c e = not_accepted r t s c e
+then_accepted (Ok a) (Ok b) c e = (a, b, refl, refl, sym (accepted-same (plus a b) c e))
 
-pub then_accepts : (x y : Answer) (a b : Counts) → x ≡ Accepted a → y ≡ Accepted b → and_then x y ≡ Accepted (plus a b)
+pub then_accepts : (x y : Result Counts RefusedAt) (a b : Counts) → x ≡ Ok a → y ≡ Ok b → and_then x y ≡ Ok (plus a b)
 then_accepts x y a b e f = rw (e, f)
 
 -- counts a, known, before an answer
-pub behind-accepted : (a : Counts) (y : Answer) (c : Counts) → and_then (Accepted a) y ≡ Accepted c → (b : Counts) × (y ≡ Accepted b) × (c ≡ plus a b)
-behind-accepted a (Refused r t s) c e = not_accepted r t s c e
-behind-accepted a (Accepted b) c e = (b, refl, sym (accepted-same (plus a b) c e))
+pub behind-accepted : (a : Counts) (y : Result Counts RefusedAt) (c : Counts) → and_then (Ok a) y ≡ Ok c → (b : Counts) × (y ≡ Ok b) × (c ≡ plus a b)
+behind-accepted a (Err r) c e = not_accepted r t s c e
+behind-accepted a (Ok b) c e = (b, refl, sym (accepted-same (plus a b) c e))
 
-pub built-accepted : (d : Result ⊤ Refusal) (t s : ℕ) (x : Answer) (c : Counts) → built d t s x ≡ Accepted c → (d ≡ Ok tt) × (x ≡ Accepted c)
+pub built-accepted : (d : Result ⊤ Refusal) (t s : ℕ) (x : Result Counts RefusedAt) (c : Counts) → built d t s x ≡ Ok c → (d ≡ Ok tt) × (x ≡ Ok c)
 built-accepted (Err r) t s x c e = not_accepted r t s c e
 built-accepted (Ok tt) t s x c e = (refl, e)
 
-pub vector-accepted : (d : Result ⊤ Refusal) (t s n : ℕ) (c : Counts) → of_vector_lem d t s n ≡ Accepted c → (d ≡ Ok tt) × (c ≡ single 0 n)
+pub vector-accepted : (d : Result ⊤ Refusal) (t s n : ℕ) (c : Counts) → of_vector_lem d t s n ≡ Ok c → (d ≡ Ok tt) × (c ≡ single 0 n)
 vector-accepted (Err r) t s n c e = not_accepted r t s c e
 vector-accepted (Ok tt) t s n c e = (refl, sym (accepted-same (single 0 n) c e))
 
-pub list-accepted : (d : Result ℕ Refusal) (t s : ℕ) (c : Counts) → of_list d t s ≡ Accepted c → (k : ℕ) × (d ≡ Ok k) × (c ≡ single 1 (raw_bytes_lem k))
+pub list-accepted : (d : Result ℕ Refusal) (t s : ℕ) (c : Counts) → of_list d t s ≡ Ok c → (k : ℕ) × (d ≡ Ok k) × (c ≡ single 1 (raw_bytes_lem k))
 list-accepted (Err r) t s c e = not_accepted r t s c e
 list-accepted (Ok k) t s c e = (k, refl, sym (accepted-same (single 1 (raw_bytes_lem k)) c e))
 
 pub many-accepted :
-    (d : Result ℕ Refusal) (t s : ℕ) (x : ℕ → Answer) (c : Counts) → of_elements d t s x ≡ Accepted c → (n : ℕ) × (d ≡ Ok n) × (x n ≡ Accepted c)
+    (d : Result ℕ Refusal) (t s : ℕ) (x : ℕ → Result Counts RefusedAt) (c : Counts) → of_elements d t s x ≡ Ok c → (n : ℕ) × (d ≡ Ok n) × (x n ≡ Ok c)
 many-accepted (Err r) t s x c e = not_accepted r t s c e
 many-accepted (Ok n) t s x c e = (n, refl, e)
 
 -- An acceptance without its counts.
-pub then_both : (x y : Answer) → IsAccepted (and_then x y) → IsAccepted x × IsAccepted y
-then_both (Accepted c) (Accepted d) h = (tt, tt)
-then_both (Accepted c) (Refused r t s) h = absurd h
-then_both (Refused r t s) y h = absurd h
+pub then_both : (x y : Result Counts RefusedAt) → IsAccepted (and_then x y) → IsAccepted x × IsAccepted y
+then_both (Ok c) (Ok d) h = (tt, tt)
+then_both (Ok c) (Err r) h = absurd h
+then_both (Err r) y h = absurd h
 
-pub built-both : (d : Result ⊤ Refusal) (t s : ℕ) (x : Answer) → IsAccepted (built d t s x) → (d ≡ Ok tt) × IsAccepted x
+pub built-both : (d : Result ⊤ Refusal) (t s : ℕ) (x : Result Counts RefusedAt) → IsAccepted (built d t s x) → (d ≡ Ok tt) × IsAccepted x
 built-both (Ok tt) t s x h = (refl, h)
 built-both (Err r) t s x h = absurd h
 
-pub many-both : (d : Result ℕ Refusal) (t s : ℕ) (x : ℕ → Answer) → IsAccepted (of_elements d t s x) → (n : ℕ) × (d ≡ Ok n) × IsAccepted (x n)
+pub many-both : (d : Result ℕ Refusal) (t s : ℕ) (x : ℕ → Result Counts RefusedAt) → IsAccepted (of_elements d t s x) → (n : ℕ) × (d ≡ Ok n) × IsAccepted (x n)
 many-both (Ok n) t s x h = (n, refl, h)
 many-both (Err r) t s x h = absurd h
 
@@ -116,12 +116,12 @@ plus_none c = simp zero-add
 pub plus_assoc : (a b c : Counts) → plus (plus a b) c ≡ plus a (plus b c)
 plus_assoc a b c = simp add_assoc
 
-pub then_none : (x : Answer) → and_then (Accepted none) x ≡ x
-then_none (Refused r t s) = refl
-then_none (Accepted c) = ap Accepted (plus_none c)
+pub then_none : (x : Result Counts RefusedAt) → and_then (Ok none) x ≡ x
+then_none (Err r) = refl
+then_none (Ok c) = ap Ok (plus_none c)
 
-pub then_assoc : (x y z : Answer) → and_then (and_then x y) z ≡ and_then x (and_then y z)
-then_assoc (Refused r t s) y z = refl
-then_assoc (Accepted a) (Refused r t s) z = refl
-then_assoc (Accepted a) (Accepted b) (Refused r t s) = refl
-then_assoc (Accepted a) (Accepted b) (Accepted c) = ap Accepted (plus_assoc a b c)
+pub then_assoc : (x y z : Result Counts RefusedAt) → and_then (and_then x y) z ≡ and_then x (and_then y z)
+then_assoc (Err r) y z = refl
+then_assoc (Ok a) (Err r) z = refl
+then_assoc (Ok a) (Ok b) (Err r) = refl
+then_assoc (Ok a) (Ok b) (Ok c) = ap Ok (plus_assoc a b c)

@@ -28,15 +28,17 @@ use Rattle.layout.proofs.Facts.{trees-get, as_union, as_leaf}
 use Rattle.message.specs.Read.{one, plus, and_then, built, read_exact, read_item, read_fields, read_option}
 use Rattle.message.specs.Steps.{Under, Row, row_of, heads_of, placed, option_at_lem, choice_of, choose, is_plain, Small}
 use Rattle.message.specs.declared.Counts.{Counts}
-use Rattle.message.specs.declared.Answer.{Answer}
-use Rattle.message.specs.declared.Answer.TheVariants.{Accepted, Refused}
-use Rattle.message.specs.declared.items.Choice.{Choice}
-use Rattle.message.specs.declared.items.LeafTold.{LeafTold}
 use Rattle.message.proofs.Answers.{then_assoc}
 use Rattle.message.proofs.Bounds.{counts_small}
 use Rattle.message.proofs.Sums.{Summed, spread, spread-small, summed-own, summed-small, summed-item}
 use Rattle.message.proofs.Rows.{Lies, node_legal, under-below, row-none, row_first, row_below, row_under, row_next, row-heads, container_tree, container-named, first-ranges, first_fits, span_ok, span_lies}
+use Rattle.std.specs.declared.result.Result.{Result}
 use Rattle.std.specs.declared.result.Result.TheVariants.{Ok, Err}
+use Rattle.std.specs.declared.option.Option.{Option}
+use Rattle.std.specs.declared.option.Option.TheVariants.{Some, None}
+use Rattle.message.specs.declared.RefusedAt.{RefusedAt}
+use Rattle.message.specs.declared.Sizes.{Sizes}
+use Rattle.message.specs.Read.{located}
 
 plus-zero : (a : Counts) → plus a (record { records = 0; words = 0; bytes = 0 }) ≡ a
 plus-zero a = simp add-zero
@@ -47,7 +49,7 @@ pub record Reading (lens l : List ℕ) (t a₀ step n own : ℕ) (b : List ℕ) 
   pub ranges : InRange (heads_of l t a step left) b p 0
   pub summed : Summed sum (spread (heads_of l t a step left) b p) (spread (heads_of l t a₀ step n) b 0)
   pub short : spread (heads_of l t a₀ step n) b 0 < 2 ^ 33
-  pub same : and_then (Accepted sum) (read_fields (row_of l t a step left) b p s) ≡ and_then (one own 0) (read_fields (row_of l t a₀ step n) b 0 s)
+  pub same : and_then (Ok sum) (read_fields (row_of l t a step left) b p s) ≡ and_then (one own 0) (read_fields (row_of l t a₀ step n) b 0 s)
 
 pub reading-new : (lens l : List ℕ) (t a₀ step n own : ℕ) (b : List ℕ) (s : ℕ) → Row lens l t a₀ step n → s + length b < 2 ^ 32 →
     InRange (heads_of l t a₀ step n) b 0 0 → own ≤ 1 → Reading lens l t a₀ step n own b s (record { records = 1; words = own; bytes = 0 }) a₀ n 0
@@ -60,7 +62,7 @@ reading_small g = summed-small _ _ _ g.summed g.short
 
 -- What an item counts.
 pub item-small : (lens l : List ℕ) (f : ℕ) (b : List ℕ) (s : ℕ) (c : Counts) → Under lens l (f + 1) → length b < 2 ^ 32 →
-    Accepted c ≡ read_item (tree_of l f) b s → Small c (2 ^ 40)
+    Ok c ≡ read_item (tree_of l f) b s → Small c (2 ^ 40)
 item-small lens l f b s c g k e =
     let q = counts_small l f b s c g.legal (omega (arith, g.few)) k (sym e) in
     record { records = omega (arith, q.0); words = omega (arith, q.1); bytes = omega (arith, q.2) }
@@ -111,7 +113,7 @@ within-says k len limit h = go (eqb k 3) refl h
     go false e q = let z : ◌≡◌ {A = ℕ} 0 1 = cc in absurd (omega arith)
 
 -- What a leaf is told to be, y, is what the rules of reading say.
-pub leaf-told : (l : List ℕ) (f : ℕ) (n : Node) → n ≡ node_of l f → n.kind < 6 → (b : List ℕ) (x y : LeafTold) → y ≡ x →
+pub leaf-told : (l : List ℕ) (f : ℕ) (n : Node) → n ≡ node_of l f → n.kind < 6 → (b : List ℕ) (x y : Result Sizes Refusal) → y ≡ x →
     ((t s : ℕ) → placed y t s ≡ read_item (leaf_of t n) b s) → (s : ℕ) → placed x f s ≡ read_item (tree_of l f) b s
 leaf-told l f n e h b x y q k s = rw (← q, as_leaf l f n e h) (k f s)
 
@@ -125,7 +127,7 @@ module _ (lens l : List ℕ) (t a step left f : ℕ) (b : List ℕ) (p : ℕ) (g
 
 module _ {lens l : List ℕ} {t a₀ step n own : ℕ} {b : List ℕ} {s : ℕ} {sum : Counts} {a left p f : ℕ} (g : Reading lens l t a₀ step n own b s sum a left p)
     (z : 0 < left) (e : f ≡ word_at l a) {w : Span} (q : w ≡ span_of (head (tree_of l f)) (heads_of l t (a + step) step (left - 1)) b p) where
-  reading-first : and_then (Accepted sum) (and_then (read_item (tree_of l f) (part b w) (s + w.from))
+  reading-first : and_then (Ok sum) (and_then (read_item (tree_of l f) (part b w) (s + w.from))
       (read_fields (row_of l t (a + step) step (left - 1)) b w.next s)) ≡ and_then (one own 0) (read_fields (row_of l t a₀ step n) b 0 s)
   reading-first = rw (fields_read lens l t a step left f b p g.row z e w q s) at g.same
 
@@ -133,11 +135,11 @@ module _ {lens l : List ℕ} {t a₀ step n own : ℕ} {b : List ℕ} {s : ℕ} 
   pub reading_span : Lies b w
   reading_span = span_lies lens l t a step left f b p g.row z e g.ranges w q
 
-  pub reading-item : (c : Counts) → s + length b < 2 ^ 32 → Accepted c ≡ read_item (tree_of l f) (part b w) (s + w.from) → Small c (2 ^ 40)
+  pub reading-item : (c : Counts) → s + length b < 2 ^ 32 → Ok c ≡ read_item (tree_of l f) (part b w) (s + w.from) → Small c (2 ^ 40)
   reading-item c h i =
       item-small lens l f (part b w) (s + w.from) c (row_under lens l t a step left f g.row z e) (omega (arith, reading_span)) i
 
-  reading-summed : (c : Counts) → Accepted c ≡ read_item (tree_of l f) (part b w) (s + w.from) →
+  reading-summed : (c : Counts) → Ok c ≡ read_item (tree_of l f) (part b w) (s + w.from) →
       Summed (plus sum c) (spread (heads_of l t (a + step) step (left - 1)) b w.next) (spread (heads_of l t a₀ step n) b 0)
   reading-summed c h =
       let u = row_under lens l t a step left f g.row z e in
@@ -145,7 +147,7 @@ module _ {lens l : List ℕ} {t a₀ step n own : ℕ} {b : List ℕ} {s : ℕ} 
       let j = rw (row-heads lens l t a step left f g.row z e (head (tree_of l f)) refl) at g.summed in
       summed-item l f _ b p u.legal (omega (arith, u.few)) i w q (s + w.from) sum c _ j (sym h)
 
-  pub reading-next : (c : Counts) → s + length b < 2 ^ 32 → Accepted c ≡ read_item (tree_of l f) (part b w) (s + w.from) →
+  pub reading-next : (c : Counts) → s + length b < 2 ^ 32 → Ok c ≡ read_item (tree_of l f) (part b w) (s + w.from) →
       Reading lens l t a₀ step n own b s (plus sum c) (a + step) (left - 1) w.next
   reading-next c k h =
       record {
@@ -153,17 +155,17 @@ module _ {lens l : List ℕ} {t a₀ step n own : ℕ} {b : List ℕ} {s : ℕ} 
         ranges = (span_ok lens l t a step left f b p g.row z e g.ranges w q).2;
         summed = reading-summed c h;
         short = g.short;
-        same = then_assoc (Accepted sum) (Accepted c) (read_fields (row_of l t (a + step) step (left - 1)) b w.next s) ∙ rw (← h) at reading-first;
+        same = then_assoc (Ok sum) (Ok c) (read_fields (row_of l t (a + step) step (left - 1)) b w.next s) ∙ rw (← h) at reading-first;
       }
 
-  pub reading_stop : (r : Refusal) (u v : ℕ) → Refused r u v ≡ read_item (tree_of l f) (part b w) (s + w.from) →
-      Refused r u v ≡ and_then (one own 0) (read_fields (row_of l t a₀ step n) b 0 s)
+  pub reading_stop : (r : Refusal) (u v : ℕ) → Err (located r u v) ≡ read_item (tree_of l f) (part b w) (s + w.from) →
+      Err (located r u v) ≡ and_then (one own 0) (read_fields (row_of l t a₀ step n) b 0 s)
   reading_stop r u v h = rw (← h) at reading-first
 
   -- Free bytes: of them only the length is asked.
   module _ {d : Node} (i : d ≡ node_of l f) (k : d.kind ≡ 3) where
     free_read : read_item (tree_of l f) (part b w) (s + w.from) ≡
-        pick (leb (w.to - w.from) d.second) (one 1 (w.to - w.from)) (Refused (OverLimit (w.to - w.from) d.second) f (s + w.from))
+        pick (leb (w.to - w.from) d.second) (one 1 (w.to - w.from)) (Err (located (OverLimit (w.to - w.from) d.second) f (s + w.from)))
     unfolding read_item
     free_read = rw (as_free l f d i k, reading_span.2)
 
@@ -194,9 +196,9 @@ module _ {lens l : List ℕ} {t a₀ step n own : ℕ} {b : List ℕ} {s : ℕ} 
       reading-next g z e v (record { records = 1; words = 0; bytes = k }) m x
 
 pub reading-end : {lens l : List ℕ} {t a₀ step n own : ℕ} {b : List ℕ} {s : ℕ} {sum : Counts} {a left p : ℕ} → Reading lens l t a₀ step n own b s sum a left p →
-    left ≤ 0 → Accepted sum ≡ and_then (one own 0) (read_fields (row_of l t a₀ step n) b 0 s)
+    left ≤ 0 → Ok sum ≡ and_then (one own 0) (read_fields (row_of l t a₀ step n) b 0 s)
 unfolding read_item
-reading-end g h = sym (ap Accepted (plus-zero _)) ∙ rw (row-none _ _ _ _ _ h) at g.same
+reading-end g h = sym (ap Ok (plus-zero _)) ∙ rw (row-none _ _ _ _ _ h) at g.same
 
 -- A container.
 module _ (lens l : List ℕ) (t : ℕ) (n : Node) (e : n ≡ node_of l t) (g : Under lens l (t + 1)) where
@@ -220,14 +222,14 @@ module _ (lens l : List ℕ) (t : ℕ) (n : Node) (e : n ≡ node_of l t) (g : U
         and_then (one 0 0) (read_fields (row_of l t (n.at + 2) 1 n.second) b 0 s) ≡ read_item (tree_of l t) b s
     container-on h = rw (container-read, ← h)
 
-    pub container_stop : (r : Refusal) → Err r ≡ lay_out_lem (heads_of l t (n.at + 2) 1 n.second) b → Refused r t s ≡ read_item (tree_of l t) b s
+    pub container_stop : (r : Refusal) → Err r ≡ lay_out_lem (heads_of l t (n.at + 2) 1 n.second) b → Err (located r t s) ≡ read_item (tree_of l t) b s
     container_stop r h = rw (container-read, ← h)
 
 -- A union: the walk along the options finds the word that the selector points to.
-chosen : Choice → List Ty → List ℕ → ℕ → ℕ → Answer
-chosen Choice.Bare lower b t s = one 1 0
-chosen (Choice.Body o) lower b t s = and_then (one 1 0) (read_item (get_or lower o (boolean 0)) (drop 1 b) (s + 1))
-chosen (Choice.Wrong r) lower b t s = Refused r t s
+chosen : Result (Option ℕ) Refusal → List Ty → List ℕ → ℕ → ℕ → Result Counts RefusedAt
+chosen (Ok None) lower b t s = one 1 0
+chosen (Ok (Some o)) lower b t s = and_then (one 1 0) (read_item (get_or lower o (boolean 0)) (drop 1 b) (s + 1))
+chosen (Err r) lower b t s = Err (located r t s)
 
 module _ (l : List ℕ) (lower : List Ty) (b : List ℕ) (t s : ℕ) where
   -- the option that is asked for
@@ -236,13 +238,13 @@ module _ (l : List ℕ) (lower : List Ty) (b : List ℕ) (t s : ℕ) where
   unfolding read_item chosen
   option-here w os k = go (eqb w 4294967295) (eqb (length b) 1)
     where
-      alone : (d : Bool) → pick d (one 1 0) (Refused (InvalidByteLength (length b - 1) 0) t s) ≡
-          chosen (pick d Choice.Bare (Choice.Wrong (InvalidByteLength (length b - 1) 0))) lower b t s
+      alone : (d : Bool) → pick d (one 1 0) (Err (located (InvalidByteLength (length b - 1) 0) t s)) ≡
+          chosen (pick d (Ok None) (Err (InvalidByteLength (length b - 1) 0))) lower b t s
       alone true = refl
       alone false = refl
 
       go : (c d : Bool) → read_option (pick c (bare k os) (body k (get_or lower w (boolean 0)) os)) k b t s ≡
-          chosen (pick c (pick (eqb (length b) 1) Choice.Bare (Choice.Wrong (InvalidByteLength (length b - 1) 0))) (Choice.Body w)) lower b t s
+          chosen (pick c (pick (eqb (length b) 1) (Ok None) (Err (InvalidByteLength (length b - 1) 0))) (Ok (Some w))) lower b t s
       go true d = rw (eq-eqb k k refl) (alone (eqb (length b) 1))
       go false d = rw (eq-eqb k k refl)
 
@@ -253,7 +255,7 @@ module _ (l : List ℕ) (lower : List Ty) (b : List ℕ) (t s : ℕ) where
   option_skip false x os j k h = rw (ne_eqb k j h)
 
   option-read : (n a j k : ℕ) → j ≤ k → read_option (options l lower a j n) k b t s ≡
-      pick (ltb k (j + n)) (chosen (option_at_lem (word_at l (a + (k - j))) (length b)) lower b t s) (Refused (UnionSelectorInvalid k) t s)
+      pick (ltb k (j + n)) (chosen (option_at_lem (word_at l (a + (k - j))) (length b)) lower b t s) (Err (located (UnionSelectorInvalid k) t s))
   unfolding options
   option-read zero a j k h = rw (le-ltb k (j + 0) (omega arith)) (unfold read_item in refl)
   option-read (suc n) a j k h = go (eqb k j) refl (option-read n (a + 1) (j + 1) k)
@@ -262,8 +264,8 @@ module _ (l : List ℕ) (lower : List Ty) (b : List ℕ) (t s : ℕ) where
       whole = pick (eqb (word_at l a) 4294967295) (bare j (options l lower (a + 1) (j + 1) n))
           (body j (get_or lower (word_at l a) (boolean 0)) (options l lower (a + 1) (j + 1) n))
 
-      wanted : ℕ → ℕ → Answer
-      wanted m i = pick (ltb k m) (chosen (option_at_lem (word_at l i) (length b)) lower b t s) (Refused (UnionSelectorInvalid k) t s)
+      wanted : ℕ → ℕ → Result Counts RefusedAt
+      wanted m i = pick (ltb k m) (chosen (option_at_lem (word_at l i) (length b)) lower b t s) (Err (located (UnionSelectorInvalid k) t s))
 
       go : (c : Bool) → eqb k j ≡ c → (j + 1 ≤ k → read_option (options l lower (a + 1) (j + 1) n) k b t s ≡
           wanted (j + 1 + n) (a + 1 + (k - (j + 1)))) → read_option whole k b t s ≡ wanted (j + suc n) (a + (k - j))
@@ -286,20 +288,20 @@ module _ (l : List ℕ) (lower : List Ty) (b : List ℕ) (t s : ℕ) where
       x : ℕ
       x = get_or b 0 0
 
-      either : (c : Bool) (u : Choice) → pick c (chosen u lower b t s) (Refused (UnionSelectorInvalid x) t s) ≡
-          chosen (pick c u (Choice.Wrong (UnionSelectorInvalid x))) lower b t s
+      either : (c : Bool) (u : Result (Option ℕ) Refusal) → pick c (chosen u lower b t s) (Err (located (UnionSelectorInvalid x) t s)) ≡
+          chosen (pick c u (Err (UnionSelectorInvalid x))) lower b t s
       either true u = refl
       either false u = refl
 
       inside : read_option (options l lower a 0 n) x b t s ≡ chosen
-          (pick (ltb x n) (option_at_lem (word_at l (a + x)) (length b)) (Choice.Wrong (UnionSelectorInvalid x))) lower b t s
+          (pick (ltb x n) (option_at_lem (word_at l (a + x)) (length b)) (Err (UnionSelectorInvalid x))) lower b t s
       inside =
           let i : 0 + n ≡ n = omega arith in
           let j : x - 0 ≡ x = omega arith in
           rw (i, j) at (option-read n a 0 x (omega arith)) ∙ either (ltb x n) (option_at_lem (word_at l (a + x)) (length b))
 
-      go : (c d : Bool) → pick c (Refused (OutOfBoundsByte 0) t s)
-          (pick d (read_option (options l lower a 0 n) x b t s) (Refused (UnionSelectorInvalid x) t s)) ≡
+      go : (c d : Bool) → pick c (Err (located (OutOfBoundsByte 0) t s))
+          (pick d (read_option (options l lower a 0 n) x b t s) (Err (located (UnionSelectorInvalid x) t s))) ≡
           chosen (choice_of (pick c (Err (OutOfBoundsByte 0))
           (pick d (Ok (record { 0 = x })) (Err (UnionSelectorInvalid x)))) l a n (length b)) lower b t s
       go true d = refl
@@ -307,22 +309,22 @@ module _ (l : List ℕ) (lower : List Ty) (b : List ℕ) (t s : ℕ) where
       go false false = refl
 
 -- What a chosen body says of the bytes and of the table.
-body-option : (w len o : ℕ) → option_at_lem w len ≡ Choice.Body o → (o ≡ w) × (w ≡ 4294967295 → ⊥)
+body-option : (w len o : ℕ) → option_at_lem w len ≡ Ok (Some o) → (o ≡ w) × (w ≡ 4294967295 → ⊥)
 body-option w len o e = go (eqb w 4294967295) (eqb len 1) refl e
   where
-    go : (c d : Bool) → eqb w 4294967295 ≡ c → pick c (pick d Choice.Bare (Choice.Wrong (InvalidByteLength (len - 1) 0))) (Choice.Body w) ≡
-        Choice.Body o → (o ≡ w) × (w ≡ 4294967295 → ⊥)
+    go : (c d : Bool) → eqb w 4294967295 ≡ c → pick c (pick d (Ok None) (Err (InvalidByteLength (len - 1) 0))) (Ok (Some w)) ≡
+        Ok (Some o) → (o ≡ w) × (w ≡ 4294967295 → ⊥)
     go true true p h = let z : ◌≡◌ {A = ℕ} 0 1 = cc in absurd (omega arith)
     go true false p h = let z : ◌≡◌ {A = ℕ} 0 1 = cc in absurd (omega arith)
     go false d p h = (cc, eqb-false _ _ p)
 
 -- the choice, by its three tests
-choice_by : List ℕ → ℕ → ℕ → List ℕ → Bool → Bool → Bool → Choice
+choice_by : List ℕ → ℕ → ℕ → List ℕ → Bool → Bool → Bool → Result (Option ℕ) Refusal
 choice_by l a n b c d f =
-    pick c (Choice.Wrong (OutOfBoundsByte 0))
+    pick c (Err (OutOfBoundsByte 0))
     (pick d
-    (pick f (option_at_lem (word_at l (a + get_or b 0 0)) (length b)) (Choice.Wrong (UnionSelectorInvalid (get_or b 0 0))))
-    (Choice.Wrong (UnionSelectorInvalid (get_or b 0 0))))
+    (pick f (option_at_lem (word_at l (a + get_or b 0 0)) (length b)) (Err (UnionSelectorInvalid (get_or b 0 0))))
+    (Err (UnionSelectorInvalid (get_or b 0 0))))
 
 choose_by : (l : List ℕ) (a n : ℕ) (b : List ℕ) → choose l a n b ≡ choice_by l a n b (eqb (length b) 0) (leb (get_or b 0 0) 127) (ltb (get_or b 0 0) n)
 unfolding choose choice_by
@@ -333,14 +335,14 @@ choose_by l a n b = go (eqb (length b) 0) (leb (get_or b 0 0) 127)
 
     go : (c d : Bool) → choice_of (pick c (Err (OutOfBoundsByte 0))
         (pick d (Ok (record { 0 = x })) (Err (UnionSelectorInvalid x)))) l a n (length b) ≡
-        pick c (Choice.Wrong (OutOfBoundsByte 0)) (pick d (pick (ltb x n) (option_at_lem (word_at l (a + x)) (length b))
-        (Choice.Wrong (UnionSelectorInvalid x))) (Choice.Wrong (UnionSelectorInvalid x)))
+        pick c (Err (OutOfBoundsByte 0)) (pick d (pick (ltb x n) (option_at_lem (word_at l (a + x)) (length b))
+        (Err (UnionSelectorInvalid x))) (Err (UnionSelectorInvalid x)))
     go true d = refl
     go false true = refl
     go false false = refl
 
 -- A choice that is no refusal comes from a word of the table, and there is a selector.
-right_choice : (l : List ℕ) (a n : ℕ) (b : List ℕ) (u : Choice) → ((r : Refusal) → Choice.Wrong r ≡ u → ⊥) → choose l a n b ≡ u →
+right_choice : (l : List ℕ) (a n : ℕ) (b : List ℕ) (u : Result (Option ℕ) Refusal) → ((r : Refusal) → Err r ≡ u → ⊥) → choose l a n b ≡ u →
     (get_or b 0 0 < n) × (option_at_lem (word_at l (a + get_or b 0 0)) (length b) ≡ u) × (1 ≤ length b)
 unfolding choice_by
 right_choice l a n b u never e = go (eqb (length b) 0) (leb (get_or b 0 0) 127) (ltb (get_or b 0 0) n) refl refl (sym (choose_by l a n b) ∙ e)
@@ -352,23 +354,23 @@ right_choice l a n b u never e = go (eqb (length b) 0) (leb (get_or b 0 0) 127) 
     go false true false p q h = absurd (never _ h)
     go false true true p q h = let y : length b ≡ 0 → ⊥ = eqb-false _ _ p in (ltb-true _ _ q, h, omega arith)
 
-bare-option : (w len : ℕ) → option_at_lem w len ≡ Choice.Bare → w ≡ 4294967295
+bare-option : (w len : ℕ) → option_at_lem w len ≡ Ok None → w ≡ 4294967295
 bare-option w len e = go (eqb w 4294967295) refl e
   where
-    go : (c : Bool) → eqb w 4294967295 ≡ c → pick c (pick (eqb len 1) Choice.Bare (Choice.Wrong (InvalidByteLength (len - 1) 0))) (Choice.Body w) ≡
-        Choice.Bare → w ≡ 4294967295
+    go : (c : Bool) → eqb w 4294967295 ≡ c → pick c (pick (eqb len 1) (Ok None) (Err (InvalidByteLength (len - 1) 0))) (Ok (Some w)) ≡
+        (Ok None) → w ≡ 4294967295
     go true p h = eqb-true _ _ p
     go false p h = let z : ◌≡◌ {A = ℕ} 0 1 = cc in absurd (omega arith)
 
-pub bare-says : (l : List ℕ) (a n : ℕ) (b : List ℕ) → choose l a n b ≡ Choice.Bare → (get_or b 0 0 < n) × (word_at l (a + get_or b 0 0) ≡ 4294967295)
+pub bare-says : (l : List ℕ) (a n : ℕ) (b : List ℕ) → choose l a n b ≡ Ok None → (get_or b 0 0 < n) × (word_at l (a + get_or b 0 0) ≡ 4294967295)
 bare-says l a n b e =
-    let q = right_choice l a n b Choice.Bare (λ r h. let z : ◌≡◌ {A = ℕ} 0 1 = cc in omega arith) e in
+    let q = right_choice l a n b (Ok None) (λ r h. let z : ◌≡◌ {A = ℕ} 0 1 = cc in omega arith) e in
     (q.0, bare-option _ (length b) q.1)
 
-pub body-says : (l : List ℕ) (a n : ℕ) (b : List ℕ) (o : ℕ) → choose l a n b ≡ Choice.Body o →
+pub body-says : (l : List ℕ) (a n : ℕ) (b : List ℕ) (o : ℕ) → choose l a n b ≡ Ok (Some o) →
     (get_or b 0 0 < n) × (o ≡ word_at l (a + get_or b 0 0)) × (word_at l (a + get_or b 0 0) ≡ 4294967295 → ⊥) × (1 ≤ length b)
 body-says l a n b o e =
-    let q = right_choice l a n b (Choice.Body o) (λ r h. let z : ◌≡◌ {A = ℕ} 0 1 = cc in omega arith) e in
+    let q = right_choice l a n b (Ok (Some o)) (λ r h. let z : ◌≡◌ {A = ℕ} 0 1 = cc in omega arith) e in
     let r = body-option (word_at l (a + get_or b 0 0)) (length b) o q.1 in
     (q.0, r.0, r.1, q.2)
 
@@ -385,15 +387,15 @@ module _ (lens l : List ℕ) (t : ℕ) (n : Node) (e : n ≡ node_of l t) (g : U
   union-read : (s : ℕ) → read_item (tree_of l t) b s ≡ chosen (choose l (n.at + 2) n.second b) (trees l t) b t s
   union-read s = rw (as_union l t n e k) (union-chosen l (trees l t) b t s (n.at + 2) n.second)
 
-  pub bare-read : (s : ℕ) → Choice.Bare ≡ choose l (n.at + 2) n.second b → one 1 0 ≡ read_item (tree_of l t) b s
+  pub bare-read : (s : ℕ) → (Ok None) ≡ choose l (n.at + 2) n.second b → one 1 0 ≡ read_item (tree_of l t) b s
   unfolding chosen
   bare-read s q = rw (union-read s, ← q)
 
-  pub wrong-read : (s : ℕ) (r : Refusal) → Choice.Wrong r ≡ choose l (n.at + 2) n.second b → Refused r t s ≡ read_item (tree_of l t) b s
+  pub wrong-read : (s : ℕ) (r : Refusal) → Err r ≡ choose l (n.at + 2) n.second b → Err (located r t s) ≡ read_item (tree_of l t) b s
   unfolding chosen
   wrong-read s r q = rw (union-read s, ← q)
 
-  module _ (o : ℕ) (q : Choice.Body o ≡ choose l (n.at + 2) n.second b) where
+  module _ (o : ℕ) (q : Ok (Some o) ≡ choose l (n.at + 2) n.second b) where
     pub body_below : (o < t) × (1 ≤ length b)
     unfolding LowerOrBare
     body_below =

@@ -26,11 +26,10 @@ use Rattle.layout.proofs.Facts.{trees-get, as_container, as_union, as_list_lem, 
 use Rattle.layout.proofs.Trees.{legal_tree}
 use Rattle.message.specs.Read.{raw_bytes_lem, one, plus, and_then, elements, vector_told_lem, read_each, read_item, read_fields, read_option}
 use Rattle.message.specs.declared.Counts.{Counts}
-use Rattle.message.specs.declared.Answer.TheVariants.{Accepted}
 use Rattle.message.proofs.Answers.{none, single, not_accepted, accepted-same, pick-left, pick_right, pick-cases, pick-holds, left-accepted, right_accepted, leaf-accepted, then_accepted, behind-accepted, built-accepted, vector-accepted, list-accepted, many-accepted}
 use Rattle.message.proofs.Copies.{read-copies, Laid, laid_out, vector-laid, elements_laid}
-use Rattle.std.specs.declared.option.Option.{Option}
 use Rattle.std.specs.declared.result.Result.TheVariants.{Ok}
+use Rattle.std.specs.declared.option.Option.{Option}
 use Rattle.std.specs.declared.option.Option.TheVariants.{Some, None}
 
 -- How many levels a type has
@@ -182,12 +181,12 @@ depth-copies e (suc n) = omega (arith, depth-copies e n)
 -- The law about one type, and from it that about a row of fields
 In : Ty → Type 0
 In t =
-    (b : List ℕ) (s d : ℕ) (c : Counts) → LegalTy t → depth t ≤ d → read_item t b s ≡ Accepted c
+    (b : List ℕ) (s d : ℕ) (c : Counts) → LegalTy t → depth t ≤ d → read_item t b s ≡ Ok c
     → Within c (d * room (head t) b) (length b)
 
 row_in :
     (ts : Tys) → All In ts → (b : List ℕ) (p s d k : ℕ) (c : Counts) → LegalAll ts → depth_all ts ≤ d → InRange (heads ts) b p 0
-    → next (heads ts) b p + k ≡ length b → read_fields ts b p s ≡ Accepted c
+    → next (heads ts) b p + k ≡ length b → read_fields ts b p s ≡ Ok c
     → Within c (d * (portion (heads ts) + k)) (portion (heads ts) + k)
 unfolding In read_item head heads depth LegalTy portion
 row_in end f b p s d k c l h r n e = rw (← accepted-same none c e) (omega arith)
@@ -201,7 +200,7 @@ row_in (field t ts) f b p s d k c l h r n e =
 
 -- Fields that lie as they should count at most the levels times their bytes.
 whole_in :
-    (ts : Tys) → All In ts → (b : List ℕ) (s d : ℕ) (c : Counts) → LegalAll ts → depth_all ts ≤ d → Laid (heads ts) b → read_fields ts b 0 s ≡ Accepted c
+    (ts : Tys) → All In ts → (b : List ℕ) (s d : ℕ) (c : Counts) → LegalAll ts → depth_all ts ≤ d → Laid (heads ts) b → read_fields ts b 0 s ≡ Ok c
     → Within c (d * length b) (length b) × (portion (heads ts) ≤ length b)
 whole_in ts f b s d c l h g e =
     let m = next-between (heads ts) b 0 0 g.ranges in
@@ -212,7 +211,7 @@ whole_in ts f b s d c l h g e =
 
 elements_in :
     (e : Ty) → In e → (n : ℕ) (b : List ℕ) (s d : ℕ) (c : Counts) → LegalTy e → depth e ≤ d → Laid (replicate n (head e)) b
-    → read_each (λ (x : List ℕ) (u : ℕ). read_item e x u) (head e) n b 0 s ≡ Accepted c
+    → read_each (λ (x : List ℕ) (u : ℕ). read_item e x u) (head e) n b 0 s ≡ Ok c
     → Within c (d * length b) (length b) × (portion (heads (copies e n)) ≤ length b)
 elements_in e f n b s d c l h g i =
     let m = depth-copies e n in
@@ -226,7 +225,7 @@ mutual
   unfolding In read_item head depth LegalTy
 
   pub item_in :
-      (t : Ty) (b : List ℕ) (s d : ℕ) (c : Counts) → LegalTy t → depth t ≤ d → read_item t b s ≡ Accepted c
+      (t : Ty) (b : List ℕ) (s d : ℕ) (c : Counts) → LegalTy t → depth t ≤ d → read_item t b s ≡ Ok c
       → Within c (d * room (head t) b) (length b)
   item_in (number t w) b s d c l h e =
       let p = leaf-accepted (eqb (length b) w) 0 (length b) _ t s c e in
@@ -285,17 +284,17 @@ mutual
 
   option_in :
       (os : Opts) (k : ℕ) (b : List ℕ) (t s d : ℕ) (c : Counts) → LegalOptions os → depth_options os ≤ d
-      → read_option os k b t s ≡ Accepted c → Within c (suc d * (length b + 4)) (length b)
+      → read_option os k b t s ≡ Ok c → Within c (suc d * (length b + 4)) (length b)
   option_in over k b t s d c l h e = not_accepted _ t s c e
   option_in (bare j os) k b t s d c l h e =
-      pick-cases (eqb k j) _ (read_option os k b t s) (Accepted c)
+      pick-cases (eqb k j) _ (read_option os k b t s) (Ok c)
       (λ i f.
       let q = leaf-accepted (eqb (length b) 1) 1 0 _ t s c f in
       leaf_in 1 0 (length b + 4) (length b) (suc d) c q.1 (omega arith) (omega arith) (omega arith) (omega arith))
       (λ i f. option_in os k b t s d c l h f)
       e
   option_in (body j o os) k b t s d c l h e =
-      pick-cases (eqb k j) (and_then (one 1 0) (read_item o (drop 1 b) (s + 1))) (read_option os k b t s) (Accepted c)
+      pick-cases (eqb k j) (and_then (one 1 0) (read_item o (drop 1 b) (s + 1))) (read_option os k b t s) (Ok c)
       (λ i f.
       let q = behind-accepted (single 1 0) (read_item o (drop 1 b) (s + 1)) c f in
       let x = item_in o (drop 1 b) (s + 1) d q.0 l.0 (omega arith) q.1 in
@@ -307,18 +306,18 @@ mutual
 
 pub fields_in :
     (ts : Tys) (b : List ℕ) (p s d k : ℕ) (c : Counts) → LegalAll ts → depth_all ts ≤ d → InRange (heads ts) b p 0
-    → next (heads ts) b p + k ≡ length b → read_fields ts b p s ≡ Accepted c
+    → next (heads ts) b p + k ≡ length b → read_fields ts b p s ≡ Ok c
     → Within c (d * (portion (heads ts) + k)) (portion (heads ts) + k)
 fields_in ts = row_in ts (all_in ts)
 
 -- The bodies of an item are no longer than the item.
-pub bytes-bound : (t : Ty) (b : List ℕ) (s : ℕ) (c : Counts) → LegalTy t → read_item t b s ≡ Accepted c → c.bytes ≤ length b
+pub bytes-bound : (t : Ty) (b : List ℕ) (s : ℕ) (c : Counts) → LegalTy t → read_item t b s ≡ Ok c → c.bytes ≤ length b
 bytes-bound t b s c l e = (item_in t b s (depth t) c l (omega arith) e).2
 
 -- The counts of a message below 2^32 bytes are far below a word's end.
 pub counts_small :
     (l : List ℕ) (t : ℕ) (b : List ℕ) (s : ℕ) (c : Counts) → Legal l (t + 1) → t < 64 → length b < 2 ^ 32
-    → read_item (tree_of l t) b s ≡ Accepted c → (c.records < 2 ^ 40) × (c.words < 2 ^ 40) × (c.bytes < 2 ^ 40)
+    → read_item (tree_of l t) b s ≡ Ok c → (c.records < 2 ^ 40) × (c.words < 2 ^ 40) × (c.bytes < 2 ^ 40)
 counts_small l t b s c g h k e =
     let d = tree_depth l (t + 1) t g (omega arith) in
     let x = item_in (tree_of l t) b s 64 c (legal_tree l (t + 1) t g (omega arith)) (omega arith) e in

@@ -23,8 +23,11 @@ use Rattle.message.specs.Listing.{entry, list_item_lem}
 use Rattle.message.specs.Leaves.{Item, items_in, leaves_of, leaf_pieces}
 use Rattle.message.specs.Check.{message_type, check_message}
 use Rattle.message.specs.Unfold.{raw_of, unfold_words, unfold_bytes}
-use Rattle.message.specs.declared.Answer.{Answer}
-use Rattle.message.specs.declared.Answer.TheVariants.{Accepted, Refused}
+use Rattle.std.specs.declared.result.Result.{Result}
+use Rattle.std.specs.declared.result.Result.TheVariants.{Ok, Err}
+use Rattle.message.specs.declared.RefusedAt.{RefusedAt}
+use Rattle.message.specs.declared.Counts.{Counts}
+use Rattle.message.specs.Read.{located}
 
 -- The bytes of some words
 bytes_of : List ℕ → List ℕ
@@ -50,22 +53,22 @@ message_p = offsets 16 19
 record Case : Type 0 where
   layout : List ℕ
   message : List ℕ
-  answer : Answer
+  answer : Result Counts RefusedAt
 
 cases : List Case
 cases =
-    record { layout = layout_l; message = message_p; answer = Accepted (record { records = 4; words = 2; bytes = 12 }) }
-    ∷ record { layout = layout_l; message = []; answer = Refused (InvalidByteLength 0 8) 3 0 }
-    ∷ record { layout = layout_l; message = take 10 message_p; answer = Refused (InvalidLengthPrefix 2 4) 3 0 }
-    ∷ record { layout = layout_l; message = offsets 15 19; answer = Refused (OffsetIntoFixedPortion 15) 3 0 }
-    ∷ record { layout = layout_l; message = offsets 17 19; answer = Refused (OffsetSkipsVariableBytes 17) 3 0 }
-    ∷ record { layout = layout_l; message = offsets 200 19; answer = Refused (OffsetOutOfBounds 200) 3 0 }
-    ∷ record { layout = layout_l; message = offsets 19 18; answer = Refused (OffsetsAreDecreasing 18) 3 0 }
-    ∷ record { layout = layout_l; message = offsets 16 20; answer = Refused ExcessBits 2 20 }
-    ∷ record { layout = bits4; message = 0x10 ∷ []; answer = Accepted (record { records = 1; words = 1; bytes = 1 }) }
-    ∷ record { layout = bits4; message = 0x20 ∷ []; answer = Refused (OutOfBounds 4 4) 0 0 }
-    ∷ record { layout = bits4; message = 0x01 ∷ 0x00 ∷ []; answer = Refused (InvalidByteCount 2 1) 0 0 }
-    ∷ record { layout = bits4; message = 0x00 ∷ []; answer = Refused MissingLengthInformation 0 0 }
+    record { layout = layout_l; message = message_p; answer = Ok (record { records = 4; words = 2; bytes = 12 }) }
+    ∷ record { layout = layout_l; message = []; answer = Err (located (InvalidByteLength 0 8) 3 0) }
+    ∷ record { layout = layout_l; message = take 10 message_p; answer = Err (located (InvalidLengthPrefix 2 4) 3 0) }
+    ∷ record { layout = layout_l; message = offsets 15 19; answer = Err (located (OffsetIntoFixedPortion 15) 3 0) }
+    ∷ record { layout = layout_l; message = offsets 17 19; answer = Err (located (OffsetSkipsVariableBytes 17) 3 0) }
+    ∷ record { layout = layout_l; message = offsets 200 19; answer = Err (located (OffsetOutOfBounds 200) 3 0) }
+    ∷ record { layout = layout_l; message = offsets 19 18; answer = Err (located (OffsetsAreDecreasing 18) 3 0) }
+    ∷ record { layout = layout_l; message = offsets 16 20; answer = Err (located ExcessBits 2 20) }
+    ∷ record { layout = bits4; message = 0x10 ∷ []; answer = Ok (record { records = 1; words = 1; bytes = 1 }) }
+    ∷ record { layout = bits4; message = 0x20 ∷ []; answer = Err (located (OutOfBounds 4 4) 0 0) }
+    ∷ record { layout = bits4; message = 0x01 ∷ 0x00 ∷ []; answer = Err (located (InvalidByteCount 2 1) 0 0) }
+    ∷ record { layout = bits4; message = 0x00 ∷ []; answer = Err (located MissingLengthInformation 0 0) }
     ∷ []
 
 Holds : List Case → Type 0
@@ -94,26 +97,26 @@ two_texts = bytes_of (2 ∷ 3 ∷ 5 ∷ 3 ∷ 4 ∷ 9 ∷ 0 ∷ 2 ∷ [])
 -- Each refusal of document 02 [1], in its order, beside what is accepted
 element_cases : List Case
 element_cases =
-    record { layout = pair; message = 1 ∷ 0 ∷ 2 ∷ 0 ∷ []; answer = Accepted (record { records = 3; words = 0; bytes = 4 }) }
-    ∷ record { layout = pair; message = 1 ∷ 0 ∷ 2 ∷ []; answer = Refused (InvalidByteLength 3 4) 1 0 }
-    ∷ record { layout = numbers; message = []; answer = Accepted (record { records = 1; words = 1; bytes = 0 }) }
-    ∷ record { layout = numbers; message = 1 ∷ 0 ∷ 2 ∷ 0 ∷ []; answer = Accepted (record { records = 3; words = 1; bytes = 4 }) }
-    ∷ record { layout = numbers; message = 1 ∷ 0 ∷ 2 ∷ []; answer = Refused (InvalidByteLength 3 2) 1 0 }
-    ∷ record { layout = numbers; message = 1 ∷ 0 ∷ 2 ∷ 0 ∷ 3 ∷ 0 ∷ 4 ∷ 0 ∷ []; answer = Refused (OverLimit 4 3) 1 0 }
-    ∷ record { layout = texts; message = []; answer = Accepted (record { records = 1; words = 1; bytes = 0 }) }
-    ∷ record { layout = texts; message = bytes_of (8 ∷ 9 ∷ []) ++ (10 ∷ 11 ∷ []); answer = Accepted (record { records = 3; words = 3; bytes = 2 }) }
-    ∷ record { layout = texts; message = 4 ∷ 0 ∷ 0 ∷ []; answer = Refused (InvalidLengthPrefix 3 4) 1 0 }
-    ∷ record { layout = texts; message = bytes_of (5 ∷ []); answer = Refused (OffsetOutOfBounds 5) 1 0 }
-    ∷ record { layout = texts; message = bytes_of (0 ∷ []); answer = Refused (InvalidListFixedBytesLen 0) 1 0 }
-    ∷ record { layout = texts; message = bytes_of (6 ∷ []) ++ (0 ∷ 0 ∷ []); answer = Refused (InvalidListFixedBytesLen 6) 1 0 }
-    ∷ record { layout = texts; message = bytes_of (16 ∷ 0 ∷ 0 ∷ 0 ∷ []); answer = Refused (OverLimit 4 3) 1 0 }
-    ∷ record { layout = texts; message = bytes_of (8 ∷ 7 ∷ []); answer = Refused (OffsetIntoFixedPortion 7) 1 0 }
-    ∷ record { layout = texts; message = bytes_of (8 ∷ 9 ∷ []); answer = Refused (OffsetOutOfBounds 9) 1 0 }
-    ∷ record { layout = texts; message = bytes_of (12 ∷ 14 ∷ 13 ∷ []) ++ (0 ∷ 0 ∷ []); answer = Refused (OffsetsAreDecreasing 13) 1 0 }
-    ∷ record { layout = texts; message = bytes_of (4 ∷ []) ++ (0 ∷ 0 ∷ 0 ∷ 0 ∷ 0 ∷ []); answer = Refused (OverLimit 5 4) 0 4 }
-    ∷ record { layout = two_texts; message = bytes_of (8 ∷ 8 ∷ []); answer = Accepted (record { records = 3; words = 2; bytes = 0 }) }
-    ∷ record { layout = two_texts; message = bytes_of (7 ∷ 8 ∷ []); answer = Refused (OffsetIntoFixedPortion 7) 1 0 }
-    ∷ record { layout = two_texts; message = bytes_of (8 ∷ []); answer = Refused (OffsetOutOfBounds 8) 1 0 }
+    record { layout = pair; message = 1 ∷ 0 ∷ 2 ∷ 0 ∷ []; answer = Ok (record { records = 3; words = 0; bytes = 4 }) }
+    ∷ record { layout = pair; message = 1 ∷ 0 ∷ 2 ∷ []; answer = Err (located (InvalidByteLength 3 4) 1 0) }
+    ∷ record { layout = numbers; message = []; answer = Ok (record { records = 1; words = 1; bytes = 0 }) }
+    ∷ record { layout = numbers; message = 1 ∷ 0 ∷ 2 ∷ 0 ∷ []; answer = Ok (record { records = 3; words = 1; bytes = 4 }) }
+    ∷ record { layout = numbers; message = 1 ∷ 0 ∷ 2 ∷ []; answer = Err (located (InvalidByteLength 3 2) 1 0) }
+    ∷ record { layout = numbers; message = 1 ∷ 0 ∷ 2 ∷ 0 ∷ 3 ∷ 0 ∷ 4 ∷ 0 ∷ []; answer = Err (located (OverLimit 4 3) 1 0) }
+    ∷ record { layout = texts; message = []; answer = Ok (record { records = 1; words = 1; bytes = 0 }) }
+    ∷ record { layout = texts; message = bytes_of (8 ∷ 9 ∷ []) ++ (10 ∷ 11 ∷ []); answer = Ok (record { records = 3; words = 3; bytes = 2 }) }
+    ∷ record { layout = texts; message = 4 ∷ 0 ∷ 0 ∷ []; answer = Err (located (InvalidLengthPrefix 3 4) 1 0) }
+    ∷ record { layout = texts; message = bytes_of (5 ∷ []); answer = Err (located (OffsetOutOfBounds 5) 1 0) }
+    ∷ record { layout = texts; message = bytes_of (0 ∷ []); answer = Err (located (InvalidListFixedBytesLen 0) 1 0) }
+    ∷ record { layout = texts; message = bytes_of (6 ∷ []) ++ (0 ∷ 0 ∷ []); answer = Err (located (InvalidListFixedBytesLen 6) 1 0) }
+    ∷ record { layout = texts; message = bytes_of (16 ∷ 0 ∷ 0 ∷ 0 ∷ []); answer = Err (located (OverLimit 4 3) 1 0) }
+    ∷ record { layout = texts; message = bytes_of (8 ∷ 7 ∷ []); answer = Err (located (OffsetIntoFixedPortion 7) 1 0) }
+    ∷ record { layout = texts; message = bytes_of (8 ∷ 9 ∷ []); answer = Err (located (OffsetOutOfBounds 9) 1 0) }
+    ∷ record { layout = texts; message = bytes_of (12 ∷ 14 ∷ 13 ∷ []) ++ (0 ∷ 0 ∷ []); answer = Err (located (OffsetsAreDecreasing 13) 1 0) }
+    ∷ record { layout = texts; message = bytes_of (4 ∷ []) ++ (0 ∷ 0 ∷ 0 ∷ 0 ∷ 0 ∷ []); answer = Err (located (OverLimit 5 4) 0 4) }
+    ∷ record { layout = two_texts; message = bytes_of (8 ∷ 8 ∷ []); answer = Ok (record { records = 3; words = 2; bytes = 0 }) }
+    ∷ record { layout = two_texts; message = bytes_of (7 ∷ 8 ∷ []); answer = Err (located (OffsetIntoFixedPortion 7) 1 0) }
+    ∷ record { layout = two_texts; message = bytes_of (8 ∷ []); answer = Err (located (OffsetOutOfBounds 8) 1 0) }
     ∷ []
 
 element-cases_hold : Holds element_cases

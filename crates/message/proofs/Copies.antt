@@ -30,12 +30,13 @@ use Rattle.message.specs.Read.{within, further, then_many, behind_first_lem, off
 use Rattle.message.specs.Listing.{list_each, list_item_lem, list_fields_lem}
 use Rattle.message.specs.Form.{in_order, contents, contents_all, bodies, bodies_all}
 use Rattle.message.specs.Unfold.{each_from, unfold_words, unfold_bytes, words_fields, bytes_fields}
-use Rattle.message.specs.declared.Answer.{Answer}
 use Rattle.message.proofs.Answers.{pick-left, pick_right}
+use Rattle.std.specs.Prelude.{⊤}
 use Rattle.std.specs.declared.result.Result.{Result}
 use Rattle.std.specs.declared.result.Result.TheVariants.{Ok, Err}
 use Rattle.std.specs.declared.option.Option.TheVariants.{Some}
-use Rattle.std.specs.Prelude.{⊤}
+use Rattle.message.specs.declared.RefusedAt.{RefusedAt}
+use Rattle.message.specs.declared.Counts.{Counts}
 
 -- What is said of n elements is said of n fields.
 module _ (e : Ty) where
@@ -44,7 +45,7 @@ module _ (e : Ty) where
   read-copies zero b p s = refl
   read-copies (suc n) b p s =
       let w = span_of (head e) (heads (copies e n)) b p in
-      rw (← heads-copies e n) (ap (λ (x : Answer). and_then (read_item e (part b w) (s + w.from)) x) (read-copies n b w.next s))
+      rw (← heads-copies e n) (ap (λ (x : Result Counts RefusedAt). and_then (read_item e (part b w) (s + w.from)) x) (read-copies n b w.next s))
 
   pub list-copies : (n : ℕ) (b : List ℕ) (p s : ℕ) → list_each (λ (x : List ℕ) (u : ℕ). list_item_lem e x u) (head e) n b p s ≡ list_fields_lem (copies e n) b p s
   unfolding list_each list_item_lem

@@ -15,9 +15,9 @@ use Rattle.standard.specs.declared.Refusal.{Refusal}
 use Rattle.standard.specs.declared.Refusal.TheVariants.{OffsetIntoFixedPortion, OffsetOutOfBounds, OffsetsAreDecreasing}
 use Rattle.message.specs.Read.{within, further, then_many, behind_first_lem, elements}
 use Rattle.message.proofs.Answers.{pick-holds}
+use Rattle.std.specs.Prelude.{⊤}
 use Rattle.std.specs.declared.result.Result.{Result}
 use Rattle.std.specs.declared.result.Result.TheVariants.{Ok, Err}
-use Rattle.std.specs.Prelude.{⊤}
 
 -- The loop over the offsets behind the first: what is left, from position p on, tells what the whole tells, and all of it is there.
 pub record Following (b : List ℕ) (first n previous p left : ℕ) : Type 0 where

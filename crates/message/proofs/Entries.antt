@@ -27,23 +27,24 @@ use Rattle.message.specs.Check.{message_type, under_table_lem}
 use Rattle.message.specs.Listing.{entry, list_item_lem, list_fields_lem, list_option}
 use Rattle.message.specs.Steps.{Under, Row, row_of, heads_of, choose, IsAccepted}
 use Rattle.message.specs.declared.Counts.{Counts}
-use Rattle.message.specs.declared.Answer.{Answer}
-use Rattle.message.specs.declared.Answer.TheVariants.{Accepted, Refused}
-use Rattle.message.specs.declared.items.Choice.{Choice}
 use Rattle.message.proofs.Answers.{right_accepted, then_both, built-both}
 use Rattle.message.proofs.Theorem.{read-start}
 use Rattle.message.proofs.Records.{length-entry, listed-length}
 use Rattle.message.proofs.Rows.{Lies, row-none, row_first, row_next, container_tree, span_ok, span_lies}
 use Rattle.message.proofs.Bodies.{fields_read, container-read, bare-says, body-says, body_below, body-read, wrong-read}
-use Rattle.std.specs.declared.result.Result.TheVariants.{Ok}
+use Rattle.std.specs.declared.result.Result.{Result}
+use Rattle.std.specs.declared.result.Result.TheVariants.{Ok, Err}
+use Rattle.std.specs.declared.option.Option.TheVariants.{Some, None}
+use Rattle.message.specs.declared.RefusedAt.{RefusedAt}
+use Rattle.message.specs.Read.{located}
 
 -- Acceptance does not depend on where the item starts.
 pub accepted-start : (x : Ty) (b : List ℕ) (s u : ℕ) → IsAccepted (read_item x b s) → IsAccepted (read_item x b u)
 accepted-start x b s u = go (read_item x b s) refl
   where
-    go : (r : Answer) → read_item x b s ≡ r → IsAccepted r → IsAccepted (read_item x b u)
-    go (Accepted c) e h = rw (read-start x b s u c e) tt
-    go (Refused r t v) e h = absurd h
+    go : (r : Result Counts RefusedAt) → read_item x b s ≡ r → IsAccepted r → IsAccepted (read_item x b u)
+    go (Ok c) e h = rw (read-start x b s u c e) tt
+    go (Err r) e h = absurd h
 
 -- One record.
 pub entry-stored : (o o₁ o₂ o₃ : List ℕ) (at t : ℕ) (b : List ℕ) (s : ℕ) → o₁ ≡ sets o at (le 4 t) → o₂ ≡ sets o₁ (at + 4) (le 4 s) →
@@ -205,16 +206,16 @@ module _ (lens l : List ℕ) (t : ℕ) (n : Node) (e : n ≡ node_of l t) (g : U
     unfolding list_item_lem
     union-list i = rw (as_union l t n e k, list-chosen l (trees l t) b s (n.at + 2) n.second i)
 
-    pub union-bare : Choice.Bare ≡ choose l (n.at + 2) n.second b → list_item_lem (tree_of l t) b s ≡ entry t b s
+    pub union-bare : (Ok None) ≡ choose l (n.at + 2) n.second b → list_item_lem (tree_of l t) b s ≡ entry t b s
     unfolding listed
     union-bare q =
         let r = bare-says l (n.at + 2) n.second b (sym q) in
         union-list r.0 ∙ rw (r.1, append-nil)
 
-    pub union-never : {A : Type 0} (r : Refusal) → Choice.Wrong r ≡ choose l (n.at + 2) n.second b → A
+    pub union-never : {A : Type 0} (r : Refusal) → Err r ≡ choose l (n.at + 2) n.second b → A
     union-never r q = absurd (rw (← wrong-read lens l t n e g k b s r q) at h)
 
-    module _ (o : ℕ) (q : Choice.Body o ≡ choose l (n.at + 2) n.second b) where
+    module _ (o : ℕ) (q : Ok (Some o) ≡ choose l (n.at + 2) n.second b) where
       pub union-body : list_item_lem (tree_of l t) b s ≡ entry t b s ++ list_item_lem (tree_of l o) (take (length b - 1) (drop 1 b)) (s + 1)
       unfolding listed
       union-body =
@@ -249,12 +250,12 @@ pub room-long : (o : List ℕ) (at : ℕ) (x : Ty) (b : List ℕ) (s : ℕ) → 
 room-long o at x b s g = omega (arith, g.room, list-long x b s)
 
 -- An accepted message under a legal table: it is below 2^32 bytes, and there is room for as many records as it counts.
-pub under-accepted : (l m : List ℕ) (n : ℕ) (c : Counts) → under_table_lem (Ok n) l m ≡ Accepted c →
-    (read_item (message_type l n) m 0 ≡ Accepted c) × (length m < 2 ^ 32)
+pub under-accepted : (l m : List ℕ) (n : ℕ) (c : Counts) → under_table_lem (Ok n) l m ≡ Ok c →
+    (read_item (message_type l n) m 0 ≡ Ok c) × (length m < 2 ^ 32)
 under-accepted l m n c e =
     let q = right_accepted (ltb 4294967295 (length m)) (read_item (message_type l n) m 0) TooLarge 0 0 c e in
     let k : length m ≤ 4294967295 = ltb-false _ _ q.0 in
     (q.1, omega arith)
 
-pub records-room : (x : Ty) (m o : List ℕ) (c : Counts) → read_item x m 0 ≡ Accepted c → c.records ≤ length o / 12 → Room o 0 (list_item_lem x m 0)
+pub records-room : (x : Ty) (m o : List ℕ) (c : Counts) → read_item x m 0 ≡ Ok c → c.records ≤ length o / 12 → Room o 0 (list_item_lem x m 0)
 records-room x m o c e k = record { room = omega (arith, listed-length x m 0 c e) }

@@ -24,14 +24,15 @@ use Rattle.bitfield.specs.Body.{bit_vector_body}
 use Rattle.message.specs.Read.{of_vector_lem, vector_told_lem, read_item}
 use Rattle.message.specs.Unfold.{each_from, unfold_words, words_fields, unfold_bytes, bytes_fields, Accepts}
 use Rattle.message.specs.Steps.{IsAccepted}
-use Rattle.message.specs.declared.Answer.{Answer}
-use Rattle.message.specs.declared.Answer.TheVariants.{Refused}
 use Rattle.message.proofs.Answers.{built-both}
 use Rattle.message.proofs.Bounds.{vector-length}
 use Rattle.message.proofs.Copies.{words-copies, bytes-copies, laid_out, laid-fixed, vector-laid}
+use Rattle.std.specs.Prelude.{⊤}
 use Rattle.std.specs.declared.result.Result.{Result}
 use Rattle.std.specs.declared.result.Result.TheVariants.{Ok, Err}
-use Rattle.std.specs.Prelude.{⊤}
+use Rattle.message.specs.declared.RefusedAt.{RefusedAt}
+use Rattle.message.specs.declared.Counts.{Counts}
+use Rattle.message.specs.Read.{located}
 
 not_fixed : {A : Type 0} (k : ℕ) → Variable ≡ Fixed k → A
 not_fixed k e = let z : ◌≡◌ {A = ℕ} 0 1 = cc in absurd (omega arith)
@@ -103,7 +104,7 @@ unfolding FixedForm
 fixed-each e w n b q h = copies-form e (λ x i. fixed-form e x i) w n b q h
 
 -- An accepted item of fixed size: its length is asked, or that of its fields or elements.
-test_true : (q : Bool) (x : Answer) (r : Refusal) (t s : ℕ) → IsAccepted (pick q x (Refused r t s)) → q ≡ true
+test_true : (q : Bool) (x : Result Counts RefusedAt) (r : Refusal) (t s : ℕ) → IsAccepted (pick q x (Err (located r t s))) → q ≡ true
 test_true true x r t s h = refl
 test_true false x r t s h = absurd h
 

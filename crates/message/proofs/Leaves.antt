@@ -36,14 +36,15 @@ use Rattle.message.specs.Listing.{entry, list_item_lem, list_fields_lem, list_op
 use Rattle.message.specs.Leaves.{Item, items_in, leaves_of, item_before, leaf_pieces}
 use Rattle.message.specs.Check.{message_type, check_message, listed_of, list_message, listed_records}
 use Rattle.message.specs.declared.Counts.{Counts}
-use Rattle.message.specs.declared.Answer.{Answer}
-use Rattle.message.specs.declared.Answer.TheVariants.{Accepted, Refused}
-use Rattle.message.specs.declared.Listed.{Listed}
 use Rattle.message.proofs.Answers.{pick_right}
 use Rattle.message.proofs.Copies.{list-copies, copies-many}
 use Rattle.message.proofs.Records.{length-entry, listed-length}
 use Rattle.message.proofs.Theorem.{message-read}
 use Rattle.message.proofs.Tiles.{message-tiled}
+use Rattle.std.specs.declared.result.Result.{Result}
+use Rattle.std.specs.declared.result.Result.TheVariants.{Err}
+use Rattle.message.specs.declared.RefusedAt.{RefusedAt}
+use Rattle.message.specs.Read.{located}
 
 -- Leaves of two rows.
 leaves_append : (l : List ℕ) (xs ys : List Item) → leaves_of l (xs ++ ys) ≡ leaves_of l xs ++ leaves_of l ys
@@ -261,7 +262,7 @@ module _ (l : List ℕ) where
       (λ k. vector-agrees t i (omega arith) _ _))
 
 -- An item: the listing of a value's encoding, of a type of a legal table, at any start.
-module _ (l : List ℕ) (n : ℕ) (h : Bytes l) (e : table_of l ≡ Ok n) (t : ℕ) (i : t < n) (v : Val (tree_of l t)) (o : Ok (tree_of l t) v)
+module _ (l : List ℕ) (n : ℕ) (h : Bytes l) (e : table_of l ≡ Result.Ok n) (t : ℕ) (i : t < n) (v : Val (tree_of l t)) (o : Ok (tree_of l t) v)
     (b : List ℕ) (q : serialize (tree_of l t) v ≡ b) (s : ℕ) (j : s + length b < 2 ^ 32) where
   item_reads : Reads l (list_item_lem (tree_of l t) b s) (leaf_pieces (pieces (tree_of l t) v s))
   unfolding Agrees
@@ -277,7 +278,7 @@ module _ (l : List ℕ) (n : ℕ) (h : Bytes l) (e : table_of l ≡ Ok n) (t : �
 -- message is the encoding of a value within bounds, and the leaves among the k records that the buffer then begins with are that value's leaf pieces.
 pub record Leaves (l m o : List ℕ) (k : ℕ) : Type 0 where
   pub types : ℕ
-  pub legal : table_of l ≡ Ok types
+  pub legal : table_of l ≡ Result.Ok types
   pub value : Val (message_type l types)
   pub in_bounds : Ok (message_type l types) value
   pub encoded : serialize (message_type l types) value ≡ m
@@ -287,12 +288,12 @@ pub record Leaves (l m o : List ℕ) (k : ℕ) : Type 0 where
 
 -- The answer says that the message is accepted, with so many records, and that there is room for them.
 records_say :
-    (x : Answer) (o : List ℕ) (k : ℕ) → listed_of x o ≡ Listed.Records k
-    → (c : Counts) × (x ≡ Accepted c) × (c.records ≤ length o / 12) × (c.records ≡ k)
-records_say (Refused r t s) o k e = let z : ◌≡◌ {A = ℕ} 0 1 = cc in absurd (omega arith)
-records_say (Accepted c) o k e =
-    let i = pick_right (ltb (length o / 12) c.records) _ _ (Listed.Records k) (λ f. let z : ◌≡◌ {A = ℕ} 0 1 = cc in omega arith) e in
-    let q : Listed.Records c.records ≡ Listed.Records k = i.1 in
+    (x : Result Counts RefusedAt) (o : List ℕ) (k : ℕ) → listed_of x o ≡ Result.Ok k
+    → (c : Counts) × (x ≡ Result.Ok c) × (c.records ≤ length o / 12) × (c.records ≡ k)
+records_say (Err r) o k e = let z : ◌≡◌ {A = ℕ} 0 1 = cc in absurd (omega arith)
+records_say (Result.Ok c) o k e =
+    let i = pick_right (ltb (length o / 12) c.records) _ _ (Result.Ok k) (λ f. let z : ◌≡◌ {A = ℕ} 0 1 = cc in omega arith) e in
+    let q : Result.Ok c.records ≡ Result.Ok k = i.1 in
     (c, refl, ltb-false _ _ i.0, cc)
 
 -- Records that are stored at the front are read there.
@@ -305,12 +306,12 @@ reads-stored {x = x} o k g h i =
 
 -- What the call leaves in the buffer.
 listed-stored :
-    (l m o : List ℕ) (n : ℕ) (c : Counts) → table_of l ≡ Ok n → check_message l m ≡ Accepted c → c.records ≤ length o / 12
+    (l m o : List ℕ) (n : ℕ) (c : Counts) → table_of l ≡ Result.Ok n → check_message l m ≡ Result.Ok c → c.records ≤ length o / 12
     → listed_records l m o ≡ sets o 0 (list_item_lem (message_type l n) m 0)
 unfolding listed_records
 listed-stored l m o n c e f h = rw (e, f, le-ltb _ _ h)
 
-pub listed_leaves : (l m o : List ℕ) (k : ℕ) → Bytes l → Bytes m → list_message l m o ≡ Listed.Records k → Leaves l m o k
+pub listed_leaves : (l m o : List ℕ) (k : ℕ) → Bytes l → Bytes m → list_message l m o ≡ Result.Ok k → Leaves l m o k
 unfolding list_message
 listed_leaves l m o k h i e =
     let q = records_say (check_message l m) o k e in

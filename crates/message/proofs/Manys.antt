@@ -26,9 +26,9 @@ use Rattle.message.specs.Steps.{Under, Row, row_of, heads_of, many_in_lem, IsAcc
 use Rattle.message.proofs.Answers.{then_both, built-both, many-both}
 use Rattle.message.proofs.Copies.{Some, Laid, elements_laid, vector-laid}
 use Rattle.message.proofs.Repeats.{else_list, element-some, element-heads, element-row, list_read, list-listed, list-bytes, vector-read, vector-listed, vector-bytes}
+use Rattle.standard.specs.declared.Refusal.{Refusal}
 use Rattle.std.specs.declared.result.Result.{Result}
 use Rattle.std.specs.declared.result.Result.TheVariants.{Ok}
-use Rattle.standard.specs.declared.Refusal.{Refusal}
 
 -- m elements of the type t, whose words are n, lie in b and are accepted; the listing and the body bytes of b are theirs.
 pub record Held (l : List ℕ) (t : ℕ) (n : Node) (m : ℕ) (b : List ℕ) (s : ℕ) : Type 0 where

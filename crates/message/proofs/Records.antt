@@ -14,9 +14,9 @@ use Rattle.bitfield.specs.Body.{bit_list_body, bit_vector_body}
 use Rattle.message.specs.Read.{raw_bytes_lem, one, and_then, elements, many_of, vector_told_lem, read_each, read_item, read_fields, read_option}
 use Rattle.message.specs.Listing.{entry, list_each, list_item_lem, list_fields_lem, list_option}
 use Rattle.message.specs.declared.Counts.{Counts}
-use Rattle.message.specs.declared.Answer.TheVariants.{Accepted}
 use Rattle.message.proofs.Answers.{none, single, not_accepted, accepted-same, pick-cases, left-accepted, right_accepted, leaf-accepted, then_accepted, behind-accepted, built-accepted, vector-accepted, list-accepted, many-accepted}
 use Rattle.message.proofs.Copies.{read-copies, list-copies}
+use Rattle.std.specs.declared.result.Result.TheVariants.{Ok}
 
 pub length-entry : (t : ℕ) (b : List ℕ) (s : ℕ) → length (entry t b s) ≡ 12
 unfolding entry
@@ -27,10 +27,10 @@ leaf-listed t b s w k c e = rw e (length-entry t b s)
 
 -- The law about one type, from it that about a row of fields, and that about elements
 Counted : Ty → Type 0
-Counted t = (b : List ℕ) (s : ℕ) (c : Counts) → read_item t b s ≡ Accepted c → length (list_item_lem t b s) ≡ 12 * c.records
+Counted t = (b : List ℕ) (s : ℕ) (c : Counts) → read_item t b s ≡ Ok c → length (list_item_lem t b s) ≡ 12 * c.records
 
 row_listed :
-    (ts : Tys) → All Counted ts → (b : List ℕ) (p s : ℕ) (c : Counts) → read_fields ts b p s ≡ Accepted c → length (list_fields_lem ts b p s) ≡ 12 * c.records
+    (ts : Tys) → All Counted ts → (b : List ℕ) (p s : ℕ) (c : Counts) → read_fields ts b p s ≡ Ok c → length (list_fields_lem ts b p s) ≡ 12 * c.records
 unfolding Counted read_item list_item_lem
 row_listed end f b p s c e = rw (← accepted-same none c e)
 row_listed (field t ts) f b p s c e =
@@ -42,7 +42,7 @@ row_listed (field t ts) f b p s c e =
 
 elements-listed :
     (e : Ty) → Counted e → (n : ℕ) (b : List ℕ) (s : ℕ) (c : Counts)
-    → read_each (λ (x : List ℕ) (u : ℕ). read_item e x u) (head e) n b 0 s ≡ Accepted c
+    → read_each (λ (x : List ℕ) (u : ℕ). read_item e x u) (head e) n b 0 s ≡ Ok c
     → length (list_each (λ (x : List ℕ) (u : ℕ). list_item_lem e x u) (head e) n b 0 s) ≡ 12 * c.records
 elements-listed e f n b s c i =
     rw (list-copies e n b 0 s) (row_listed (copies e n) (all-copies Counted e n f) b 0 s c (rw (read-copies e n b 0 s) at i))
@@ -50,7 +50,7 @@ elements-listed e f n b s c i =
 mutual
   unfolding Counted read_item list_item_lem
 
-  pub listed-length : (t : Ty) (b : List ℕ) (s : ℕ) (c : Counts) → read_item t b s ≡ Accepted c → length (list_item_lem t b s) ≡ 12 * c.records
+  pub listed-length : (t : Ty) (b : List ℕ) (s : ℕ) (c : Counts) → read_item t b s ≡ Ok c → length (list_item_lem t b s) ≡ 12 * c.records
   listed-length (number t w) b s c e = leaf-listed t b s 0 (length b) c (leaf-accepted (eqb (length b) w) 0 (length b) _ t s c e).1
   listed-length (boolean t) b s c e =
       let p = left-accepted (eqb (length b) 1) _ _ t s c e in
@@ -88,16 +88,16 @@ mutual
 
   -- the union's own record, and those of the option
   option-listed :
-      (os : Opts) (k : ℕ) (b : List ℕ) (t s : ℕ) (c : Counts) → read_option os k b t s ≡ Accepted c
+      (os : Opts) (k : ℕ) (b : List ℕ) (t s : ℕ) (c : Counts) → read_option os k b t s ≡ Ok c
       → 12 + length (list_option os k b s) ≡ 12 * c.records
   option-listed over k b t s c e = not_accepted _ t s c e
   option-listed (bare j os) k b t s c e =
-      pick-cases (eqb k j) _ (read_option os k b t s) (Accepted c)
+      pick-cases (eqb k j) _ (read_option os k b t s) (Ok c)
       (λ i f. let q = leaf-accepted (eqb (length b) 1) 1 0 _ t s c f in rw (i, q.1))
       (λ i f. rw i (option-listed os k b t s c f))
       e
   option-listed (body j o os) k b t s c e =
-      pick-cases (eqb k j) (and_then (one 1 0) (read_item o (drop 1 b) (s + 1))) (read_option os k b t s) (Accepted c)
+      pick-cases (eqb k j) (and_then (one 1 0) (read_item o (drop 1 b) (s + 1))) (read_option os k b t s) (Ok c)
       (λ i f.
       let q = behind-accepted (single 1 0) (read_item o (drop 1 b) (s + 1)) c f in
       rw (i, q.2) (omega (arith, listed-length o (drop 1 b) (s + 1) q.0 q.1)))
@@ -105,5 +105,5 @@ mutual
       e
 
 pub fields-listed :
-    (ts : Tys) (b : List ℕ) (p s : ℕ) (c : Counts) → read_fields ts b p s ≡ Accepted c → length (list_fields_lem ts b p s) ≡ 12 * c.records
+    (ts : Tys) (b : List ℕ) (p s : ℕ) (c : Counts) → read_fields ts b p s ≡ Ok c → length (list_fields_lem ts b p s) ≡ 12 * c.records
 fields-listed ts = row_listed ts (all_listed ts)

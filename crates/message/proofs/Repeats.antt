@@ -21,12 +21,13 @@ use Rattle.message.specs.Read.{one, and_then, built, of_elements, elements, many
 use Rattle.message.specs.Listing.{entry, list_item_lem, list_fields_lem}
 use Rattle.message.specs.Unfold.{unfold_words, unfold_bytes, words_fields, bytes_fields}
 use Rattle.message.specs.Steps.{Under, Row, Named, row_of, heads_of}
-use Rattle.message.specs.declared.Answer.{Answer}
 use Rattle.message.proofs.Rows.{node_legal, under-below, under-head, under-small}
 use Rattle.message.proofs.Copies.{Some, read-copies, list-copies, words-copies, bytes-copies}
+use Rattle.standard.specs.declared.Refusal.{Refusal}
 use Rattle.std.specs.declared.result.Result.{Result}
 use Rattle.std.specs.declared.result.Result.TheVariants.{Ok, Err}
-use Rattle.standard.specs.declared.Refusal.{Refusal}
+use Rattle.message.specs.declared.RefusedAt.{RefusedAt}
+use Rattle.message.specs.declared.Counts.{Counts}
 
 -- Fields that share the word at, which names the type e
 shared-row : (l : List ℕ) (t at n : ℕ) (e : Ty) → get_or (trees l t) (word_at l at) (boolean 0) ≡ e → row_of l t at 0 n ≡ copies e n
@@ -47,7 +48,7 @@ module _ (l : List ℕ) (t at e : ℕ) (q : e ≡ word_at l at) (h : e < t) wher
   pub shared-heads : (n : ℕ) → heads_of l t at 0 n ≡ replicate n (head (tree_of l e))
   shared-heads n = ap heads (shared-copies n) ∙ heads-copies (tree_of l e) n
 
-elements_same : (d : Result ℕ Refusal) (t s : ℕ) (x y : ℕ → Answer) → ((m : ℕ) → x m ≡ y m) → of_elements d t s x ≡ of_elements d t s y
+elements_same : (d : Result ℕ Refusal) (t s : ℕ) (x y : ℕ → Result Counts RefusedAt) → ((m : ℕ) → x m ≡ y m) → of_elements d t s x ≡ of_elements d t s y
 elements_same (Err r) t s x y f = refl
 elements_same (Ok m) t s x y f = f m
 
@@ -144,7 +145,7 @@ module _ (lens l : List ℕ) (t : ℕ) (n : Node) (e : n ≡ node_of l t) (g : U
     unfolding read_item
     vector-read b s =
         rw (vector_tree, element-copies (word_at l (n.at + 2)))
-        (ap (λ (x : Answer). built (vector_told_lem (head element_type) (word_at l (n.at + 2)) b) t s (and_then (one 0 0) x))
+        (ap (λ (x : Result Counts RefusedAt). built (vector_told_lem (head element_type) (word_at l (n.at + 2)) b) t s (and_then (one 0 0) x))
         (read-copies element_type (word_at l (n.at + 2)) b 0 s))
 
     pub vector-listed : (b : List ℕ) (s : ℕ) → list_item_lem (tree_of l t) b s ≡ entry t b s ++ list_fields_lem (row_of l t (n.at + 1) 0 (word_at l (n.at + 2))) b 0 s

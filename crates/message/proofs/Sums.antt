@@ -17,8 +17,8 @@ use Rattle.layout.proofs.Trees.{legal_tree}
 use Rattle.message.specs.Read.{plus, read_item}
 use Rattle.message.specs.Steps.{Small}
 use Rattle.message.specs.declared.Counts.{Counts}
-use Rattle.message.specs.declared.Answer.TheVariants.{Accepted}
 use Rattle.message.proofs.Bounds.{Within, room, room_least, room_span, item_in, tree_depth}
+use Rattle.std.specs.declared.result.Result.TheVariants.{Ok}
 
 -- The bytes that fields from the position p on take: their fixed portion, and what lies behind the next offset
 unfoldable pub spread : List Head → List ℕ → ℕ → ℕ
@@ -66,7 +66,7 @@ spread-first h hs b p r =
 module _ (l : List ℕ) (f : ℕ) (hs : List Head) (b : List ℕ) (p : ℕ) (g : Legal l (f + 1)) (few : f < 64) (r : InRange (head (tree_of l f) ∷ hs) b p 0) where
   pub summed-item :
       (w : Span) → w ≡ span_of (head (tree_of l f)) hs b p → (s : ℕ) (sum c : Counts) (whole : ℕ)
-      → Summed sum (spread (head (tree_of l f) ∷ hs) b p) whole → read_item (tree_of l f) (part b w) s ≡ Accepted c
+      → Summed sum (spread (head (tree_of l f) ∷ hs) b p) whole → read_item (tree_of l f) (part b w) s ≡ Ok c
       → Summed (plus sum c) (spread hs b w.next) whole
   summed-item w q s sum c whole x e =
       let d = tree_depth l (f + 1) f g (omega arith) in

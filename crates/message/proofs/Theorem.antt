@@ -36,13 +36,12 @@ use Rattle.layout.proofs.Tables.{table_legal}
 use Rattle.message.specs.Read.{raw_bytes_lem, one, plus, and_then, built, of_vector_lem, of_list, of_elements, elements, vector_told_lem, read_each, read_item, read_fields, read_option}
 use Rattle.message.specs.Check.{message_type, check_message}
 use Rattle.message.specs.declared.Counts.{Counts}
-use Rattle.message.specs.declared.Answer.{Answer}
-use Rattle.message.specs.declared.Answer.TheVariants.{Accepted, Refused}
 use Rattle.message.proofs.Answers.{single, not_accepted, pick-cases, left-accepted, right_accepted, leaf-accepted, then_accepted, then_accepts, behind-accepted, built-accepted, vector-accepted, list-accepted, many-accepted}
 use Rattle.message.proofs.Copies.{read-copies, Laid, laid_out, vector-laid, laid-vector, elements_laid, laid-elements}
 use Rattle.std.specs.declared.result.Result.{Result}
 use Rattle.std.specs.declared.result.Result.TheVariants.{Err}
-use Rattle.std.specs.Prelude.{⊤}
+use Rattle.message.specs.declared.RefusedAt.{RefusedAt}
+use Rattle.message.specs.Read.{located}
 
 -- What is accepted is the serialization of a value.
 sound-boolean : (b : List ℕ) → length b ≡ 1 → get_or b 0 0 < 2 → (x : Bool) × (bit x ∷ [] ≡ b)
@@ -60,10 +59,10 @@ alone j k [] e l = ap (λ (y : ℕ). y ∷ []) (sym e)
 alone j k (x ∷ r) e l = absurd (omega arith)
 
 Sound : Ty → Type 0
-Sound t = (b : List ℕ) (s : ℕ) (c : Counts) → LegalTy t → Bytes b → read_item t b s ≡ Accepted c → (v : Val t) × Ok t v × (serialize t v ≡ b)
+Sound t = (b : List ℕ) (s : ℕ) (c : Counts) → LegalTy t → Bytes b → read_item t b s ≡ Result.Ok c → (v : Val t) × Ok t v × (serialize t v ≡ b)
 
 row-sound :
-    (ts : Tys) → All Sound ts → (b : List ℕ) (p s : ℕ) (c : Counts) → LegalAll ts → Bytes b → read_fields ts b p s ≡ Accepted c
+    (ts : Tys) → All Sound ts → (b : List ℕ) (p s : ℕ) (c : Counts) → LegalAll ts → Bytes b → read_fields ts b p s ≡ Result.Ok c
     → (vs : Vals ts) × OkAll ts vs × (parts ts vs ≡ split (heads ts) b p)
 unfolding Sound read_item serialize Ok heads split LegalTy
 row-sound end f b p s c l h e = (tt, tt, refl)
@@ -75,7 +74,7 @@ row-sound (field t ts) f b p s c l h e =
     ((x.0, y.0), (x.1, y.1), ap₂ (λ (u : List ℕ) (v : List Part). piece (head t) u ∷ v) x.2 y.2)
 
 whole-sound :
-    (ts : Tys) → All Sound ts → (b : List ℕ) (s : ℕ) (c : Counts) → LegalAll ts → Bytes b → Laid (heads ts) b → read_fields ts b 0 s ≡ Accepted c
+    (ts : Tys) → All Sound ts → (b : List ℕ) (s : ℕ) (c : Counts) → LegalAll ts → Bytes b → Laid (heads ts) b → read_fields ts b 0 s ≡ Result.Ok c
     → (vs : Vals ts) × OkAll ts vs × (join (parts ts vs) ≡ b)
 whole-sound ts f b s c l h g e =
     let r = row-sound ts f b 0 s c l h e in
@@ -83,7 +82,7 @@ whole-sound ts f b s c l h g e =
 
 elements-sound :
     (e : Ty) → Sound e → (n : ℕ) (b : List ℕ) (s : ℕ) (c : Counts) → LegalTy e → Bytes b → Laid (replicate n (head e)) b
-    → read_each (λ (x : List ℕ) (u : ℕ). read_item e x u) (head e) n b 0 s ≡ Accepted c
+    → read_each (λ (x : List ℕ) (u : ℕ). read_item e x u) (head e) n b 0 s ≡ Result.Ok c
     → (vs : List (Val e)) × (length vs ≡ n) × Each (λ (v : Val e). Ok e v) vs × (join (alike (head e) (λ (v : Val e). serialize e v) vs) ≡ b)
 elements-sound e f n b s c l h g i =
     let d = rw (← heads-copies e n) at g in
@@ -94,7 +93,7 @@ mutual
   unfolding Sound read_item serialize Ok LegalTy
 
   pub sound :
-      (t : Ty) (b : List ℕ) (s : ℕ) (c : Counts) → LegalTy t → Bytes b → read_item t b s ≡ Accepted c
+      (t : Ty) (b : List ℕ) (s : ℕ) (c : Counts) → LegalTy t → Bytes b → read_item t b s ≡ Result.Ok c
       → (v : Val t) × Ok t v × (serialize t v ≡ b)
   sound (number t w) b s c l h e =
       let k : length b ≡ w = eqb-true _ _ (leaf-accepted (eqb (length b) w) 0 (length b) _ t s c e).0 in
@@ -141,18 +140,18 @@ mutual
   all_sound (field t ts) = ((λ b s c l h e. sound t b s c l h e), all_sound ts)
 
   sound-option :
-      (os : Opts) (k : ℕ) (r : List ℕ) (t s : ℕ) (c : Counts) → LegalOptions os → Bytes (k ∷ r) → read_option os k (k ∷ r) t s ≡ Accepted c
+      (os : Opts) (k : ℕ) (r : List ℕ) (t s : ℕ) (c : Counts) → LegalOptions os → Bytes (k ∷ r) → read_option os k (k ∷ r) t s ≡ Result.Ok c
       → (v : Option os) × OkOption os v × (selected os v ≡ k ∷ r)
   sound-option over k r t s c l h e = not_accepted _ t s c e
   sound-option (bare j os) k r t s c l h e =
-      pick-cases (eqb k j) _ (read_option os k (k ∷ r) t s) (Accepted c)
+      pick-cases (eqb k j) _ (read_option os k (k ∷ r) t s) (Result.Ok c)
       (λ i f.
       let q = leaf-accepted (eqb (length (k ∷ r)) 1) 1 0 _ t s c f in
       (inl tt, tt, alone j k r (eqb-true _ _ i) (eqb-true _ _ q.0)))
       (λ i f. let x = sound-option os k r t s c l h f in (inr x.0, x.1, x.2))
       e
   sound-option (body j o os) k r t s c l h e =
-      pick-cases (eqb k j) (and_then (one 1 0) (read_item o r (s + 1))) (read_option os k (k ∷ r) t s) (Accepted c)
+      pick-cases (eqb k j) (and_then (one 1 0) (read_item o r (s + 1))) (read_option os k (k ∷ r) t s) (Result.Ok c)
       (λ i f.
       let q = behind-accepted (single 1 0) (read_item o r (s + 1)) c f in
       let x = sound o r (s + 1) q.0 l.0 (bytes_drop 1 (k ∷ r) h) q.1 in
@@ -163,11 +162,11 @@ mutual
 -- The serialization of a value is accepted.
 Complete : Ty → Type 0
 Complete t =
-    (v : Val t) (s : ℕ) → LegalTy t → Ok t v → length (serialize t v) < 2 ^ 32 → (c : Counts) × (read_item t (serialize t v) s ≡ Accepted c)
+    (v : Val t) (s : ℕ) → LegalTy t → Ok t v → length (serialize t v) < 2 ^ 32 → (c : Counts) × (read_item t (serialize t v) s ≡ Result.Ok c)
 
 row-complete :
     (ts : Tys) → All Complete ts → (vs : Vals ts) (b : List ℕ) (p s : ℕ) → LegalAll ts → OkAll ts vs → Small (parts ts vs)
-    → split (heads ts) b p ≡ parts ts vs → (c : Counts) × (read_fields ts b p s ≡ Accepted c)
+    → split (heads ts) b p ≡ parts ts vs → (c : Counts) × (read_fields ts b p s ≡ Result.Ok c)
 unfolding Complete read_item serialize Ok heads split Small LegalTy
 row-complete end f vs b p s l h k e = (record { records = 0; words = 0; bytes = 0 }, refl)
 row-complete (field t ts) f vs b p s l h k e =
@@ -181,7 +180,7 @@ row-complete (field t ts) f vs b p s l h k e =
 
 whole-complete :
     (ts : Tys) → All Complete ts → (vs : Vals ts) (s : ℕ) → LegalAll ts → OkAll ts vs → length (join (parts ts vs)) < 2 ^ 32
-    → (c : Counts) × Laid (heads ts) (join (parts ts vs)) × (read_fields ts (join (parts ts vs)) 0 s ≡ Accepted c)
+    → (c : Counts) × Laid (heads ts) (join (parts ts vs)) × (read_fields ts (join (parts ts vs)) 0 s ≡ Result.Ok c)
 whole-complete ts f vs s l h k =
     let xs = parts ts vs in
     let z = values_sized ts vs h in
@@ -192,14 +191,14 @@ whole-complete ts f vs s l h k =
 elements-complete :
     (e : Ty) → Complete e → (n : ℕ) (vs : Vals (copies e n)) (s : ℕ) → LegalTy e → OkAll (copies e n) vs → length (join (parts (copies e n) vs)) < 2 ^ 32
     → (c : Counts) × Laid (replicate n (head e)) (join (parts (copies e n) vs))
-    × (read_each (λ (x : List ℕ) (u : ℕ). read_item e x u) (head e) n (join (parts (copies e n) vs)) 0 s ≡ Accepted c)
+    × (read_each (λ (x : List ℕ) (u : ℕ). read_item e x u) (head e) n (join (parts (copies e n) vs)) 0 s ≡ Result.Ok c)
 elements-complete e f n vs s l h k =
     let r = whole-complete (copies e n) (all-copies Complete e n f) vs s (legal-copies e n l) h k in
     (r.0, rw (heads-copies e n) at r.1, read-copies e n (join (parts (copies e n) vs)) 0 s ∙ r.2)
 
 list_completes :
     (t : ℕ) (e : Ty) (limit : ℕ) → Complete e → LegalTy e → (vs : List (Val e)) (s : ℕ) → Ok (list t e limit) vs
-    → length (serialize (list t e limit) vs) < 2 ^ 32 → (c : Counts) × (read_item (list t e limit) (serialize (list t e limit) vs) s ≡ Accepted c)
+    → length (serialize (list t e limit) vs) < 2 ^ 32 → (c : Counts) × (read_item (list t e limit) (serialize (list t e limit) vs) s ≡ Result.Ok c)
 unfolding read_item serialize Ok
 list_completes t e limit f l =
     by_copies e _
@@ -211,7 +210,7 @@ list_completes t e limit f l =
 
 vector_completes :
     (t : ℕ) (e : Ty) (m : ℕ) → Complete e → LegalTy e → (vs : List (Val e)) (s : ℕ) → Ok (vector t e m) vs
-    → length (serialize (vector t e m) vs) < 2 ^ 32 → (c : Counts) × (read_item (vector t e m) (serialize (vector t e m) vs) s ≡ Accepted c)
+    → length (serialize (vector t e m) vs) < 2 ^ 32 → (c : Counts) × (read_item (vector t e m) (serialize (vector t e m) vs) s ≡ Result.Ok c)
 unfolding read_item serialize Ok
 vector_completes t e m f l =
     by_copies e _
@@ -227,7 +226,7 @@ mutual
 
   pub complete :
       (t : Ty) (v : Val t) (s : ℕ) → LegalTy t → Ok t v → length (serialize t v) < 2 ^ 32
-      → (c : Counts) × (read_item t (serialize t v) s ≡ Accepted c)
+      → (c : Counts) × (read_item t (serialize t v) s ≡ Result.Ok c)
   complete (number t w) n s l h k = (single 0 (length (le w n)), rw (eq-eqb _ _ (length-le w n)))
   complete (boolean t) x s l h k = (single 0 1, rw (lt-ltb _ _ (bit-bound x)))
   complete (fixed_bytes t n) bs s l h k = (single 0 (length bs), rw (eq-eqb _ _ h.1))
@@ -254,7 +253,7 @@ mutual
   complete-option :
       (os : Opts) (v : Option os) (k t s : ℕ) → Rising k os → LegalOptions os → OkOption os v
       → length (selector os v ∷ payload os v) < 2 ^ 32
-      → (c : Counts) × (read_option os (selector os v) (selector os v ∷ payload os v) t s ≡ Accepted c)
+      → (c : Counts) × (read_option os (selector os v) (selector os v ∷ payload os v) t s ≡ Result.Ok c)
   complete-option over v k t s g l h n = absurd v
   complete-option (bare j os) (inl x) k t s g l h n = (single 1 0, rw (eq-eqb j j refl))
   complete-option (bare j os) (inr v) k t s g l h n =
@@ -272,9 +271,9 @@ mutual
 -- The whole: b is accepted exactly if it is the serialization of a value of the type t, and that value is the only one.
 module _ (t : Ty) (g : LegalTy t) (b : List ℕ) where
   pub accepted_iff :
-      (s : ℕ) → Bytes b → length b < 2 ^ 32 → ((c : Counts) × (read_item t b s ≡ Accepted c)) ↔ ((v : Val t) × Ok t v × (serialize t v ≡ b))
+      (s : ℕ) → Bytes b → length b < 2 ^ 32 → ((c : Counts) × (read_item t b s ≡ Result.Ok c)) ↔ ((v : Val t) × Ok t v × (serialize t v ≡ b))
   accepted_iff s h k = (
-    (λ (x : (c : Counts) × (read_item t b s ≡ Accepted c)). sound t b s x.0 g h x.1),
+    (λ (x : (c : Counts) × (read_item t b s ≡ Result.Ok c)). sound t b s x.0 g h x.1),
     (λ (x : (v : Val t) × Ok t v × (serialize t v ≡ b)). rw x.2 at (complete t x.0 s g x.1 (rw x.2 k))),
   )
 
@@ -282,7 +281,7 @@ module _ (t : Ty) (g : LegalTy t) (b : List ℕ) where
   only_one k v w h i e f = injective t v w g h i (rw e k) (e ∙ sym f)
 
 -- The call: under a legal table, a message is accepted exactly if it is the serialization of a value of the table's last type.
-module _ (l : List ℕ) (n : ℕ) (h : Bytes l) (e : table_of l ≡ Ok n) (m : List ℕ) (k : length m < 2 ^ 32) where
+module _ (l : List ℕ) (n : ℕ) (h : Bytes l) (e : table_of l ≡ Result.Ok n) (m : List ℕ) (k : length m < 2 ^ 32) where
   pub message-read : check_message l m ≡ read_item (message_type l n) m 0
   unfolding check_message
   message-read = rw (e, le-ltb 4294967295 (length m) (omega arith))
@@ -292,7 +291,7 @@ module _ (l : List ℕ) (n : ℕ) (h : Bytes l) (e : table_of l ≡ Ok n) (m : L
 
   pub message_iff :
       Bytes m
-      → ((c : Counts) × (check_message l m ≡ Accepted c)) ↔ ((v : Val (message_type l n)) × Ok (message_type l n) v × (serialize (message_type l n) v ≡ m))
+      → ((c : Counts) × (check_message l m ≡ Result.Ok c)) ↔ ((v : Val (message_type l n)) × Ok (message_type l n) v × (serialize (message_type l n) v ≡ m))
   message_iff i = rw message-read (accepted_iff (message_type l n) message-legal m 0 i k)
 
   pub message-one :
@@ -301,42 +300,42 @@ module _ (l : List ℕ) (n : ℕ) (h : Bytes l) (e : table_of l ≡ Ok n) (m : L
   message-one = only_one (message_type l n) message-legal m k
 
 -- Where an item starts is no matter to its acceptance, nor to its counts: y accepts what x accepts.
-Same : Answer → Answer → Type 0
-Same x y = (c : Counts) → x ≡ Accepted c → y ≡ Accepted c
+Same : Result Counts RefusedAt → Result Counts RefusedAt → Type 0
+Same x y = (c : Counts) → x ≡ Result.Ok c → y ≡ Result.Ok c
 
-same_refused : (r : Refusal) (t s : ℕ) (y : Answer) → Same (Refused r t s) y
+same_refused : (r : Refusal) (t s : ℕ) (y : Result Counts RefusedAt) → Same (Err (located r t s)) y
 unfolding Same
 same_refused r t s y c e = not_accepted r t s c e
 
-same_self : (x : Answer) → Same x x
+same_self : (x : Result Counts RefusedAt) → Same x x
 unfolding Same
 same_self x c e = e
 
-same-pick : (q : Bool) (x y u v : Answer) → Same x u → Same y v → Same (pick q x y) (pick q u v)
+same-pick : (q : Bool) (x y u v : Result Counts RefusedAt) → Same x u → Same y v → Same (pick q x y) (pick q u v)
 same-pick true x y u v f g = f
 same-pick false x y u v f g = g
 
-same_then : (x y u v : Answer) → Same x u → Same y v → Same (and_then x y) (and_then u v)
+same_then : (x y u v : Result Counts RefusedAt) → Same x u → Same y v → Same (and_then x y) (and_then u v)
 unfolding Same
 same_then x y u v f g c e =
     let q = then_accepted x y c e in
-    then_accepts u v q.0 q.1 (f q.0 q.2) (g q.1 q.3) ∙ ap Accepted (sym q.4)
+    then_accepts u v q.0 q.1 (f q.0 q.2) (g q.1 q.3) ∙ ap Result.Ok (sym q.4)
 
-same-built : (d : Result ⊤ Refusal) (t s u : ℕ) (x y : Answer) → Same x y → Same (built d t s x) (built d t u y)
-same-built (Err r) t s u x y f = same_refused r t s (Refused r t u)
-same-built (Ok tt) t s u x y f = f
+same-built : (d : Result ⊤ Refusal) (t s u : ℕ) (x y : Result Counts RefusedAt) → Same x y → Same (built d t s x) (built d t u y)
+same-built (Err r) t s u x y f = same_refused r t s (Err (located r t u))
+same-built (Result.Ok tt) t s u x y f = f
 
 same-vector : (d : Result ⊤ Refusal) (t s u n : ℕ) → Same (of_vector_lem d t s n) (of_vector_lem d t u n)
-same-vector (Err r) t s u n = same_refused r t s (Refused r t u)
-same-vector (Ok tt) t s u n = same_self (one 0 n)
+same-vector (Err r) t s u n = same_refused r t s (Err (located r t u))
+same-vector (Result.Ok tt) t s u n = same_self (one 0 n)
 
 same-list : (d : Result ℕ Refusal) (t s u : ℕ) → Same (of_list d t s) (of_list d t u)
-same-list (Err r) t s u = same_refused r t s (Refused r t u)
-same-list (Ok k) t s u = same_self (one 1 (raw_bytes_lem k))
+same-list (Err r) t s u = same_refused r t s (Err (located r t u))
+same-list (Result.Ok k) t s u = same_self (one 1 (raw_bytes_lem k))
 
-same-elements : (d : Result ℕ Refusal) (t s u : ℕ) (x y : ℕ → Answer) → ((n : ℕ) → Same (x n) (y n)) → Same (of_elements d t s x) (of_elements d t u y)
-same-elements (Err r) t s u x y f = same_refused r t s (Refused r t u)
-same-elements (Ok n) t s u x y f = f n
+same-elements : (d : Result ℕ Refusal) (t s u : ℕ) (x y : ℕ → Result Counts RefusedAt) → ((n : ℕ) → Same (x n) (y n)) → Same (of_elements d t s x) (of_elements d t u y)
+same-elements (Err r) t s u x y f = same_refused r t s (Err (located r t u))
+same-elements (Result.Ok n) t s u x y f = f n
 
 Starts : Ty → Type 0
 Starts t = (b : List ℕ) (s u : ℕ) → Same (read_item t b s) (read_item t b u)
@@ -395,6 +394,6 @@ mutual
       (same_then (one 1 0) _ (one 1 0) _ (same_self (one 1 0)) (item-start o (drop 1 b) (s + 1) (u + 1)))
       (option-start os k b t s u)
 
-pub read-start : (t : Ty) (b : List ℕ) (s u : ℕ) (c : Counts) → read_item t b s ≡ Accepted c → read_item t b u ≡ Accepted c
+pub read-start : (t : Ty) (b : List ℕ) (s u : ℕ) (c : Counts) → read_item t b s ≡ Result.Ok c → read_item t b u ≡ Result.Ok c
 unfolding Same
 read-start t b s u = item-start t b s u

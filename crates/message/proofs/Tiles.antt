@@ -14,7 +14,6 @@ use Rattle.standard.proofs.Pieces.{tiled, untiled, all_stand}
 use Rattle.layout.specs.Table.{table_of}
 use Rattle.message.specs.Check.{message_type, under_table_lem, check_message}
 use Rattle.message.specs.declared.Counts.{Counts}
-use Rattle.message.specs.declared.Answer.TheVariants.{Accepted}
 use Rattle.message.proofs.Answers.{not_accepted, right_accepted}
 use Rattle.message.proofs.Theorem.{message_iff, message-one}
 use Rattle.std.specs.declared.result.Result.{Result}
@@ -26,7 +25,7 @@ use Rattle.standard.specs.declared.Refusal.TheVariants.{BadLayout}
 -- encoding of one value within bounds and of no other, and that value's pieces tile it.
 pub record Tiled (l m : List ℕ) : Type 0 where
   pub types : ℕ
-  pub legal : table_of l ≡ Ok types
+  pub legal : table_of l ≡ Result.Ok types
   pub small : length m < 2 ^ 32
   pub value : Val (message_type l types)
   pub in_bounds : Ok (message_type l types) value
@@ -38,13 +37,13 @@ pub record Tiled (l m : List ℕ) : Type 0 where
   pub each_within : AllStandIn m (pieces (message_type l types) value 0)
 
 -- Acceptance says that the layout is legal and the message not too long.
-under-accepted : (d : Result ℕ Refusal) (l m : List ℕ) (c : Counts) → under_table_lem d l m ≡ Accepted c → (n : ℕ) × (d ≡ Ok n) × (length m < 2 ^ 32)
-under-accepted (Err (BadLayout w)) l m c e = not_accepted _ 0 0 c e
-under-accepted (Ok n) l m c e =
+under-accepted : (d : Result ℕ Refusal) (l m : List ℕ) (c : Counts) → under_table_lem d l m ≡ Result.Ok c → (n : ℕ) × (d ≡ Result.Ok n) × (length m < 2 ^ 32)
+under-accepted (Err r) l m c e = not_accepted _ c e
+under-accepted (Result.Ok n) l m c e =
     let p = right_accepted (ltb 4294967295 (length m)) _ _ 0 0 c e in
     (n, refl, omega (arith, ltb-false 4294967295 (length m) p.0))
 
-pub message-tiled : (l m : List ℕ) → Bytes l → Bytes m → (c : Counts) → check_message l m ≡ Accepted c → Tiled l m
+pub message-tiled : (l m : List ℕ) → Bytes l → Bytes m → (c : Counts) → check_message l m ≡ Result.Ok c → Tiled l m
 unfolding check_message
 message-tiled l m h i c e =
     let u = under-accepted (table_of l) l m c e in

@@ -14,7 +14,6 @@ use Rattle.bitfield.specs.Body.{bit_list_body, bit_vector_body}
 use Rattle.message.specs.Read.{raw_bytes_lem, one, and_then, elements, many_of, vector_told_lem, read_each, read_item, read_fields, read_option}
 use Rattle.message.specs.Unfold.{bit_count, raw_of, each_from, unfold_words, words_fields, words_option, unfold_bytes, bytes_fields, bytes_option, Rooms}
 use Rattle.message.specs.declared.Counts.{Counts}
-use Rattle.message.specs.declared.Answer.TheVariants.{Accepted}
 use Rattle.message.proofs.Answers.{none, single, not_accepted, accepted-same, pick-cases, left-accepted, right_accepted, leaf-accepted, then_accepted, behind-accepted, built-accepted, vector-accepted, list-accepted, many-accepted}
 use Rattle.message.proofs.Copies.{read-copies, words-copies, bytes-copies}
 use Rattle.message.proofs.UnfoldLeaves.{length-raw}
@@ -28,10 +27,10 @@ bits-counted b limit k c e f = rw (e, f) (refl, length-raw b k)
 -- The law about one type, from it that about a row of fields, and that about elements
 Counted : Ty → Type 0
 Counted t =
-    (b : List ℕ) (s : ℕ) (c : Counts) → read_item t b s ≡ Accepted c → (length (unfold_words t b) ≡ c.words) × (length (unfold_bytes t b) ≡ c.bytes)
+    (b : List ℕ) (s : ℕ) (c : Counts) → read_item t b s ≡ Ok c → (length (unfold_words t b) ≡ c.words) × (length (unfold_bytes t b) ≡ c.bytes)
 
 row-counted :
-    (ts : Tys) → All Counted ts → (b : List ℕ) (p s : ℕ) (c : Counts) → read_fields ts b p s ≡ Accepted c
+    (ts : Tys) → All Counted ts → (b : List ℕ) (p s : ℕ) (c : Counts) → read_fields ts b p s ≡ Ok c
     → (length (words_fields ts b p) ≡ c.words) × (length (bytes_fields ts b p) ≡ c.bytes)
 unfolding Counted read_item unfold_words unfold_bytes
 row-counted end f b p s c e = let q = accepted-same none c e in (rw (← q), rw (← q))
@@ -44,7 +43,7 @@ row-counted (field t ts) f b p s c e =
 
 elements-counted :
     (e : Ty) → Counted e → (n : ℕ) (b : List ℕ) (s : ℕ) (c : Counts)
-    → read_each (λ (x : List ℕ) (u : ℕ). read_item e x u) (head e) n b 0 s ≡ Accepted c
+    → read_each (λ (x : List ℕ) (u : ℕ). read_item e x u) (head e) n b 0 s ≡ Ok c
     → (length (each_from (λ (x : List ℕ). unfold_words e x) (head e) n b 0) ≡ c.words) ×
     (length (each_from (λ (x : List ℕ). unfold_bytes e x) (head e) n b 0) ≡ c.bytes)
 elements-counted e f n b s c i =
@@ -55,7 +54,7 @@ elements-counted e f n b s c i =
 mutual
   unfolding Counted read_item unfold_words unfold_bytes
 
-  pub form-counted : (t : Ty) (b : List ℕ) (s : ℕ) (c : Counts) → read_item t b s ≡ Accepted c →
+  pub form-counted : (t : Ty) (b : List ℕ) (s : ℕ) (c : Counts) → read_item t b s ≡ Ok c →
       (length (unfold_words t b) ≡ c.words) × (length (unfold_bytes t b) ≡ c.bytes)
   form-counted (number t w) b s c e = let q = leaf-accepted (eqb (length b) w) 0 (length b) _ t s c e in (rw q.1, rw q.1)
   form-counted (boolean t) b s c e =
@@ -95,16 +94,16 @@ mutual
   all-counted (field t ts) = ((λ b s c e. form-counted t b s c e), all-counted ts)
 
   option-counted :
-      (os : Opts) (k : ℕ) (b : List ℕ) (t s : ℕ) (c : Counts) → read_option os k b t s ≡ Accepted c
+      (os : Opts) (k : ℕ) (b : List ℕ) (t s : ℕ) (c : Counts) → read_option os k b t s ≡ Ok c
       → (1 + length (words_option os k b) ≡ c.words) × (length (bytes_option os k b) ≡ c.bytes)
   option-counted over k b t s c e = not_accepted _ t s c e
   option-counted (bare j os) k b t s c e =
-      pick-cases (eqb k j) _ (read_option os k b t s) (Accepted c)
+      pick-cases (eqb k j) _ (read_option os k b t s) (Ok c)
       (λ i f. let q = leaf-accepted (eqb (length b) 1) 1 0 _ t s c f in (rw (i, q.1), rw (i, q.1)))
       (λ i f. rw i (option-counted os k b t s c f))
       e
   option-counted (body j o os) k b t s c e =
-      pick-cases (eqb k j) (and_then (one 1 0) (read_item o (drop 1 b) (s + 1))) (read_option os k b t s) (Accepted c)
+      pick-cases (eqb k j) (and_then (one 1 0) (read_item o (drop 1 b) (s + 1))) (read_option os k b t s) (Ok c)
       (λ i f.
       let q = behind-accepted (single 1 0) (read_item o (drop 1 b) (s + 1)) c f in
       let r = form-counted o (drop 1 b) (s + 1) q.0 q.1 in
@@ -113,19 +112,19 @@ mutual
       e
 
 pub fields-counted :
-    (ts : Tys) (b : List ℕ) (p s : ℕ) (c : Counts) → read_fields ts b p s ≡ Accepted c
+    (ts : Tys) (b : List ℕ) (p s : ℕ) (c : Counts) → read_fields ts b p s ≡ Ok c
     → (length (words_fields ts b p) ≡ c.words) × (length (bytes_fields ts b p) ≡ c.bytes)
 fields-counted ts = row-counted ts (all-counted ts)
 
-pub words-counted : (t : Ty) (b : List ℕ) (s : ℕ) (c : Counts) → read_item t b s ≡ Accepted c → length (unfold_words t b) ≡ c.words
+pub words-counted : (t : Ty) (b : List ℕ) (s : ℕ) (c : Counts) → read_item t b s ≡ Ok c → length (unfold_words t b) ≡ c.words
 words-counted t b s c e = (form-counted t b s c e).0
 
-pub bytes_counted : (t : Ty) (b : List ℕ) (s : ℕ) (c : Counts) → read_item t b s ≡ Accepted c → length (unfold_bytes t b) ≡ c.bytes
+pub bytes_counted : (t : Ty) (b : List ℕ) (s : ℕ) (c : Counts) → read_item t b s ≡ Ok c → length (unfold_bytes t b) ≡ c.bytes
 bytes_counted t b s c e = (form-counted t b s c e).1
 
 -- There is room for as much as is counted.
 pub form-rooms :
-    (x : Ty) (m o p : List ℕ) (c : Counts) → read_item x m 0 ≡ Accepted c → c.words ≤ length o → c.bytes ≤ length p
+    (x : Ty) (m o p : List ℕ) (c : Counts) → read_item x m 0 ≡ Ok c → c.words ≤ length o → c.bytes ≤ length p
     → Rooms o p (record { word = 0; byte = 0 }) (unfold_words x m) (unfold_bytes x m)
 form-rooms x m o p c e i j =
     record {

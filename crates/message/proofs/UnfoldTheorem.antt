@@ -32,13 +32,14 @@ use Rattle.message.specs.Check.{message_type, check_message, type_under}
 use Rattle.message.specs.Form.{raw_bits, contents, contents_all, contents_option, bodies, bodies_all, bodies_option}
 use Rattle.message.specs.Unfold.{raw_of, unfold_words, words_fields, words_option, unfold_bytes, bytes_fields, bytes_option, unfolded_of, filled_of, unfold_message, unfolded_words, unfolded_bytes}
 use Rattle.message.specs.declared.Counts.{Counts}
-use Rattle.message.specs.declared.Answer.{Answer}
-use Rattle.message.specs.declared.Answer.TheVariants.{Accepted, Refused}
-use Rattle.message.specs.declared.Unfolded.{Unfolded}
 use Rattle.message.proofs.Answers.{pick_right}
 use Rattle.message.proofs.Theorem.{sound, complete, message-read, message-legal}
 use Rattle.message.proofs.UnfoldCounts.{words-counted, bytes_counted}
 use Rattle.message.proofs.Copies.{copies-many, words-copies, bytes-copies, contents-copies, bodies-copies}
+use Rattle.std.specs.declared.result.Result.{Result}
+use Rattle.std.specs.declared.result.Result.TheVariants.{Err}
+use Rattle.message.specs.declared.RefusedAt.{RefusedAt}
+use Rattle.message.specs.Read.{located}
 
 -- Bits: raw bytes of a vector are its bytes, and those of a list are its bytes without the mark.
 vector-raw : (bs : List Bool) → 1 ≤ length bs → pack bs ≡ raw_bits bs
@@ -166,21 +167,21 @@ item-unfolds t v b l h e k = rw e at (unfolds t v l h (rw e k))
 
 -- What the answer says of the room.
 sizes-says :
-    (x : Answer) (o p : List ℕ) (w y : ℕ) → unfolded_of x o p ≡ Unfolded.Sizes w y
-    → (c : Counts) × (x ≡ Accepted c) × (c.words ≤ length o) × (c.bytes ≤ length p) × (c.words ≡ w) × (c.bytes ≡ y)
-sizes-says (Refused r t s) o p w y e = let z : ◌≡◌ {A = ℕ} 0 1 = cc in absurd (omega arith)
-sizes-says (Accepted c) o p w y e =
-    let i = pick_right (ltb (length o) c.words) _ _ (Unfolded.Sizes w y) (λ f. let z : ◌≡◌ {A = ℕ} 0 1 = cc in omega arith) e in
-    let j = pick_right (ltb (length p) c.bytes) _ _ (Unfolded.Sizes w y) (λ f. let z : ◌≡◌ {A = ℕ} 0 1 = cc in omega arith) i.1 in
-    let q : Unfolded.Sizes c.words c.bytes ≡ Unfolded.Sizes w y = j.1 in
+    (x : Result Counts RefusedAt) (o p : List ℕ) (w y : ℕ) → unfolded_of x o p ≡ Result.Ok (record { words = w; bytes = y })
+    → (c : Counts) × (x ≡ Result.Ok c) × (c.words ≤ length o) × (c.bytes ≤ length p) × (c.words ≡ w) × (c.bytes ≡ y)
+sizes-says (Err r) o p w y e = let z : ◌≡◌ {A = ℕ} 0 1 = cc in absurd (omega arith)
+sizes-says (Result.Ok c) o p w y e =
+    let i = pick_right (ltb (length o) c.words) _ _ (Result.Ok (record { words = w; bytes = y })) (λ f. let z : ◌≡◌ {A = ℕ} 0 1 = cc in omega arith) e in
+    let j = pick_right (ltb (length p) c.bytes) _ _ (Result.Ok (record { words = w; bytes = y })) (λ f. let z : ◌≡◌ {A = ℕ} 0 1 = cc in omega arith) i.1 in
+    let q : Result.Ok (record { words = c.words; bytes = c.bytes }) ≡ Result.Ok (record { words = w; bytes = y }) = j.1 in
     (c, refl, ltb-false _ _ i.0, ltb-false _ _ j.0, cc, cc)
 
 -- The call: under a legal table, for a message below 2^32 bytes.
-module _ (l : List ℕ) (n : ℕ) (h : Bytes l) (e : table_of l ≡ Ok n) (m : List ℕ) (k : length m < 2 ^ 32) (o p : List ℕ) where
+module _ (l : List ℕ) (n : ℕ) (h : Bytes l) (e : table_of l ≡ Result.Ok n) (m : List ℕ) (k : length m < 2 ^ 32) (o p : List ℕ) where
   given :
-      (c : Counts) (x y : List ℕ) → check_message l m ≡ Accepted c → unfold_words (message_type l n) m ≡ x → unfold_bytes (message_type l n) m ≡ y
+      (c : Counts) (x y : List ℕ) → check_message l m ≡ Result.Ok c → unfold_words (message_type l n) m ≡ x → unfold_bytes (message_type l n) m ≡ y
       → c.words ≤ length o → c.bytes ≤ length p
-      → (unfold_message l m o p ≡ Unfolded.Sizes (length x) (length y)) × (unfolded_words l m o p ≡ sets o 0 x) × (unfolded_bytes l m o p ≡ sets p 0 y)
+      → (unfold_message l m o p ≡ Result.Ok (record { words = (length x); bytes = (length y) })) × (unfolded_words l m o p ≡ sets o 0 x) × (unfolded_bytes l m o p ≡ sets p 0 y)
   unfolding unfold_message unfolded_words unfolded_bytes
   given c x y f q r i j =
       let a = sym (message-read l n h e m k) ∙ f in
@@ -193,7 +194,7 @@ module _ (l : List ℕ) (n : ℕ) (h : Bytes l) (e : table_of l ≡ Ok n) (m : L
   pub unfold_value :
       (v : Val (message_type l n)) → Ok (message_type l n) v → serialize (message_type l n) v ≡ m
       → length (contents (message_type l n) v) ≤ length o → length (bodies (message_type l n) v) ≤ length p
-      → (unfold_message l m o p ≡ Unfolded.Sizes (length (contents (message_type l n) v)) (length (bodies (message_type l n) v))) ×
+      → (unfold_message l m o p ≡ Result.Ok (record { words = (length (contents (message_type l n) v)); bytes = (length (bodies (message_type l n) v)) })) ×
       (unfolded_words l m o p ≡ sets o 0 (contents (message_type l n) v)) × (unfolded_bytes l m o p ≡ sets p 0 (bodies (message_type l n) v))
   unfold_value v g s i j =
       let t = message_type l n in
@@ -205,7 +206,7 @@ module _ (l : List ℕ) (n : ℕ) (h : Bytes l) (e : table_of l ≡ Ok n) (m : L
       given a.0 (contents t v) (bodies t v) (message-read l n h e m k ∙ a.1) f.0 f.1 (omega (arith, x)) (omega (arith, y))
 
   pub unfold_accepted :
-      (w y : ℕ) → Bytes m → unfold_message l m o p ≡ Unfolded.Sizes w y
+      (w y : ℕ) → Bytes m → unfold_message l m o p ≡ Result.Ok (record { words = w; bytes = y })
       → (v : Val (message_type l n)) × Ok (message_type l n) v × (serialize (message_type l n) v ≡ m) × (w ≡ length (contents (message_type l n) v)) ×
       (y ≡ length (bodies (message_type l n) v)) × (unfolded_words l m o p ≡ sets o 0 (contents (message_type l n) v)) ×
       (unfolded_bytes l m o p ≡ sets p 0 (bodies (message_type l n) v))
@@ -223,19 +224,19 @@ module _ (l : List ℕ) (n : ℕ) (h : Bytes l) (e : table_of l ≡ Ok n) (m : L
       (v.0, v.1, v.2, sym (x ∙ q.4), sym (z ∙ q.5), g.1, g.2)
 
 -- A refusal changes nothing, whatever it is.
-kept : (x : Answer) (o p q y : List ℕ) (r : Refusal) (t s : ℕ) → unfolded_of x o p ≡ Unfolded.Refused r t s → filled_of x o p q y ≡ q
-kept (Refused r t s) o p q y r' t' s' e = refl
-kept (Accepted c) o p q y r t s e = go (ltb (length o) c.words) (ltb (length p) c.bytes) e
+kept : (x : Result Counts RefusedAt) (o p q y : List ℕ) (r : Refusal) (t s : ℕ) → unfolded_of x o p ≡ Err (located r t s) → filled_of x o p q y ≡ q
+kept (Err r) o p q y r' t' s' e = refl
+kept (Result.Ok c) o p q y r t s e = go (ltb (length o) c.words) (ltb (length p) c.bytes) e
   where
-    go : (a b : Bool) → pick a (Unfolded.Refused (NoRoom c.words c.bytes) 0 0)
-        (pick b (Unfolded.Refused (NoRoom c.words c.bytes) 0 0) (Unfolded.Sizes c.words c.bytes)) ≡ Unfolded.Refused r t s →
+    go : (a b : Bool) → pick a (Err (located (NoRoom c.words c.bytes) 0 0))
+        (pick b (Err (located (NoRoom c.words c.bytes) 0 0)) (Result.Ok (record { words = c.words; bytes = c.bytes }))) ≡ Err (located r t s) →
         pick a q (pick b q (sets q 0 y)) ≡ q
     go true b f = refl
     go false true f = refl
     go false false f = let z : ◌≡◌ {A = ℕ} 0 1 = cc in absurd (omega arith)
 
 pub unfold_refused :
-    (l m o p : List ℕ) (r : Refusal) (t s : ℕ) → unfold_message l m o p ≡ Unfolded.Refused r t s
+    (l m o p : List ℕ) (r : Refusal) (t s : ℕ) → unfold_message l m o p ≡ Err (located r t s)
     → (unfolded_words l m o p ≡ o) × (unfolded_bytes l m o p ≡ p)
 unfolding unfold_message unfolded_words unfolded_bytes
 unfold_refused l m o p r t s e = (

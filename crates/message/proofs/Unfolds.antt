@@ -26,7 +26,6 @@ use Rattle.message.specs.Unfold.{unfold_words, words_fields, words_option, unfol
 use Rattle.message.specs.Steps.{Under, Row, Named, row_of, heads_of, choose, IsAccepted}
 use Rattle.message.specs.Series.{MadeOf, types_of, count_word}
 use Rattle.message.specs.Unfolding.{Filling}
-use Rattle.message.specs.declared.items.Choice.{Choice}
 use Rattle.message.specs.declared.parts.Series.{Series}
 use Rattle.message.specs.declared.unfolding.Place.{Place}
 use Rattle.message.specs.declared.unfolding.Opened.{Opened}
@@ -37,6 +36,8 @@ use Rattle.message.proofs.Entries.{accepted-start, union-never, body-accepted}
 use Rattle.message.proofs.Repeats.{element-below}
 use Rattle.message.proofs.Fixed.{fixed-form, fixed-long}
 use Rattle.message.proofs.UnfoldLeaves.{bytes-room, bytes-filled}
+use Rattle.std.specs.declared.result.Result.TheVariants.{Ok, Err}
+use Rattle.std.specs.declared.option.Option.TheVariants.{Some, None}
 
 -- An item that is accepted where it starts
 pub accepts_at : (t : Ty) (b : List ℕ) (s : ℕ) → IsAccepted (read_item t b s) → Accepts t b
@@ -321,7 +322,7 @@ module _ (lens l : List ℕ) (t : ℕ) (n : Node) (e : n ≡ node_of l t) (g : U
     unfolding unfold_bytes
     union-bytes i = rw (as_union l t n e k, bytes_chosen l (trees l t) b (n.at + 2) n.second i)
 
-    module _ (q : Choice.Bare ≡ choose l (n.at + 2) n.second b) where
+    module _ (q : (Ok None) ≡ choose l (n.at + 2) n.second b) where
       pub bare-words : unfold_words (tree_of l t) b ≡ get_or b 0 0 ∷ []
       unfolding made
       bare-words =
@@ -339,10 +340,10 @@ module _ (lens l : List ℕ) (t : ℕ) (n : Node) (e : n ≡ node_of l t) (g : U
           → Filled o p at (unfold_words (tree_of l t) b) (unfold_bytes (tree_of l t) b) r o' p'
       bare-filled o p at r o' p' i = rw (bare-words, bare-bytes) i
 
-    pub never : {A : Type 0} (r : Refusal) → Choice.Wrong r ≡ choose l (n.at + 2) n.second b → A
+    pub never : {A : Type 0} (r : Refusal) → Err r ≡ choose l (n.at + 2) n.second b → A
     never r q = union-never lens l t n e g b 0 h.accepted k r q
 
-    module _ (o : ℕ) (q : Choice.Body o ≡ choose l (n.at + 2) n.second b) where
+    module _ (o : ℕ) (q : Ok (Some o) ≡ choose l (n.at + 2) n.second b) where
       body-made : (item : Ty → List ℕ → List ℕ) → made (trees l t) b item (word_at l (n.at + 2 + get_or b 0 0)) ≡
           item (tree_of l o) (take (length b - 1) (drop 1 b))
       unfolding made

@@ -8,22 +8,22 @@ use Rattle.standard.specs.declared.Head.{Head}
 use Rattle.standard.specs.declared.Refusal.TheVariants.{InvalidByteLength, UnionSelectorInvalid}
 use Rattle.decode.specs.Unions.{split_union}
 use Rattle.decode.specs.declared.builder.Progress.{Progress}
+use Rattle.decode.specs.declared.union_selector.UnionSelector.{UnionSelector}
 use Rattle.layout.specs.Tree.{tree_of, trees, len_of}
 use Rattle.layout.specs.Table.{count}
 use Rattle.layout.specs.declared.Node.{Node}
 use Rattle.layout.specs.Legal.{Legal}
 use Rattle.message.specs.Read.{elements, many_of, one, and_then, read_item, read_fields}
 use Rattle.message.specs.declared.Counts.{Counts}
-use Rattle.message.specs.declared.Answer.{Answer}
-use Rattle.message.specs.declared.Answer.TheVariants.{Accepted, Refused}
-use Rattle.message.specs.declared.items.Choice.{Choice}
 use Rattle.message.specs.declared.items.Inside.{Inside}
-use Rattle.message.specs.declared.items.LeafTold.{LeafTold}
-use Rattle.std.specs.declared.result.Result.{Result}
-use Rattle.std.specs.declared.option.Option.{Option}
-use Rattle.std.specs.declared.result.Result.TheVariants.{Ok, Err}
-use Rattle.std.specs.declared.option.Option.TheVariants.{Some, None}
 use Rattle.standard.specs.declared.Refusal.{Refusal}
+use Rattle.std.specs.declared.result.Result.{Result}
+use Rattle.std.specs.declared.result.Result.TheVariants.{Ok, Err}
+use Rattle.std.specs.declared.option.Option.{Option}
+use Rattle.std.specs.declared.option.Option.TheVariants.{Some, None}
+use Rattle.message.specs.declared.RefusedAt.{RefusedAt}
+use Rattle.message.specs.declared.Sizes.{Sizes}
+use Rattle.message.specs.Read.{located}
 
 -- The types below k are legal, and their lengths stand in lens.
 pub record Under (lens l : List ℕ) (k : ℕ) : Type 0 where
@@ -63,16 +63,16 @@ pub record Alike (lens l : List ℕ) (t at n e : ℕ) (b : List ℕ) : Type 0 wh
   pub first : next (heads_of l t at 0 n) b 0 ≡ portion (heads_of l t at 0 n)
 
 -- What a leaf of type t that starts at s says
-abbrev pub placed : LeafTold → ℕ → ℕ → Answer
-placed (LeafTold.Sizes w k) t s = one w k
-placed (LeafTold.Refused r) t s = Refused r t s
+abbrev pub placed : Result Sizes Refusal → ℕ → ℕ → Result Counts RefusedAt
+placed (Ok x) t s = one x.words x.bytes
+placed (Err r) t s = Err (located r t s)
 
 -- What is found of the inside of the item b of type t is what the rules of reading say: a refusal, what it counts, or the fields or elements
 -- that are left to be read, inside something with `own` contents words.
-abbrev pub Found : List ℕ → List ℕ → ℕ → List ℕ → Inside → Type 0
-Found lens l t b (Inside.Wrong r) = (s : ℕ) → Refused r t s ≡ read_item (tree_of l t) b s
-Found lens l t b (Inside.Counted n own) = (s : ℕ) → Accepted (record { records = n; words = own; bytes = length b }) ≡ read_item (tree_of l t) b s
-Found lens l t b (Inside.Fields at step n own) =
+abbrev pub Found : List ℕ → List ℕ → ℕ → List ℕ → Result Inside Refusal → Type 0
+Found lens l t b (Err r) = (s : ℕ) → Err (located r t s) ≡ read_item (tree_of l t) b s
+Found lens l t b (Ok (Inside.Counted n own)) = (s : ℕ) → Ok (record { records = n; words = own; bytes = length b }) ≡ read_item (tree_of l t) b s
+Found lens l t b (Ok (Inside.Fields at step n own)) =
     Row lens l t at step n × InRange (heads_of l t at step n) b 0 0 × (own ≤ 1) ×
     ((s : ℕ) → and_then (one own 0) (read_fields (row_of l t at step n) b 0 s) ≡ read_item (tree_of l t) b s)
 
@@ -92,18 +92,18 @@ abbrev pub progress_of : ℕ → ℕ → ℕ → Progress
 progress_of first previous p = record { pos = p; first = known_if first first; previous = known_if first previous }
 
 -- The word of an option, where the selector is behind its byte alone or not
-abbrev pub option_at_lem : ℕ → ℕ → Choice
+abbrev pub option_at_lem : ℕ → ℕ → Result (Option ℕ) Refusal
 option_at_lem w len =
     pick (eqb w 4294967295)
-    (pick (eqb len 1) Choice.Bare (Choice.Wrong (InvalidByteLength (len - 1) 0)))
-    (Choice.Body w)
+    (pick (eqb len 1) (Ok None) (Err (InvalidByteLength (len - 1) 0)))
+    (Ok (Some w))
 
-abbrev pub choice_of : Result UnionSelector Refusal → List ℕ → ℕ → ℕ → ℕ → Choice
-choice_of (Err r) l a n len = Choice.Wrong r
-choice_of (Ok k) l a n len = pick (ltb k.0 n) (option_at_lem (word_at l (a + k.0)) len) (Choice.Wrong (UnionSelectorInvalid k.0))
+abbrev pub choice_of : Result UnionSelector Refusal → List ℕ → ℕ → ℕ → ℕ → Result (Option ℕ) Refusal
+choice_of (Err r) l a n len = Err r
+choice_of (Ok k) l a n len = pick (ltb k.0 n) (option_at_lem (word_at l (a + k.0)) len) (Err (UnionSelectorInvalid k.0))
 
 -- What the selector chooses among the n options that the words from a on name
-unfoldable pub choose : List ℕ → ℕ → ℕ → List ℕ → Choice
+unfoldable pub choose : List ℕ → ℕ → ℕ → List ℕ → Result (Option ℕ) Refusal
 choose l a n b = choice_of (split_union b) l a n (length b)
 
 -- Kind 0 is a number, kind 2 fixed bytes: "wrong length is 1", and no other rule
@@ -117,6 +117,6 @@ pub record Small (c : Counts) (k : ℕ) : Type 0 where
   pub bytes : c.bytes ≤ k
 
 -- An answer that accepts
-abbrev pub IsAccepted : Answer → Type 0
-IsAccepted (Accepted c) = Unit {0}
-IsAccepted (Refused r t s) = ⊥
+abbrev pub IsAccepted : Result Counts RefusedAt → Type 0
+IsAccepted (Ok c) = Unit {0}
+IsAccepted (Err r) = ⊥

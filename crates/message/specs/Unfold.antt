@@ -13,13 +13,14 @@ use Rattle.layout.specs.Table.{table_of}
 use Rattle.message.specs.Read.{raw_bytes_lem, elements, many_of, read_item, read_fields}
 use Rattle.message.specs.Check.{check_message, type_under}
 use Rattle.message.specs.Steps.{IsAccepted}
-use Rattle.message.specs.declared.Answer.{Answer}
-use Rattle.message.specs.declared.Answer.TheVariants.{Accepted, Refused}
-use Rattle.message.specs.declared.Unfolded.{Unfolded}
 use Rattle.message.specs.declared.unfolding.Place.{Place}
+use Rattle.standard.specs.declared.Refusal.{Refusal}
 use Rattle.std.specs.declared.result.Result.{Result}
 use Rattle.std.specs.declared.result.Result.TheVariants.{Ok, Err}
-use Rattle.standard.specs.declared.Refusal.{Refusal}
+use Rattle.message.specs.declared.RefusedAt.{RefusedAt}
+use Rattle.message.specs.declared.Counts.{Counts}
+use Rattle.message.specs.declared.Sizes.{Sizes}
+use Rattle.message.specs.Read.{located}
 
 -- How many bits a body of bits has
 abbrev pub bit_count : Result ℕ Refusal → ℕ
@@ -91,19 +92,19 @@ unfoldable mutual
   bytes_option (body j o os) k b = pick (eqb k j) (unfold_bytes o (drop 1 b)) (bytes_option os k b)
 
 -- The call: "20, 21, rules of reading, 22", with the words and the bytes needed where either room is short
-abbrev pub unfolded_of : Answer → List ℕ → List ℕ → Unfolded
-unfolded_of (Refused r t s) o p = Unfolded.Refused r t s
-unfolded_of (Accepted c) o p =
-    pick (ltb (length o) c.words) (Unfolded.Refused (NoRoom c.words c.bytes) 0 0)
-    (pick (ltb (length p) c.bytes) (Unfolded.Refused (NoRoom c.words c.bytes) 0 0)
-    (Unfolded.Sizes c.words c.bytes))
+abbrev pub unfolded_of : Result Counts RefusedAt → List ℕ → List ℕ → Result Sizes RefusedAt
+unfolded_of (Err r) o p = Err r
+unfolded_of (Ok c) o p =
+    pick (ltb (length o) c.words) (Err (located (NoRoom c.words c.bytes) 0 0))
+    (pick (ltb (length p) c.bytes) (Err (located (NoRoom c.words c.bytes) 0 0))
+    (Ok (record { words = c.words; bytes = c.bytes })))
 
 -- A lent room of which x fills as much as it is long, where there is room for words and bytes; a refusal changes nothing.
-abbrev pub filled_of : Answer → List ℕ → List ℕ → List ℕ → List ℕ → List ℕ
-filled_of (Refused r t s) o p q x = q
-filled_of (Accepted c) o p q x = pick (ltb (length o) c.words) q (pick (ltb (length p) c.bytes) q (sets q 0 x))
+abbrev pub filled_of : Result Counts RefusedAt → List ℕ → List ℕ → List ℕ → List ℕ → List ℕ
+filled_of (Err r) o p q x = q
+filled_of (Ok c) o p q x = pick (ltb (length o) c.words) q (pick (ltb (length p) c.bytes) q (sets q 0 x))
 
-unfoldable pub unfold_message : List ℕ → List ℕ → List ℕ → List ℕ → Unfolded
+unfoldable pub unfold_message : List ℕ → List ℕ → List ℕ → List ℕ → Result Sizes RefusedAt
 unfold_message l m o p = unfolded_of (check_message l m) o p
 
 -- The contents o and the bodies p after the call

@@ -3,6 +3,7 @@ ghost use Rattle.std.specs.Prelude.{◌≡◌, ℕ, ◌+◌, ◌*◌, ◌/◌, �
 ghost use Rattle.standard.specs.Types.{head};
 ghost use Rattle.layout.specs.Tree.{node_of, tree_of, head_of};
 ghost use Rattle.message.specs.Read.{within, further, behind_first_lem, offset_elements_lem, elements, vector_told_lem, read_item};
+ghost use Rattle.std.specs.declared.result.Result.TheVariants.{Ok};
 ghost use Rattle.message.specs.Steps.{Under, IsAccepted, many_in_lem};
 
 use crate::words::{four_in, word_in};
@@ -51,16 +52,9 @@ fn behind_first(limit: usize, b: &[u8], o: usize) -> Result<usize, Refusal>
     requires { (4 ≤ o) × (o ≤ length b.now) × (length b.now < 2 ^ 32) }
     ensures { result ≡ behind_first_lem (within (o / 4) limit) b.now o }
 {
-    let n = o / 4;
-    if n > limit {
-        return Err(Refusal::OverLimit(n, limit));
-    }
-    let rest = n - 1;
-    let told = further_offsets(b, o, rest);
-    match told {
-        Ok(()) => Ok(n),
-        Err(r) => Err(r),
-    }
+    let n = many_within(o / 4, limit)?;
+    further_offsets(b, o, n - 1)?;
+    Ok(n)
 }
 
 // The elements of variable size: the first offset says how many.
@@ -106,7 +100,7 @@ pub(crate) fn elements_of(k: usize, limit: usize, b: &[u8]) -> Result<usize, Ref
 
 // How many elements a list has that was accepted: its offsets are not looked at again.
 pub(crate) fn count_of(k: usize, b: &[u8]) -> usize
-    ensures { (limit n : ℕ) → elements (head_of k) limit b.now ≡ Many n → result ≡ n }
+    ensures { (limit n : ℕ) → elements (head_of k) limit b.now ≡ Ok n → result ≡ n }
 {
     let len = b.len();
     if k > 0 {

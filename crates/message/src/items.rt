@@ -5,16 +5,16 @@ ghost use Rattle.standard.specs.Types.{boolean, free_bytes, bit_vector, bit_list
 ghost use Rattle.standard.specs.Parts.{InRange};
 ghost use Rattle.layout.specs.Tree.{node_of, leaf_of, tree_of};
 ghost use Rattle.layout.specs.Legal.{Legal};
-ghost use Rattle.message.specs.Read.{raw_bytes_lem, one, plus, and_then, read_exact, read_item, read_fields};
+ghost use Rattle.message.specs.Read.{located, raw_bytes_lem, one, plus, and_then, read_exact, read_item, read_fields};
 ghost use Rattle.message.specs.declared.Counts.{Counts};
-ghost use Rattle.message.specs.declared.Answer.TheVariants.{Accepted};
+ghost use Rattle.std.specs.declared.result.Result.TheVariants.{Ok};
 ghost use Rattle.message.specs.declared.items.Inside.{Inside};
 ghost use Rattle.message.specs.Steps.{Under, Row, row_of, heads_of, Found, placed, option_at_lem, choice_of, choose, is_plain, Small};
 
 use crate::elements::elements_of;
 use crate::fields::{container_told, locate, vector_told};
 use crate::words::{look_in, word_in};
-use crate::{Answer, Counts};
+use crate::{Counts, RefusedAt, Sizes};
 use bitfield::body::{bitlist_body, bitvector_body};
 use decode::split_union_bytes;
 use decode::union_selector::UnionSelector;
@@ -22,12 +22,15 @@ use layout::{NO_BODY, Node};
 use standard::words::word_at;
 use standard::Refusal;
 
-// What a union's selector chooses: an option without body, the type of a body, or a refusal.
-#[derive(Clone, Copy)]
-pub(crate) enum Choice {
-    Bare,
-    Body(usize),
-    Wrong(Refusal),
+// What is wrong with the item of type t that starts at start.
+fn located(refusal: Refusal, t: usize, start: usize) -> RefusedAt
+    ensures { result ≡ located refusal t start }
+{
+    RefusedAt {
+        refusal,
+        type_number: t,
+        start,
+    }
 }
 
 // The raw bytes of so many bits.
@@ -45,92 +48,79 @@ fn raw_bytes(bits: usize) -> usize
 }
 
 // One item with so many contents words and body bytes.
-fn leaf(words: usize, bytes: usize) -> Answer
+fn leaf(words: usize, bytes: usize) -> Result<Counts, RefusedAt>
     ensures { result ≡ one words bytes }
 {
-    Answer::Accepted(Counts {
+    Ok(Counts {
         records: 1,
         words,
         bytes,
     })
 }
 
-// What a leaf says: how many contents words and body bytes it has, or what is wrong. Where it lies its caller knows.
-#[derive(Clone, Copy)]
-enum LeafTold {
-    Sizes(usize, usize),
-    Refused(Refusal),
-}
-
-// A number or fixed bytes: w bytes.
-fn exact_check(w: usize, b: &[u8]) -> LeafTold
+// A number or fixed bytes: w bytes. Where a leaf lies its caller knows, here and below.
+fn exact_check(w: usize, b: &[u8]) -> Result<Sizes, Refusal>
     ensures { (t s : ℕ) → placed result t s ≡ read_exact w t b.now s }
 {
     let len = b.len();
     if len == w {
-        LeafTold::Sizes(0, len)
+        Ok(Sizes { words: 0, bytes: len })
     } else {
-        LeafTold::Refused(Refusal::InvalidByteLength(len, w))
+        Err(Refusal::InvalidByteLength(len, w))
     }
 }
 
 // A boolean: one byte, 0 or 1.
 #[tactic(auto, unfolding(crate::specs::Read::read_item))]
-fn boolean_check(b: &[u8]) -> LeafTold
+fn boolean_check(b: &[u8]) -> Result<Sizes, Refusal>
     ensures { (t s : ℕ) → placed result t s ≡ read_item (boolean t) b.now s }
 {
     let len = b.len();
     if len != 1 {
-        return LeafTold::Refused(Refusal::InvalidByteLength(len, 1));
+        return Err(Refusal::InvalidByteLength(len, 1));
     }
     let x = b[0];
     if x < 2 {
-        LeafTold::Sizes(0, 1)
+        Ok(Sizes { words: 0, bytes: 1 })
     } else {
-        LeafTold::Refused(Refusal::BadBoolean(x))
+        Err(Refusal::BadBoolean(x))
     }
 }
 
 // Free bytes up to their limit; they are not looked at.
 #[tactic(auto, unfolding(crate::specs::Read::read_item))]
-fn free_check(limit: usize, b: &[u8]) -> LeafTold
+fn free_check(limit: usize, b: &[u8]) -> Result<Sizes, Refusal>
     ensures { (t s : ℕ) → placed result t s ≡ read_item (free_bytes t limit) b.now s }
 {
     let len = b.len();
     if len <= limit {
-        LeafTold::Sizes(1, len)
+        Ok(Sizes { words: 1, bytes: len })
     } else {
-        LeafTold::Refused(Refusal::OverLimit(len, limit))
+        Err(Refusal::OverLimit(len, limit))
     }
 }
 
 // A bit vector of n bits.
 #[tactic(auto, unfolding(crate::specs::Read::read_item))]
-fn vector_check(n: usize, b: &[u8]) -> LeafTold
+fn vector_check(n: usize, b: &[u8]) -> Result<Sizes, Refusal>
     ensures { (t s : ℕ) → placed result t s ≡ read_item (bit_vector t n) b.now s }
 {
-    let told = bitvector_body(b, n);
-    match told {
-        Ok(()) => LeafTold::Sizes(0, b.len()),
-        Err(r) => LeafTold::Refused(r),
-    }
+    bitvector_body(b, n)?;
+    Ok(Sizes { words: 0, bytes: b.len() })
 }
 
 // A bit list of at most limit bits.
 #[tactic(auto, unfolding(crate::specs::Read::read_item))]
-fn list_check(limit: usize, b: &[u8]) -> LeafTold
+fn list_check(limit: usize, b: &[u8]) -> Result<Sizes, Refusal>
     ensures { (t s : ℕ) → placed result t s ≡ read_item (bit_list t limit) b.now s }
 {
-    let bits = bitlist_body(b, limit);
-    match bits {
-        Ok(k) => LeafTold::Sizes(1, raw_bytes(k)),
-        Err(r) => LeafTold::Refused(r),
-    }
+    let k = bitlist_body(b, limit)?;
+    Ok(Sizes { words: 1, bytes: raw_bytes(k) })
 }
 
 // An item of a type that has no lower types.
 #[tactic(auto, unfolding(crate::specs::Read::read_item, layout::specs::Tree::leaf_of))]
-fn leaf_check(n: Node, b: &[u8]) -> LeafTold
+fn leaf_check(n: Node, b: &[u8]) -> Result<Sizes, Refusal>
     ensures { (t s : ℕ) → placed result t s ≡ read_item (leaf_of t n) b.now s }
 {
     let kind = n.kind;
@@ -153,47 +143,54 @@ fn leaf_check(n: Node, b: &[u8]) -> LeafTold
     list_check(second, b)
 }
 
-// The option whose word is w: without body it is its selector byte alone.
-fn option_at(w: usize, len: usize) -> Choice
+// The option whose word is w, the type of its body: without body it is its selector byte alone.
+fn option_at(w: usize, len: usize) -> Result<Option<usize>, Refusal>
     requires { 1 ≤ len }
     ensures { result ≡ option_at_lem w len }
 {
     if w != NO_BODY {
-        return Choice::Body(w);
+        return Ok(Some(w));
     }
     if len == 1 {
-        return Choice::Bare;
+        return Ok(None);
     }
-    let left = len - 1;
-    Choice::Wrong(Refusal::InvalidByteLength(left, 0))
+    Err(Refusal::InvalidByteLength(len - 1, 0))
 }
 
 // The option that the selector names among the n whose words stand from a on. Nowhere else is a selector a place in the table.
-fn option_of(layout: &[u8], a: usize, n: usize, selector: UnionSelector, len: usize) -> Choice
+fn option_of(
+    layout: &[u8],
+    a: usize,
+    n: usize,
+    selector: UnionSelector,
+    len: usize,
+) -> Result<Option<usize>, Refusal>
     requires { (a < 2 ^ 34) × (1 ≤ len) }
     ensures { result ≡ choice_of (Ok selector) layout.now a n len }
 {
     let byte = selector.get();
     let k = byte as usize;
     if k >= n {
-        return Choice::Wrong(Refusal::UnionSelectorInvalid(byte));
+        return Err(Refusal::UnionSelectorInvalid(byte));
     }
     let place = a + k;
     let w = word_at(layout, place);
     option_at(w, len)
 }
 
-// What the selector of a union chooses among the n options that the words from a on name.
+// What the selector of a union chooses among the n options that the words from a on name: the type of a body, or none.
 #[tactic(auto, unfolding(crate::specs::Steps::choose))]
-pub(crate) fn select(layout: &[u8], a: usize, n: usize, b: &[u8]) -> Choice
+pub(crate) fn select(
+    layout: &[u8],
+    a: usize,
+    n: usize,
+    b: &[u8],
+) -> Result<Option<usize>, Refusal>
     requires { a < 2 ^ 34 }
     ensures { result ≡ choose layout.now a n b.now }
 {
-    let s = split_union_bytes(b);
-    match s {
-        Err(r) => Choice::Wrong(r),
-        Ok(selector) => option_of(layout, a, n, selector, b.len()),
-    }
+    let selector = split_union_bytes(b)?;
+    option_of(layout, a, n, selector, b.len())
 }
 
 // Counts of two parts together.
@@ -233,22 +230,11 @@ fn own_record(words: usize) -> Counts
 }
 
 // A union's own record and selector, with what its body has.
-fn with_selector(r: Answer) -> Answer
-    requires { (c : Counts) → r ≡ Accepted c → Small c (2 ^ 50) }
+fn with_selector(r: Result<Counts, RefusedAt>) -> Result<Counts, RefusedAt>
+    requires { (c : Counts) → r ≡ Ok c → Small c (2 ^ 50) }
     ensures { result ≡ and_then (one 1 0) r }
 {
-    match r {
-        Answer::Accepted(c) => {
-            let own = Counts {
-                records: 1,
-                words: 1,
-                bytes: 0,
-            };
-            let all = add(own, c);
-            Answer::Accepted(all)
-        }
-        Answer::Refused(x, u, v) => Answer::Refused(x, u, v),
-    }
+    Ok(add(own_record(1), r?))
 }
 
 // A number or fixed bytes: of their items only the length is asked.
@@ -272,12 +258,11 @@ fn is_within(n: Node, len: usize) -> bool
     len <= n.second
 }
 
-// What there is to read inside an item: a refusal; nothing more, and how many records and contents words the item has; or the words that name
-// its fields or elements: the first, how far apart they stand, how many there are, and the contents words of the item itself.
+// What there is to read inside an item: nothing more, and how many records and contents words the item has; or the words that name its fields
+// or elements: the first, how far apart they stand, how many there are, and the contents words of the item itself.
 #[derive(Clone, Copy)]
 enum Inside {
-    Wrong(Refusal),
-    Counted(usize, usize),
+    Counted { records: usize, words: usize },
     Fields(usize, usize, usize, usize),
 }
 
@@ -289,14 +274,22 @@ fn row_inside(layout: &[u8], a0: usize, m: usize, e: usize, own: usize) -> Insid
 {
     let n = look_in(layout, e);
     if is_plain(n.kind) {
-        let records = 1 + m;
-        return Inside::Counted(records, own);
+        return Inside::Counted {
+            records: 1 + m,
+            words: own,
+        };
     }
     Inside::Fields(a0, 0, m, own)
 }
 
 // The inside of the list or vector b of the type t, whose words are n.
-fn elements_inside(lens: &[u32; 64], layout: &[u8], n: Node, t: usize, b: &[u8]) -> Inside
+fn elements_inside(
+    lens: &[u32; 64],
+    layout: &[u8],
+    n: Node,
+    t: usize,
+    b: &[u8],
+) -> Result<Inside, Refusal>
     requires { Under lens.now layout.now (t + 1) × (length b.now < 2 ^ 32) × (n ≡ node_of layout.now t) × (8 ≤ n.kind) }
     ensures { Found lens.now layout.now t b.now result }
 {
@@ -304,21 +297,21 @@ fn elements_inside(lens: &[u32; 64], layout: &[u8], n: Node, t: usize, b: &[u8])
     let e = n.second;
     let third = word_in(layout, n.at + 2);
     if n.kind == 9 {
-        let told = vector_told(lens, layout, t, first, third, e, b);
-        return match told {
-            Ok(()) => row_inside(layout, first, third, e, 0),
-            Err(r) => Inside::Wrong(r),
-        };
+        vector_told(lens, layout, t, first, third, e, b)?;
+        return Ok(row_inside(layout, first, third, e, 0));
     }
-    let c = elements_of(lens[e] as usize, third, b);
-    match c {
-        Ok(m) => row_inside(layout, first, m, e, 1),
-        Err(r) => Inside::Wrong(r),
-    }
+    let m = elements_of(lens[e] as usize, third, b)?;
+    Ok(row_inside(layout, first, m, e, 1))
 }
 
 // The inside of the container, list or vector b of the type t, whose words are n.
-fn inside_of(lens: &[u32; 64], layout: &[u8], n: Node, t: usize, b: &[u8]) -> Inside
+fn inside_of(
+    lens: &[u32; 64],
+    layout: &[u8],
+    n: Node,
+    t: usize,
+    b: &[u8],
+) -> Result<Inside, Refusal>
     requires { Under lens.now layout.now (t + 1) × (length b.now < 2 ^ 32) × (n ≡ node_of layout.now t) × (6 ≤ n.kind) × (n.kind ≡ 7 → ⊥) }
     ensures { Found lens.now layout.now t b.now result }
 {
@@ -326,11 +319,8 @@ fn inside_of(lens: &[u32; 64], layout: &[u8], n: Node, t: usize, b: &[u8]) -> In
         return elements_inside(lens, layout, n, t, b);
     }
     let first = n.at + 2;
-    let told = container_told(lens, layout, t, first, n.second, b);
-    match told {
-        Ok(()) => Inside::Fields(first, 1, n.second, 0),
-        Err(r) => Inside::Wrong(r),
-    }
+    container_told(lens, layout, t, first, n.second, b)?;
+    Ok(Inside::Fields(first, 1, n.second, 0))
 }
 
 // Checks the item b of the type t, which starts at start. Only here are fields read, whatever holds them: the loop over them is then no call.
@@ -342,42 +332,39 @@ pub(crate) fn item_check(
     t: usize,
     b: &[u8],
     start: usize,
-) -> Answer
+) -> Result<Counts, RefusedAt>
     requires { Under lens.now layout.now (t + 1) × (start + length b.now < 2 ^ 32) }
     ensures { result ≡ read_item (tree_of layout.now t) b.now start }
 {
     let n = look_in(layout, t);
     if n.kind < 6 {
-        let r = leaf_check(n, b);
-        return match r {
-            LeafTold::Sizes(words, bytes) => leaf(words, bytes),
-            LeafTold::Refused(x) => Answer::Refused(x, t, start),
+        return match leaf_check(n, b) {
+            Ok(sizes) => leaf(sizes.words, sizes.bytes),
+            Err(refusal) => Err(located(refusal, t, start)),
         };
     }
     if n.kind == 7 {
         let first = n.at + 2;
-        let c = select(layout, first, n.second, b);
-        return match c {
-            Choice::Bare => leaf(1, 0),
-            Choice::Body(o) => {
+        return match select(layout, first, n.second, b) {
+            Ok(None) => leaf(1, 0),
+            Ok(Some(o)) => {
                 let inside = start + 1;
                 let r = item_check(lens, &layout[..], o, &b[1..], inside);
                 with_selector(r)
             }
-            Choice::Wrong(r) => Answer::Refused(r, t, start),
+            Err(refusal) => Err(located(refusal, t, start)),
         };
     }
-    let found = inside_of(lens, layout, n, t, b);
-    match found {
-        Inside::Wrong(r) => Answer::Refused(r, t, start),
-        Inside::Counted(records, words) => Answer::Accepted(Counts {
+    match inside_of(lens, layout, n, t, b) {
+        Ok(Inside::Counted { records, words }) => Ok(Counts {
             records,
             words,
             bytes: b.len(),
         }),
-        Inside::Fields(first, step, m, own) => {
+        Ok(Inside::Fields(first, step, m, own)) => {
             field_check(lens, layout, t, first, step, m, own, b, start)
         }
+        Err(refusal) => Err(located(refusal, t, start)),
     }
 }
 
@@ -395,7 +382,7 @@ fn field_check(
     own: usize,
     b: &[u8],
     start: usize,
-) -> Answer
+) -> Result<Counts, RefusedAt>
     requires { Row lens.now layout.now t a0 step n × (start + length b.now < 2 ^ 32) × InRange (heads_of layout.now t a0 step n) b.now 0 0 × (own ≤ 1) }
     ensures { result ≡ and_then (one own 0) (read_fields (row_of layout.now t a0 step n) b.now 0 start) }
 {
@@ -426,15 +413,13 @@ fn field_check(
         }
         if node.kind < 6 {
             match leaf_check(node, &b[from..to]) {
-                LeafTold::Sizes(words, bytes) => sum = one_more(sum, words, bytes),
-                LeafTold::Refused(x) => return Answer::Refused(x, f, at),
+                Ok(sizes) => sum = one_more(sum, sizes.words, sizes.bytes),
+                Err(refusal) => return Err(located(refusal, f, at)),
             }
             continue;
         }
-        match item_check(lens, &layout[..], f, &b[from..to], at) {
-            Answer::Accepted(c) => sum = add(sum, c),
-            Answer::Refused(x, u, v) => return Answer::Refused(x, u, v),
-        }
+        let c = item_check(lens, &layout[..], f, &b[from..to], at)?;
+        sum = add(sum, c);
     }
-    Answer::Accepted(sum)
+    Ok(sum)
 }

@@ -8,7 +8,7 @@ ghost use Rattle.message.specs.Listing.{entry, list_item_lem, list_fields_lem};
 ghost use Rattle.message.specs.Steps.{Under, Row, row_of, heads_of, IsAccepted};
 
 use crate::fields::locate;
-use crate::items::{Choice, select};
+use crate::items::select;
 use crate::parts::series_in;
 use crate::words::{look_in, word_in};
 use standard::words::put_four;
@@ -46,12 +46,12 @@ pub(crate) fn list_item(
     if n.kind == 7 {
         let c = select(layout, n.at + 2, n.second, b);
         match c {
-            Choice::Bare => next,
-            Choice::Body(o) => {
+            Ok(None) => next,
+            Ok(Some(o)) => {
                 let inside = start + 1;
                 list_item(out, next, lens, &layout[..], o, &b[1..], inside)
             }
-            Choice::Wrong(_) => next,
+            Err(_) => next,
         }
     } else {
         let s = series_in(lens, layout, n, t, b);

@@ -12,7 +12,7 @@ ghost use Rattle.message.specs.Series.{count_word};
 ghost use Rattle.message.specs.Unfolding.{Filling};
 
 use crate::fields::locate;
-use crate::items::{Choice, select};
+use crate::items::select;
 use crate::parts::{Series, no_items, series_in};
 use crate::words::{look_in, word_in};
 use bitfield::body::bitlist_body;
@@ -231,12 +231,12 @@ pub(crate) fn unfold_item(
     if n.kind == 7 {
         let c = select(layout, n.at + 2, n.second, b);
         match c {
-            Choice::Bare => put_selector(contents, at, b),
-            Choice::Body(o) => {
+            Ok(None) => put_selector(contents, at, b),
+            Ok(Some(o)) => {
                 let inside = put_selector(contents, at, b);
                 unfold_item(contents, bodies, inside, lens, &layout[..], o, &b[1..])
             }
-            Choice::Wrong(_) => at,
+            Err(_) => at,
         }
     } else {
         let s = begin(contents, bodies, at, lens, layout, n, t, b);

@@ -14,6 +14,7 @@ use Rattle.message.proofs.Bodies.{plain_fits, plain-next, free_next, within-says
 use Rattle.message.proofs.Bodies.{item-small, small-more, leaf-told}
 use Rattle.message.proofs.Bodies.{bare-read, wrong-read, body_below, body-read}
 use Rattle.message.proofs.items.+field_check_item_check.Goals as goal
+use Rattle.message.specs.Read.{located}
 
 -- Where the field lies that was located: `left` has been counted down before.
 located :
