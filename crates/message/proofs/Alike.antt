@@ -68,10 +68,10 @@ module _ (lens l : List ℕ) (t at m e own : ℕ) (b : List ℕ) (g : Alike lens
   plain-found : (k : is_plain (node_of l e).kind ≡ true) (s : ℕ) → Ok (record { records = 1 + m; words = own; bytes = length b }) ≡ read_item (tree_of l t) b s
   plain-found k s = sym (simp (zero-add, add-zero)) ∙ rw (plain-read lens l t at m e b g (node_of l e) refl k s) at (same s)
 
-  pub row-found : Found lens l t b (pick (is_plain (node_of l e).kind) (Inside.Counted (1 + m) own) (Inside.Fields at 0 m own))
+  pub row-found : Found lens l t b (Ok (pick (is_plain (node_of l e).kind) (Inside.Counted (1 + m) own) (Inside.Fields at 0 m own)))
   row-found = go (is_plain (node_of l e).kind) refl
     where
-      go : (c : Bool) → is_plain (node_of l e).kind ≡ c → Found lens l t b (pick c (Inside.Counted (1 + m) own) (Inside.Fields at 0 m own))
+      go : (c : Bool) → is_plain (node_of l e).kind ≡ c → Found lens l t b (Ok (pick c (Inside.Counted (1 + m) own) (Inside.Fields at 0 m own)))
       go true k = plain-found k
       go false k = (g.row, g.ranges, o, same)
 

@@ -13,7 +13,6 @@ use Rattle.std.specs.Prelude.{⊤}
 use Rattle.std.specs.declared.result.Result.{Result}
 use Rattle.std.specs.declared.result.Result.TheVariants.{Ok, Err}
 use Rattle.message.specs.declared.RefusedAt.{RefusedAt}
-use Rattle.message.specs.Read.{located}
 
 -- no item
 abbrev pub none : Counts
@@ -23,8 +22,8 @@ none = record { records = 0; words = 0; bytes = 0 }
 abbrev pub single : ℕ → ℕ → Counts
 single w b = record { records = 1; words = w; bytes = b }
 
-pub not_accepted : {A : Type 0} (r : Refusal) (t s : ℕ) (c : Counts) → Err (located r t s) ≡ Ok c → A
-not_accepted r t s c e = let z : ◌≡◌ {A = ℕ} 0 1 = cc in absurd (omega arith)
+pub not_accepted : {A : Type 0} (r : RefusedAt) (c : Counts) → Err r ≡ Ok c → A
+not_accepted r c e = let z : ◌≡◌ {A = ℕ} 0 1 = cc in absurd (omega arith)
 
 pub accepted-same : (c d : Counts) → Ok c ≡ Ok d → c ≡ d
 accepted-same c d e = cc
@@ -48,26 +47,26 @@ pick-holds P true x y f g = f refl
 pick-holds P false x y f g = g refl
 
 pub left-accepted :
-    (q : Bool) (x : Result Counts RefusedAt) (r : Refusal) (t s : ℕ) (c : Counts) → pick q x (Err (located r t s)) ≡ Ok c → (q ≡ true) × (x ≡ Ok c)
-left-accepted q x r t s c = pick-left q x (Err (located r t s)) (Ok c) (not_accepted r t s c)
+    (q : Bool) (x : Result Counts RefusedAt) (r : RefusedAt) (c : Counts) → pick q x (Err r) ≡ Ok c → (q ≡ true) × (x ≡ Ok c)
+left-accepted q x r c = pick-left q x (Err r) (Ok c) (not_accepted r c)
 
 pub right_accepted :
-    (q : Bool) (x : Result Counts RefusedAt) (r : Refusal) (t s : ℕ) (c : Counts) → pick q (Err (located r t s)) x ≡ Ok c → (q ≡ false) × (x ≡ Ok c)
-right_accepted q x r t s c = pick_right q (Err (located r t s)) x (Ok c) (not_accepted r t s c)
+    (q : Bool) (x : Result Counts RefusedAt) (r : RefusedAt) (c : Counts) → pick q (Err r) x ≡ Ok c → (q ≡ false) × (x ≡ Ok c)
+right_accepted q x r c = pick_right q (Err r) x (Ok c) (not_accepted r c)
 
 pub leaf-accepted :
-    (q : Bool) (w n : ℕ) (r : Refusal) (t s : ℕ) (c : Counts) → pick q (one w n) (Err (located r t s)) ≡ Ok c
+    (q : Bool) (w n : ℕ) (r : RefusedAt) (c : Counts) → pick q (one w n) (Err r) ≡ Ok c
     → (q ≡ true) × (c ≡ single w n)
-leaf-accepted q w n r t s c e =
-    let p = left-accepted q (one w n) r t s c e in
+leaf-accepted q w n r c e =
+    let p = left-accepted q (one w n) r c e in
     (p.0, sym (accepted-same (single w n) c p.1))
 
 -- One answer behind another.
 pub then_accepted :
     (x y : Result Counts RefusedAt) (c : Counts) → and_then x y ≡ Ok c
     → (a : Counts) × (b : Counts) × (x ≡ Ok a) × (y ≡ Ok b) × (c ≡ plus a b)
-then_accepted (Err r) y c e = not_accepted r t s c e
-then_accepted (Ok a) (Err r) c e = not_accepted r t s c e
+then_accepted (Err r) y c e = not_accepted r c e
+then_accepted (Ok a) (Err r) c e = not_accepted r c e
 then_accepted (Ok a) (Ok b) c e = (a, b, refl, refl, sym (accepted-same (plus a b) c e))
 
 pub then_accepts : (x y : Result Counts RefusedAt) (a b : Counts) → x ≡ Ok a → y ≡ Ok b → and_then x y ≡ Ok (plus a b)
@@ -75,24 +74,24 @@ then_accepts x y a b e f = rw (e, f)
 
 -- counts a, known, before an answer
 pub behind-accepted : (a : Counts) (y : Result Counts RefusedAt) (c : Counts) → and_then (Ok a) y ≡ Ok c → (b : Counts) × (y ≡ Ok b) × (c ≡ plus a b)
-behind-accepted a (Err r) c e = not_accepted r t s c e
+behind-accepted a (Err r) c e = not_accepted r c e
 behind-accepted a (Ok b) c e = (b, refl, sym (accepted-same (plus a b) c e))
 
 pub built-accepted : (d : Result ⊤ Refusal) (t s : ℕ) (x : Result Counts RefusedAt) (c : Counts) → built d t s x ≡ Ok c → (d ≡ Ok tt) × (x ≡ Ok c)
-built-accepted (Err r) t s x c e = not_accepted r t s c e
+built-accepted (Err r) t s x c e = not_accepted _ c e
 built-accepted (Ok tt) t s x c e = (refl, e)
 
 pub vector-accepted : (d : Result ⊤ Refusal) (t s n : ℕ) (c : Counts) → of_vector_lem d t s n ≡ Ok c → (d ≡ Ok tt) × (c ≡ single 0 n)
-vector-accepted (Err r) t s n c e = not_accepted r t s c e
+vector-accepted (Err r) t s n c e = not_accepted _ c e
 vector-accepted (Ok tt) t s n c e = (refl, sym (accepted-same (single 0 n) c e))
 
 pub list-accepted : (d : Result ℕ Refusal) (t s : ℕ) (c : Counts) → of_list d t s ≡ Ok c → (k : ℕ) × (d ≡ Ok k) × (c ≡ single 1 (raw_bytes_lem k))
-list-accepted (Err r) t s c e = not_accepted r t s c e
+list-accepted (Err r) t s c e = not_accepted _ c e
 list-accepted (Ok k) t s c e = (k, refl, sym (accepted-same (single 1 (raw_bytes_lem k)) c e))
 
 pub many-accepted :
     (d : Result ℕ Refusal) (t s : ℕ) (x : ℕ → Result Counts RefusedAt) (c : Counts) → of_elements d t s x ≡ Ok c → (n : ℕ) × (d ≡ Ok n) × (x n ≡ Ok c)
-many-accepted (Err r) t s x c e = not_accepted r t s c e
+many-accepted (Err r) t s x c e = not_accepted _ c e
 many-accepted (Ok n) t s x c e = (n, refl, e)
 
 -- An acceptance without its counts.

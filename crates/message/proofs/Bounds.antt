@@ -228,19 +228,19 @@ mutual
       (t : Ty) (b : List ℕ) (s d : ℕ) (c : Counts) → LegalTy t → depth t ≤ d → read_item t b s ≡ Ok c
       → Within c (d * room (head t) b) (length b)
   item_in (number t w) b s d c l h e =
-      let p = leaf-accepted (eqb (length b) w) 0 (length b) _ t s c e in
+      let p = leaf-accepted (eqb (length b) w) 0 (length b) _ c e in
       let k : 1 ≤ length b = omega (arith, eqb-true (length b) w p.0, fixed-some (number t w) w l refl) in
       leaf_in 0 (length b) (length b) (length b) d c p.1 h k (omega arith) (omega arith)
   item_in (boolean t) b s d c l h e =
-      let p = left-accepted (eqb (length b) 1) _ _ t s c e in
-      let q = leaf-accepted (ltb (get_or b 0 0) 2) 0 1 _ t s c p.1 in
+      let p = left-accepted (eqb (length b) 1) _ _ c e in
+      let q = leaf-accepted (ltb (get_or b 0 0) 2) 0 1 _ c p.1 in
       let k = eqb-true (length b) 1 p.0 in
       leaf_in 0 1 (length b) (length b) d c q.1 h (omega arith) (omega arith) (omega arith)
   item_in (fixed_bytes t n) b s d c l h e =
-      let p = leaf-accepted (eqb (length b) n) 0 (length b) _ t s c e in
+      let p = leaf-accepted (eqb (length b) n) 0 (length b) _ c e in
       leaf_in 0 (length b) (length b) (length b) d c p.1 h (omega (arith, eqb-true (length b) n p.0)) (omega arith) (omega arith)
   item_in (free_bytes t limit) b s d c l h e =
-      let p = leaf-accepted (leb (length b) limit) 1 (length b) _ t s c e in
+      let p = leaf-accepted (leb (length b) limit) 1 (length b) _ c e in
       leaf_in 1 (length b) (length b + 4) (length b) d c p.1 h (omega arith) (omega arith) (omega arith)
   item_in (bit_vector t n) b s d c l h e =
       let p = vector-accepted (bit_vector_body b n) t s (length b) c e in
@@ -259,8 +259,8 @@ mutual
       above_in (single 0 0) q.0 c (d * length b) _ (length b) (length b) q.2 (omega arith) x.0 (omega arith) (omega arith)
   item_in (union t os) b s zero c l h e = absurd (omega arith)
   item_in (union t os) b s (suc d) c l h e =
-      let p = right_accepted (eqb (length b) 0) _ _ t s c e in
-      let q = left-accepted (leb (get_or b 0 0) 127) _ _ t s c p.1 in
+      let p = right_accepted (eqb (length b) 0) _ _ c e in
+      let q = left-accepted (leb (get_or b 0 0) 127) _ _ c p.1 in
       option_in os (get_or b 0 0) b t s d c l.2 (omega arith) q.1
   item_in (list t a limit) b s zero c l h e = absurd (omega arith)
   item_in (list t a limit) b s (suc d) c l h e =
@@ -285,11 +285,11 @@ mutual
   option_in :
       (os : Opts) (k : ℕ) (b : List ℕ) (t s d : ℕ) (c : Counts) → LegalOptions os → depth_options os ≤ d
       → read_option os k b t s ≡ Ok c → Within c (suc d * (length b + 4)) (length b)
-  option_in over k b t s d c l h e = not_accepted _ t s c e
+  option_in over k b t s d c l h e = not_accepted _ c e
   option_in (bare j os) k b t s d c l h e =
       pick-cases (eqb k j) _ (read_option os k b t s) (Ok c)
       (λ i f.
-      let q = leaf-accepted (eqb (length b) 1) 1 0 _ t s c f in
+      let q = leaf-accepted (eqb (length b) 1) 1 0 _ c f in
       leaf_in 1 0 (length b + 4) (length b) (suc d) c q.1 (omega arith) (omega arith) (omega arith) (omega arith))
       (λ i f. option_in os k b t s d c l h f)
       e

@@ -34,7 +34,6 @@ use Rattle.message.proofs.Answers.{pick-left, pick_right}
 use Rattle.std.specs.Prelude.{⊤}
 use Rattle.std.specs.declared.result.Result.{Result}
 use Rattle.std.specs.declared.result.Result.TheVariants.{Ok, Err}
-use Rattle.std.specs.declared.option.Option.TheVariants.{Some}
 use Rattle.message.specs.declared.RefusedAt.{RefusedAt}
 use Rattle.message.specs.declared.Counts.{Counts}
 
@@ -245,11 +244,11 @@ module _ (limit : ℕ) (b : List ℕ) (n : ℕ) where
           )
 
 -- A head that takes at least a byte, as every element's does
-abbrev pub Some : Head → Type 0
-Some h = (k : ℕ) → h ≡ Fixed k → 1 ≤ k
+abbrev pub TakesBytes : Head → Type 0
+TakesBytes h = (k : ℕ) → h ≡ Fixed k → 1 ≤ k
 
 pub elements_laid :
-    (h : Head) (limit : ℕ) (b : List ℕ) (n : ℕ) → Some h → elements h limit b ≡ Ok n → Laid (replicate n h) b × (n ≤ limit)
+    (h : Head) (limit : ℕ) (b : List ℕ) (n : ℕ) → TakesBytes h → elements h limit b ≡ Ok n → Laid (replicate n h) b × (n ≤ limit)
 unfolding elements
 elements_laid (Fixed k) limit b n some e =
     let p = pick-left (eqb (length b % k) 0) (within (length b / k) limit) _ (Ok n) (λ q. let z : ◌≡◌ {A = ℕ} 0 1 = cc in omega arith) e in
@@ -259,7 +258,7 @@ elements_laid (Fixed k) limit b n some e =
 elements_laid Variable limit b n some e = offsets-laid limit b n e
 
 pub laid-elements :
-    (h : Head) (limit : ℕ) (b : List ℕ) (n : ℕ) → Some h → n ≤ limit → Laid (replicate n h) b → elements h limit b ≡ Ok n
+    (h : Head) (limit : ℕ) (b : List ℕ) (n : ℕ) → TakesBytes h → n ≤ limit → Laid (replicate n h) b → elements h limit b ≡ Ok n
 unfolding elements
 laid-elements (Fixed k) limit b n some l g =
     let e = laid-fixed n k b g in

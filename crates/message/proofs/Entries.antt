@@ -253,7 +253,7 @@ room-long o at x b s g = omega (arith, g.room, list-long x b s)
 pub under-accepted : (l m : List ℕ) (n : ℕ) (c : Counts) → under_table_lem (Ok n) l m ≡ Ok c →
     (read_item (message_type l n) m 0 ≡ Ok c) × (length m < 2 ^ 32)
 under-accepted l m n c e =
-    let q = right_accepted (ltb 4294967295 (length m)) (read_item (message_type l n) m 0) TooLarge 0 0 c e in
+    let q = right_accepted (ltb 4294967295 (length m)) (read_item (message_type l n) m 0) (located TooLarge 0 0) c e in
     let k : length m ≤ 4294967295 = ltb-false _ _ q.0 in
     (q.1, omega arith)
 

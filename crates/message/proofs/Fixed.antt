@@ -104,9 +104,9 @@ unfolding FixedForm
 fixed-each e w n b q h = copies-form e (λ x i. fixed-form e x i) w n b q h
 
 -- An accepted item of fixed size: its length is asked, or that of its fields or elements.
-test_true : (q : Bool) (x : Result Counts RefusedAt) (r : Refusal) (t s : ℕ) → IsAccepted (pick q x (Err (located r t s))) → q ≡ true
-test_true true x r t s h = refl
-test_true false x r t s h = absurd h
+test_true : (q : Bool) (x : Result Counts RefusedAt) (r : RefusedAt) → IsAccepted (pick q x (Err r)) → q ≡ true
+test_true true x r h = refl
+test_true false x r h = absurd h
 
 bits_fine : (d : Result ⊤ Refusal) (t s n : ℕ) → IsAccepted (of_vector_lem d t s n) → d ≡ Ok tt
 bits_fine (Ok tt) t s n h = refl
@@ -127,9 +127,9 @@ elements-long Variable n b k d e = not_fixed k e
 
 pub fixed-long : (t : Ty) (b : List ℕ) (k : ℕ) → LegalTy t → Accepts t b → head t ≡ Fixed k → length b ≡ k
 unfolding head LegalTy read_item
-fixed-long (number t w) b k l g e = eqb-true _ _ (test_true (eqb (length b) w) _ _ t 0 g.accepted) ∙ fixed-injective w k e
-fixed-long (boolean t) b k l g e = eqb-true _ _ (test_true (eqb (length b) 1) _ _ t 0 g.accepted) ∙ fixed-injective 1 k e
-fixed-long (fixed_bytes t n) b k l g e = eqb-true _ _ (test_true (eqb (length b) n) _ _ t 0 g.accepted) ∙ fixed-injective n k e
+fixed-long (number t w) b k l g e = eqb-true _ _ (test_true (eqb (length b) w) _ _ g.accepted) ∙ fixed-injective w k e
+fixed-long (boolean t) b k l g e = eqb-true _ _ (test_true (eqb (length b) 1) _ _ g.accepted) ∙ fixed-injective 1 k e
+fixed-long (fixed_bytes t n) b k l g e = eqb-true _ _ (test_true (eqb (length b) n) _ _ g.accepted) ∙ fixed-injective n k e
 fixed-long (free_bytes t limit) b k l g e = not_fixed k e
 fixed-long (bit_vector t n) b k l g e = vector-length b n l (bits_fine (bit_vector_body b n) t 0 (length b) g.accepted) ∙ fixed-injective _ k e
 fixed-long (bit_list t limit) b k l g e = not_fixed k e

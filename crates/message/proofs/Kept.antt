@@ -20,15 +20,15 @@ use Rattle.message.specs.declared.RefusedAt.{RefusedAt}
 use Rattle.message.specs.declared.Counts.{Counts}
 use Rattle.message.specs.Read.{located}
 
-records_refused : {A : Type 0} (n t s : ℕ) (r : Refusal) → Ok n ≡ Err (located r t s) → A
-records_refused n t s r e = let z : ◌≡◌ {A = ℕ} 0 1 = cc in absurd (omega arith)
+records_refused : {A : Type 0} (n : ℕ) (r : RefusedAt) → Ok n ≡ Err r → A
+records_refused n r e = let z : ◌≡◌ {A = ℕ} 0 1 = cc in absurd (omega arith)
 
-kept : (x : Result Counts RefusedAt) (y : Ty) (m o : List ℕ) (r : Refusal) (t s : ℕ) → listed_of x o ≡ Err (located r t s) → records_of x y m o ≡ o
-kept (Err r') y m o r t s e = refl
-kept (Ok c) y m o r t s e =
-    pick-kept (ltb (length o / 12) c.records) (Err (located (NoRoom c.records (length o / 12)) 0 0)) (Ok c.records) (Err (located r t s))
-    o (sets o 0 (list_item_lem y m 0)) (records_refused c.records t s r) e
+kept : (x : Result Counts RefusedAt) (y : Ty) (m o : List ℕ) (r : RefusedAt) → listed_of x o ≡ Err r → records_of x y m o ≡ o
+kept (Err r') y m o r e = refl
+kept (Ok c) y m o r e =
+    pick-kept (ltb (length o / 12) c.records) (Err (located (NoRoom c.records (length o / 12)) 0 0)) (Ok c.records) (Err r)
+    o (sets o 0 (list_item_lem y m 0)) (records_refused c.records r) e
 
-pub list_refused : (l m o : List ℕ) (r : Refusal) (t s : ℕ) → list_message l m o ≡ Err (located r t s) → listed_records l m o ≡ o
+pub list_refused : (l m o : List ℕ) (r : RefusedAt) → list_message l m o ≡ Err r → listed_records l m o ≡ o
 unfolding list_message listed_records
-list_refused l m o r t s e = kept (check_message l m) (type_under (table_of l) l) m o r t s e
+list_refused l m o r e = kept (check_message l m) (type_under (table_of l) l) m o r e

@@ -24,7 +24,7 @@ use Rattle.message.specs.Listing.{entry, list_item_lem, list_fields_lem}
 use Rattle.message.specs.Unfold.{unfold_bytes, bytes_fields}
 use Rattle.message.specs.Steps.{Under, Row, row_of, heads_of, many_in_lem, IsAccepted}
 use Rattle.message.proofs.Answers.{then_both, built-both, many-both}
-use Rattle.message.proofs.Copies.{Some, Laid, elements_laid, vector-laid}
+use Rattle.message.proofs.Copies.{TakesBytes, Laid, elements_laid, vector-laid}
 use Rattle.message.proofs.Repeats.{else_list, element-some, element-heads, element-row, list_read, list-listed, list-bytes, vector-read, vector-listed, vector-bytes}
 use Rattle.standard.specs.declared.Refusal.{Refusal}
 use Rattle.std.specs.declared.result.Result.{Result}
@@ -42,7 +42,7 @@ pub several : (i : ℕ) → 6 ≤ i → (i ≡ 6 → ⊥) → (i ≡ 7 → ⊥) 
 several i h j k = omega (arith, j, k)
 
 -- An element takes at least a byte.
-range_few : (m : ℕ) (h : Head) → Some h → (b : List ℕ) (p prev : ℕ) → p ≤ length b → InRange (replicate m h) b p prev → p + m ≤ length b
+range_few : (m : ℕ) (h : Head) → TakesBytes h → (b : List ℕ) (p prev : ℕ) → p ≤ length b → InRange (replicate m h) b p prev → p + m ≤ length b
 unfolding InRange
 range_few zero h i b p prev k r = omega arith
 range_few (suc m) (Fixed w) i b p prev k r = omega (arith, i w refl, range_few m (Fixed w) i b (p + w) prev r.0 r.1)

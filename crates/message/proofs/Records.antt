@@ -51,13 +51,13 @@ mutual
   unfolding Counted read_item list_item_lem
 
   pub listed-length : (t : Ty) (b : List ℕ) (s : ℕ) (c : Counts) → read_item t b s ≡ Ok c → length (list_item_lem t b s) ≡ 12 * c.records
-  listed-length (number t w) b s c e = leaf-listed t b s 0 (length b) c (leaf-accepted (eqb (length b) w) 0 (length b) _ t s c e).1
+  listed-length (number t w) b s c e = leaf-listed t b s 0 (length b) c (leaf-accepted (eqb (length b) w) 0 (length b) _ c e).1
   listed-length (boolean t) b s c e =
-      let p = left-accepted (eqb (length b) 1) _ _ t s c e in
-      leaf-listed t b s 0 1 c (leaf-accepted (ltb (get_or b 0 0) 2) 0 1 _ t s c p.1).1
-  listed-length (fixed_bytes t n) b s c e = leaf-listed t b s 0 (length b) c (leaf-accepted (eqb (length b) n) 0 (length b) _ t s c e).1
+      let p = left-accepted (eqb (length b) 1) _ _ c e in
+      leaf-listed t b s 0 1 c (leaf-accepted (ltb (get_or b 0 0) 2) 0 1 _ c p.1).1
+  listed-length (fixed_bytes t n) b s c e = leaf-listed t b s 0 (length b) c (leaf-accepted (eqb (length b) n) 0 (length b) _ c e).1
   listed-length (free_bytes t limit) b s c e =
-      leaf-listed t b s 1 (length b) c (leaf-accepted (leb (length b) limit) 1 (length b) _ t s c e).1
+      leaf-listed t b s 1 (length b) c (leaf-accepted (leb (length b) limit) 1 (length b) _ c e).1
   listed-length (bit_vector t n) b s c e = leaf-listed t b s 0 (length b) c (vector-accepted (bit_vector_body b n) t s (length b) c e).1
   listed-length (bit_list t limit) b s c e =
       let p = list-accepted (bit_list_body b limit) t s c e in
@@ -67,8 +67,8 @@ mutual
       let q = behind-accepted (single 0 0) (read_fields ts b 0 s) c p.1 in
       rw q.2 (simp (length-append, length-entry) (omega (arith, row_listed ts (all_listed ts) b 0 s q.0 q.1)))
   listed-length (union t os) b s c e =
-      let p = right_accepted (eqb (length b) 0) _ _ t s c e in
-      let q = left-accepted (leb (get_or b 0 0) 127) _ _ t s c p.1 in
+      let p = right_accepted (eqb (length b) 0) _ _ c e in
+      let q = left-accepted (leb (get_or b 0 0) 127) _ _ c p.1 in
       simp (length-append, length-entry) (option-listed os (get_or b 0 0) b t s c q.1)
   listed-length (list t a limit) b s c e =
       let p = many-accepted (elements (head a) limit b) t s _ c e in
@@ -90,10 +90,10 @@ mutual
   option-listed :
       (os : Opts) (k : ℕ) (b : List ℕ) (t s : ℕ) (c : Counts) → read_option os k b t s ≡ Ok c
       → 12 + length (list_option os k b s) ≡ 12 * c.records
-  option-listed over k b t s c e = not_accepted _ t s c e
+  option-listed over k b t s c e = not_accepted _ c e
   option-listed (bare j os) k b t s c e =
       pick-cases (eqb k j) _ (read_option os k b t s) (Ok c)
-      (λ i f. let q = leaf-accepted (eqb (length b) 1) 1 0 _ t s c f in rw (i, q.1))
+      (λ i f. let q = leaf-accepted (eqb (length b) 1) 1 0 _ c f in rw (i, q.1))
       (λ i f. rw i (option-listed os k b t s c f))
       e
   option-listed (body j o os) k b t s c e =

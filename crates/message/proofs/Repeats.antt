@@ -22,7 +22,7 @@ use Rattle.message.specs.Listing.{entry, list_item_lem, list_fields_lem}
 use Rattle.message.specs.Unfold.{unfold_words, unfold_bytes, words_fields, bytes_fields}
 use Rattle.message.specs.Steps.{Under, Row, Named, row_of, heads_of}
 use Rattle.message.proofs.Rows.{node_legal, under-below, under-head, under-small}
-use Rattle.message.proofs.Copies.{Some, read-copies, list-copies, words-copies, bytes-copies}
+use Rattle.message.proofs.Copies.{TakesBytes, read-copies, list-copies, words-copies, bytes-copies}
 use Rattle.standard.specs.declared.Refusal.{Refusal}
 use Rattle.std.specs.declared.result.Result.{Result}
 use Rattle.std.specs.declared.result.Result.TheVariants.{Ok, Err}
@@ -74,7 +74,7 @@ module _ (lens l : List ℕ) (t : ℕ) (n : Node) (e : n ≡ node_of l t) (g : U
   pub element-legal : LegalTy element_type
   element-legal = legal_tree l (t + 1) n.second g.legal (omega (arith, element-below))
 
-  pub element-some : Some (head element_type)
+  pub element-some : TakesBytes (head element_type)
   element-some m h = fixed-some element_type m element-legal h
 
   under-elements : Under lens l t

@@ -99,14 +99,14 @@ mutual
       let k : length b ≡ w = eqb-true _ _ (leaf-accepted (eqb (length b) w) 0 (length b) _ t s c e).0 in
       (num b, rw (← k) (num-bound b h), rw (← k) (le-num b h))
   sound (boolean t) b s c l h e =
-      let p = left-accepted (eqb (length b) 1) _ _ t s c e in
-      let q = leaf-accepted (ltb (get_or b 0 0) 2) 0 1 _ t s c p.1 in
+      let p = left-accepted (eqb (length b) 1) _ _ c e in
+      let q = leaf-accepted (ltb (get_or b 0 0) 2) 0 1 _ c p.1 in
       let r = sound-boolean b (eqb-true _ _ p.0) (ltb-true _ _ q.0) in
       (r.0, tt, r.1)
   sound (fixed_bytes t n) b s c l h e =
-      (b, (h, eqb-true _ _ (leaf-accepted (eqb (length b) n) 0 (length b) _ t s c e).0), refl)
+      (b, (h, eqb-true _ _ (leaf-accepted (eqb (length b) n) 0 (length b) _ c e).0), refl)
   sound (free_bytes t limit) b s c l h e =
-      (b, (h, leb-true _ _ (leaf-accepted (leb (length b) limit) 1 (length b) _ t s c e).0), refl)
+      (b, (h, leb-true _ _ (leaf-accepted (leb (length b) limit) 1 (length b) _ c e).0), refl)
   sound (bit_vector t n) b s c l h e =
       let p = vector-accepted (bit_vector_body b n) t s (length b) c e in
       (bits_of n (num b), length-bits_of n (num b), vector-sound b n h l p.0)
@@ -118,10 +118,10 @@ mutual
       let p = built-accepted (lay_out_lem (heads ts) b) t s _ c e in
       let q = behind-accepted (single 0 0) (read_fields ts b 0 s) c p.1 in
       whole-sound ts (all_sound ts) b s q.0 l.1 h (laid_out (heads ts) b p.0) q.1
-  sound (union t os) [] s c l h e = not_accepted _ t s c e
+  sound (union t os) [] s c l h e = not_accepted _ c e
   sound (union t os) (x ∷ b) s c l h e =
-      let p = right_accepted (eqb (length (x ∷ b)) 0) _ _ t s c e in
-      let q = left-accepted (leb x 127) _ _ t s c p.1 in
+      let p = right_accepted (eqb (length (x ∷ b)) 0) _ _ c e in
+      let q = left-accepted (leb x 127) _ _ c p.1 in
       sound-option os x b t s c l.2 h q.1
   sound (list t a limit) b s c l h e =
       let p = many-accepted (elements (head a) limit b) t s _ c e in
@@ -142,11 +142,11 @@ mutual
   sound-option :
       (os : Opts) (k : ℕ) (r : List ℕ) (t s : ℕ) (c : Counts) → LegalOptions os → Bytes (k ∷ r) → read_option os k (k ∷ r) t s ≡ Result.Ok c
       → (v : Option os) × OkOption os v × (selected os v ≡ k ∷ r)
-  sound-option over k r t s c l h e = not_accepted _ t s c e
+  sound-option over k r t s c l h e = not_accepted _ c e
   sound-option (bare j os) k r t s c l h e =
       pick-cases (eqb k j) _ (read_option os k (k ∷ r) t s) (Result.Ok c)
       (λ i f.
-      let q = leaf-accepted (eqb (length (k ∷ r)) 1) 1 0 _ t s c f in
+      let q = leaf-accepted (eqb (length (k ∷ r)) 1) 1 0 _ c f in
       (inl tt, tt, alone j k r (eqb-true _ _ i) (eqb-true _ _ q.0)))
       (λ i f. let x = sound-option os k r t s c l h f in (inr x.0, x.1, x.2))
       e
@@ -303,9 +303,9 @@ module _ (l : List ℕ) (n : ℕ) (h : Bytes l) (e : table_of l ≡ Result.Ok n)
 Same : Result Counts RefusedAt → Result Counts RefusedAt → Type 0
 Same x y = (c : Counts) → x ≡ Result.Ok c → y ≡ Result.Ok c
 
-same_refused : (r : Refusal) (t s : ℕ) (y : Result Counts RefusedAt) → Same (Err (located r t s)) y
+same_refused : (r : RefusedAt) (y : Result Counts RefusedAt) → Same (Err r) y
 unfolding Same
-same_refused r t s y c e = not_accepted r t s c e
+same_refused r y c e = not_accepted r c e
 
 same_self : (x : Result Counts RefusedAt) → Same x x
 unfolding Same
@@ -322,19 +322,19 @@ same_then x y u v f g c e =
     then_accepts u v q.0 q.1 (f q.0 q.2) (g q.1 q.3) ∙ ap Result.Ok (sym q.4)
 
 same-built : (d : Result ⊤ Refusal) (t s u : ℕ) (x y : Result Counts RefusedAt) → Same x y → Same (built d t s x) (built d t u y)
-same-built (Err r) t s u x y f = same_refused r t s (Err (located r t u))
+same-built (Err r) t s u x y f = same_refused (located r t s) (Err (located r t u))
 same-built (Result.Ok tt) t s u x y f = f
 
 same-vector : (d : Result ⊤ Refusal) (t s u n : ℕ) → Same (of_vector_lem d t s n) (of_vector_lem d t u n)
-same-vector (Err r) t s u n = same_refused r t s (Err (located r t u))
+same-vector (Err r) t s u n = same_refused (located r t s) (Err (located r t u))
 same-vector (Result.Ok tt) t s u n = same_self (one 0 n)
 
 same-list : (d : Result ℕ Refusal) (t s u : ℕ) → Same (of_list d t s) (of_list d t u)
-same-list (Err r) t s u = same_refused r t s (Err (located r t u))
+same-list (Err r) t s u = same_refused (located r t s) (Err (located r t u))
 same-list (Result.Ok k) t s u = same_self (one 1 (raw_bytes_lem k))
 
 same-elements : (d : Result ℕ Refusal) (t s u : ℕ) (x y : ℕ → Result Counts RefusedAt) → ((n : ℕ) → Same (x n) (y n)) → Same (of_elements d t s x) (of_elements d t u y)
-same-elements (Err r) t s u x y f = same_refused r t s (Err (located r t u))
+same-elements (Err r) t s u x y f = same_refused (located r t s) (Err (located r t u))
 same-elements (Result.Ok n) t s u x y f = f n
 
 Starts : Ty → Type 0
@@ -359,21 +359,21 @@ mutual
   unfolding Starts read_item
 
   item-start : (t : Ty) (b : List ℕ) (s u : ℕ) → Same (read_item t b s) (read_item t b u)
-  item-start (number t w) b s u = same-pick (eqb (length b) w) _ _ _ _ (same_self _) (same_refused _ t s _)
+  item-start (number t w) b s u = same-pick (eqb (length b) w) _ _ _ _ (same_self _) (same_refused _ _)
   item-start (boolean t) b s u =
       same-pick (eqb (length b) 1) _ _ _ _
-      (same-pick (ltb (get_or b 0 0) 2) _ _ _ _ (same_self _) (same_refused _ t s _))
-      (same_refused _ t s _)
-  item-start (fixed_bytes t n) b s u = same-pick (eqb (length b) n) _ _ _ _ (same_self _) (same_refused _ t s _)
-  item-start (free_bytes t limit) b s u = same-pick (leb (length b) limit) _ _ _ _ (same_self _) (same_refused _ t s _)
+      (same-pick (ltb (get_or b 0 0) 2) _ _ _ _ (same_self _) (same_refused _ _))
+      (same_refused _ _)
+  item-start (fixed_bytes t n) b s u = same-pick (eqb (length b) n) _ _ _ _ (same_self _) (same_refused _ _)
+  item-start (free_bytes t limit) b s u = same-pick (leb (length b) limit) _ _ _ _ (same_self _) (same_refused _ _)
   item-start (bit_vector t n) b s u = same-vector (bit_vector_body b n) t s u (length b)
   item-start (bit_list t limit) b s u = same-list (bit_list_body b limit) t s u
   item-start (container t ts) b s u =
       same-built (lay_out_lem (heads ts) b) t s u _ _
       (same_then (one 0 0) (read_fields ts b 0 s) (one 0 0) (read_fields ts b 0 u) (same_self (one 0 0)) (row-start ts (all_start ts) b 0 s u))
   item-start (union t os) b s u =
-      same-pick (eqb (length b) 0) _ _ _ _ (same_refused _ t s _)
-      (same-pick (leb (get_or b 0 0) 127) _ _ _ _ (option-start os (get_or b 0 0) b t s u) (same_refused _ t s _))
+      same-pick (eqb (length b) 0) _ _ _ _ (same_refused _ _)
+      (same-pick (leb (get_or b 0 0) 127) _ _ _ _ (option-start os (get_or b 0 0) b t s u) (same_refused _ _))
   item-start (list t e limit) b s u =
       same-elements (elements (head e) limit b) t s u _ _ (λ n. elements-start e (λ x v w. item-start e x v w) 1 n b s u)
   item-start (vector t e n) b s u =
@@ -384,10 +384,10 @@ mutual
   all_start (field t ts) = ((λ b s u. item-start t b s u), all_start ts)
 
   option-start : (os : Opts) (k : ℕ) (b : List ℕ) (t s u : ℕ) → Same (read_option os k b t s) (read_option os k b t u)
-  option-start over k b t s u = same_refused _ t s _
+  option-start over k b t s u = same_refused _ _
   option-start (bare j os) k b t s u =
       same-pick (eqb k j) _ _ _ _
-      (same-pick (eqb (length b) 1) _ _ _ _ (same_self _) (same_refused _ t s _))
+      (same-pick (eqb (length b) 1) _ _ _ _ (same_self _) (same_refused _ _))
       (option-start os k b t s u)
   option-start (body j o os) k b t s u =
       same-pick (eqb k j) _ _ _ _

@@ -40,7 +40,7 @@ pub record Tiled (l m : List ℕ) : Type 0 where
 under-accepted : (d : Result ℕ Refusal) (l m : List ℕ) (c : Counts) → under_table_lem d l m ≡ Result.Ok c → (n : ℕ) × (d ≡ Result.Ok n) × (length m < 2 ^ 32)
 under-accepted (Err r) l m c e = not_accepted _ c e
 under-accepted (Result.Ok n) l m c e =
-    let p = right_accepted (ltb 4294967295 (length m)) _ _ 0 0 c e in
+    let p = right_accepted (ltb 4294967295 (length m)) _ _ c e in
     (n, refl, omega (arith, ltb-false 4294967295 (length m) p.0))
 
 pub message-tiled : (l m : List ℕ) → Bytes l → Bytes m → (c : Counts) → check_message l m ≡ Result.Ok c → Tiled l m

@@ -56,13 +56,13 @@ mutual
 
   pub form-counted : (t : Ty) (b : List ℕ) (s : ℕ) (c : Counts) → read_item t b s ≡ Ok c →
       (length (unfold_words t b) ≡ c.words) × (length (unfold_bytes t b) ≡ c.bytes)
-  form-counted (number t w) b s c e = let q = leaf-accepted (eqb (length b) w) 0 (length b) _ t s c e in (rw q.1, rw q.1)
+  form-counted (number t w) b s c e = let q = leaf-accepted (eqb (length b) w) 0 (length b) _ c e in (rw q.1, rw q.1)
   form-counted (boolean t) b s c e =
-      let p = left-accepted (eqb (length b) 1) _ _ t s c e in
-      let q = leaf-accepted (ltb (get_or b 0 0) 2) 0 1 _ t s c p.1 in
+      let p = left-accepted (eqb (length b) 1) _ _ c e in
+      let q = leaf-accepted (ltb (get_or b 0 0) 2) 0 1 _ c p.1 in
       (rw q.1, rw q.1 (eqb-true _ _ p.0))
-  form-counted (fixed_bytes t n) b s c e = let q = leaf-accepted (eqb (length b) n) 0 (length b) _ t s c e in (rw q.1, rw q.1)
-  form-counted (free_bytes t limit) b s c e = let q = leaf-accepted (leb (length b) limit) 1 (length b) _ t s c e in (rw q.1, rw q.1)
+  form-counted (fixed_bytes t n) b s c e = let q = leaf-accepted (eqb (length b) n) 0 (length b) _ c e in (rw q.1, rw q.1)
+  form-counted (free_bytes t limit) b s c e = let q = leaf-accepted (leb (length b) limit) 1 (length b) _ c e in (rw q.1, rw q.1)
   form-counted (bit_vector t n) b s c e = let q = vector-accepted (bit_vector_body b n) t s (length b) c e in (rw q.1, rw q.1)
   form-counted (bit_list t limit) b s c e =
       let p = list-accepted (bit_list_body b limit) t s c e in
@@ -73,8 +73,8 @@ mutual
       let r = row-counted ts (all-counted ts) b 0 s q.0 q.1 in
       rw q.2 (omega (arith, r.0), omega (arith, r.1))
   form-counted (union t os) b s c e =
-      let p = right_accepted (eqb (length b) 0) _ _ t s c e in
-      let q = left-accepted (leb (get_or b 0 0) 127) _ _ t s c p.1 in
+      let p = right_accepted (eqb (length b) 0) _ _ c e in
+      let q = left-accepted (leb (get_or b 0 0) 127) _ _ c p.1 in
       let r = option-counted os (get_or b 0 0) b t s c q.1 in
       (omega (arith, r.0), r.1)
   form-counted (list t a limit) b s c e =
@@ -96,10 +96,10 @@ mutual
   option-counted :
       (os : Opts) (k : ℕ) (b : List ℕ) (t s : ℕ) (c : Counts) → read_option os k b t s ≡ Ok c
       → (1 + length (words_option os k b) ≡ c.words) × (length (bytes_option os k b) ≡ c.bytes)
-  option-counted over k b t s c e = not_accepted _ t s c e
+  option-counted over k b t s c e = not_accepted _ c e
   option-counted (bare j os) k b t s c e =
       pick-cases (eqb k j) _ (read_option os k b t s) (Ok c)
-      (λ i f. let q = leaf-accepted (eqb (length b) 1) 1 0 _ t s c f in (rw (i, q.1), rw (i, q.1)))
+      (λ i f. let q = leaf-accepted (eqb (length b) 1) 1 0 _ c f in (rw (i, q.1), rw (i, q.1)))
       (λ i f. rw i (option-counted os k b t s c f))
       e
   option-counted (body j o os) k b t s c e =

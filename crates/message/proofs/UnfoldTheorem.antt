@@ -181,7 +181,7 @@ module _ (l : List ℕ) (n : ℕ) (h : Bytes l) (e : table_of l ≡ Result.Ok n)
   given :
       (c : Counts) (x y : List ℕ) → check_message l m ≡ Result.Ok c → unfold_words (message_type l n) m ≡ x → unfold_bytes (message_type l n) m ≡ y
       → c.words ≤ length o → c.bytes ≤ length p
-      → (unfold_message l m o p ≡ Result.Ok (record { words = (length x); bytes = (length y) })) × (unfolded_words l m o p ≡ sets o 0 x) × (unfolded_bytes l m o p ≡ sets p 0 y)
+      → (unfold_message l m o p ≡ Result.Ok (record { words = length x; bytes = length y })) × (unfolded_words l m o p ≡ sets o 0 x) × (unfolded_bytes l m o p ≡ sets p 0 y)
   unfolding unfold_message unfolded_words unfolded_bytes
   given c x y f q r i j =
       let a = sym (message-read l n h e m k) ∙ f in
@@ -194,7 +194,7 @@ module _ (l : List ℕ) (n : ℕ) (h : Bytes l) (e : table_of l ≡ Result.Ok n)
   pub unfold_value :
       (v : Val (message_type l n)) → Ok (message_type l n) v → serialize (message_type l n) v ≡ m
       → length (contents (message_type l n) v) ≤ length o → length (bodies (message_type l n) v) ≤ length p
-      → (unfold_message l m o p ≡ Result.Ok (record { words = (length (contents (message_type l n) v)); bytes = (length (bodies (message_type l n) v)) })) ×
+      → (unfold_message l m o p ≡ Result.Ok (record { words = length (contents (message_type l n) v); bytes = length (bodies (message_type l n) v) })) ×
       (unfolded_words l m o p ≡ sets o 0 (contents (message_type l n) v)) × (unfolded_bytes l m o p ≡ sets p 0 (bodies (message_type l n) v))
   unfold_value v g s i j =
       let t = message_type l n in
@@ -224,22 +224,22 @@ module _ (l : List ℕ) (n : ℕ) (h : Bytes l) (e : table_of l ≡ Result.Ok n)
       (v.0, v.1, v.2, sym (x ∙ q.4), sym (z ∙ q.5), g.1, g.2)
 
 -- A refusal changes nothing, whatever it is.
-kept : (x : Result Counts RefusedAt) (o p q y : List ℕ) (r : Refusal) (t s : ℕ) → unfolded_of x o p ≡ Err (located r t s) → filled_of x o p q y ≡ q
-kept (Err r) o p q y r' t' s' e = refl
-kept (Result.Ok c) o p q y r t s e = go (ltb (length o) c.words) (ltb (length p) c.bytes) e
+kept : (x : Result Counts RefusedAt) (o p q y : List ℕ) (r : RefusedAt) → unfolded_of x o p ≡ Err r → filled_of x o p q y ≡ q
+kept (Err r) o p q y r' e = refl
+kept (Result.Ok c) o p q y r e = go (ltb (length o) c.words) (ltb (length p) c.bytes) e
   where
     go : (a b : Bool) → pick a (Err (located (NoRoom c.words c.bytes) 0 0))
-        (pick b (Err (located (NoRoom c.words c.bytes) 0 0)) (Result.Ok (record { words = c.words; bytes = c.bytes }))) ≡ Err (located r t s) →
+        (pick b (Err (located (NoRoom c.words c.bytes) 0 0)) (Result.Ok (record { words = c.words; bytes = c.bytes }))) ≡ Err r →
         pick a q (pick b q (sets q 0 y)) ≡ q
     go true b f = refl
     go false true f = refl
     go false false f = let z : ◌≡◌ {A = ℕ} 0 1 = cc in absurd (omega arith)
 
 pub unfold_refused :
-    (l m o p : List ℕ) (r : Refusal) (t s : ℕ) → unfold_message l m o p ≡ Err (located r t s)
+    (l m o p : List ℕ) (r : RefusedAt) → unfold_message l m o p ≡ Err r
     → (unfolded_words l m o p ≡ o) × (unfolded_bytes l m o p ≡ p)
 unfolding unfold_message unfolded_words unfolded_bytes
-unfold_refused l m o p r t s e = (
-  kept (check_message l m) o p o (unfold_words (type_under (table_of l) l) m) r t s e,
-  kept (check_message l m) o p p (unfold_bytes (type_under (table_of l) l) m) r t s e,
+unfold_refused l m o p r e = (
+  kept (check_message l m) o p o (unfold_words (type_under (table_of l) l) m) r e,
+  kept (check_message l m) o p p (unfold_bytes (type_under (table_of l) l) m) r e,
 )
