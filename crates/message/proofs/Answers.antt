@@ -25,7 +25,7 @@ single w b = record { records = 1; words = w; bytes = b }
 pub not_accepted : {A : Type 0} (r : RefusedAt) (c : Counts) → Err r ≡ Ok c → A
 not_accepted r c e = let z : ◌≡◌ {A = ℕ} 0 1 = cc in absurd (omega arith)
 
-pub accepted-same : (c d : Counts) → Ok c ≡ Ok d → c ≡ d
+pub accepted-same : (c d : Counts) → ◌≡◌ {A = Result Counts RefusedAt} (Ok c) (Ok d) → c ≡ d
 accepted-same c d e = cc
 
 -- A test: which of its sides gives what is asked, where the other does not.

@@ -124,7 +124,7 @@ within-many m limit n e =
     let q : m ≡ n = cc p.1 in
     (q, rw q at (leb-true m limit p.0))
 
-not_fine : (r : Refusal) → Err r ≡ Ok tt → ⊥
+not_fine : (r : Refusal) → ◌≡◌ {A = Result ⊤ Refusal} (Err r) (Ok tt) → ⊥
 not_fine r e = let z : ◌≡◌ {A = ℕ} 0 1 = cc in omega arith
 
 -- The further offsets are in range from the one before on, and back.

@@ -293,7 +293,7 @@ records_say :
 records_say (Err r) o k e = let z : ◌≡◌ {A = ℕ} 0 1 = cc in absurd (omega arith)
 records_say (Result.Ok c) o k e =
     let i = pick_right (ltb (length o / 12) c.records) _ _ (Result.Ok k) (λ f. let z : ◌≡◌ {A = ℕ} 0 1 = cc in omega arith) e in
-    let q : Result.Ok c.records ≡ Result.Ok k = i.1 in
+    let q : ◌≡◌ {A = Result ℕ RefusedAt} (Result.Ok c.records) (Result.Ok k) = i.1 in
     (c, refl, ltb-false _ _ i.0, cc)
 
 -- Records that are stored at the front are read there.

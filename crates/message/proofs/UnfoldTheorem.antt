@@ -173,7 +173,7 @@ sizes-says (Err r) o p w y e = let z : ◌≡◌ {A = ℕ} 0 1 = cc in absurd (o
 sizes-says (Result.Ok c) o p w y e =
     let i = pick_right (ltb (length o) c.words) _ _ (Result.Ok (record { words = w; bytes = y })) (λ f. let z : ◌≡◌ {A = ℕ} 0 1 = cc in omega arith) e in
     let j = pick_right (ltb (length p) c.bytes) _ _ (Result.Ok (record { words = w; bytes = y })) (λ f. let z : ◌≡◌ {A = ℕ} 0 1 = cc in omega arith) i.1 in
-    let q : Result.Ok (record { words = c.words; bytes = c.bytes }) ≡ Result.Ok (record { words = w; bytes = y }) = j.1 in
+    let q : ◌≡◌ {A = Result Sizes RefusedAt} (Result.Ok (record { words = c.words; bytes = c.bytes })) (Result.Ok (record { words = w; bytes = y })) = j.1 in
     (c, refl, ltb-false _ _ i.0, ltb-false _ _ j.0, cc, cc)
 
 -- The call: under a legal table, for a message below 2^32 bytes.
