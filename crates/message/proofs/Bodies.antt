@@ -158,9 +158,9 @@ module _ {lens l : List ℕ} {t a₀ step n own : ℕ} {b : List ℕ} {s : ℕ} 
         same = then_assoc (Ok sum) (Ok c) (read_fields (row_of l t (a + step) step (left - 1)) b w.next s) ∙ rw (← h) at reading-first;
       }
 
-  pub reading_stop : (r : Refusal) (u v : ℕ) → Err (located r u v) ≡ read_item (tree_of l f) (part b w) (s + w.from) →
-      Err (located r u v) ≡ and_then (one own 0) (read_fields (row_of l t a₀ step n) b 0 s)
-  reading_stop r u v h = rw (← h) at reading-first
+  pub reading_stop : (r : RefusedAt) → Err r ≡ read_item (tree_of l f) (part b w) (s + w.from) →
+      Err r ≡ and_then (one own 0) (read_fields (row_of l t a₀ step n) b 0 s)
+  reading_stop r h = rw (← h) at reading-first
 
   -- Free bytes: of them only the length is asked.
   module _ {d : Node} (i : d ≡ node_of l f) (k : d.kind ≡ 3) where
@@ -218,7 +218,7 @@ module _ (lens l : List ℕ) (t : ℕ) (n : Node) (e : n ≡ node_of l t) (g : U
     unfolding read_item
     container-read = rw (container_tree l t n e k)
 
-    pub container-on : (Ok tt) ≡ lay_out_lem (heads_of l t (n.at + 2) 1 n.second) b →
+    pub container-on : Ok tt ≡ lay_out_lem (heads_of l t (n.at + 2) 1 n.second) b →
         and_then (one 0 0) (read_fields (row_of l t (n.at + 2) 1 n.second) b 0 s) ≡ read_item (tree_of l t) b s
     container-on h = rw (container-read, ← h)
 
@@ -387,7 +387,7 @@ module _ (lens l : List ℕ) (t : ℕ) (n : Node) (e : n ≡ node_of l t) (g : U
   union-read : (s : ℕ) → read_item (tree_of l t) b s ≡ chosen (choose l (n.at + 2) n.second b) (trees l t) b t s
   union-read s = rw (as_union l t n e k) (union-chosen l (trees l t) b t s (n.at + 2) n.second)
 
-  pub bare-read : (s : ℕ) → (Ok None) ≡ choose l (n.at + 2) n.second b → one 1 0 ≡ read_item (tree_of l t) b s
+  pub bare-read : (s : ℕ) → Ok None ≡ choose l (n.at + 2) n.second b → one 1 0 ≡ read_item (tree_of l t) b s
   unfolding chosen
   bare-read s q = rw (union-read s, ← q)
 

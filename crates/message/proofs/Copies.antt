@@ -105,11 +105,14 @@ pub laid-fixed : (n k : ℕ) (b : List ℕ) → Laid (replicate n (Fixed k)) b �
 unfolding width
 laid-fixed n k b g = sym (next-fixed n k b 0) ∙ g.first ∙ portion-copies n (Fixed k)
 
+not_fine : (r : Refusal) → ◌≡◌ {A = Result ⊤ Refusal} (Err r) (Ok tt) → ⊥
+not_fine r e = cc
+
 -- A vector.
 pub vector-laid : (h : Head) (n : ℕ) (b : List ℕ) → vector_told_lem h n b ≡ Ok tt → Laid (replicate n h) b
 unfolding vector_told_lem
 vector-laid (Fixed k) n b e =
-    fixed-laid n k b (eqb-true _ _ (pick-left (eqb (length b) (n * k)) (Ok tt) _ (Ok tt) (λ q. let z : ◌≡◌ {A = ℕ} 0 1 = cc in omega arith) e).0)
+    fixed-laid n k b (eqb-true _ _ (pick-left (eqb (length b) (n * k)) (Ok tt) _ (Ok tt) (not_fine _) e).0)
 vector-laid Variable n b e = laid_out (replicate n Variable) b e
 
 pub laid-vector : (h : Head) (n : ℕ) (b : List ℕ) → length b < 2 ^ 32 → Laid (replicate n h) b → vector_told_lem h n b ≡ Ok tt
@@ -123,9 +126,6 @@ within-many m limit n e =
     let p = pick-left (leb m limit) (Ok m) _ (Ok n) (λ q. let z : ◌≡◌ {A = ℕ} 0 1 = cc in omega arith) e in
     let q : m ≡ n = cc p.1 in
     (q, rw q at (leb-true m limit p.0))
-
-not_fine : (r : Refusal) → ◌≡◌ {A = Result ⊤ Refusal} (Err r) (Ok tt) → ⊥
-not_fine r e = let z : ◌≡◌ {A = ℕ} 0 1 = cc in omega arith
 
 -- The further offsets are in range from the one before on, and back.
 further-next :

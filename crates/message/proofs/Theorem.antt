@@ -38,6 +38,7 @@ use Rattle.message.specs.Check.{message_type, check_message}
 use Rattle.message.specs.declared.Counts.{Counts}
 use Rattle.message.proofs.Answers.{single, not_accepted, pick-cases, left-accepted, right_accepted, leaf-accepted, then_accepted, then_accepts, behind-accepted, built-accepted, vector-accepted, list-accepted, many-accepted}
 use Rattle.message.proofs.Copies.{read-copies, Laid, laid_out, vector-laid, laid-vector, elements_laid, laid-elements}
+use Rattle.std.specs.Prelude.{⊤}
 use Rattle.std.specs.declared.result.Result.{Result}
 use Rattle.std.specs.declared.result.Result.TheVariants.{Err}
 use Rattle.message.specs.declared.RefusedAt.{RefusedAt}
@@ -96,7 +97,7 @@ mutual
       (t : Ty) (b : List ℕ) (s : ℕ) (c : Counts) → LegalTy t → Bytes b → read_item t b s ≡ Result.Ok c
       → (v : Val t) × Ok t v × (serialize t v ≡ b)
   sound (number t w) b s c l h e =
-      let k : length b ≡ w = eqb-true _ _ (leaf-accepted (eqb (length b) w) 0 (length b) _ t s c e).0 in
+      let k : length b ≡ w = eqb-true _ _ (leaf-accepted (eqb (length b) w) 0 (length b) _ c e).0 in
       (num b, rw (← k) (num-bound b h), rw (← k) (le-num b h))
   sound (boolean t) b s c l h e =
       let p = left-accepted (eqb (length b) 1) _ _ c e in

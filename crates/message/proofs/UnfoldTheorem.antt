@@ -36,6 +36,7 @@ use Rattle.message.proofs.Answers.{pick_right}
 use Rattle.message.proofs.Theorem.{sound, complete, message-read, message-legal}
 use Rattle.message.proofs.UnfoldCounts.{words-counted, bytes_counted}
 use Rattle.message.proofs.Copies.{copies-many, words-copies, bytes-copies, contents-copies, bodies-copies}
+use Rattle.message.specs.declared.Sizes.{Sizes}
 use Rattle.std.specs.declared.result.Result.{Result}
 use Rattle.std.specs.declared.result.Result.TheVariants.{Err}
 use Rattle.message.specs.declared.RefusedAt.{RefusedAt}
@@ -174,7 +175,8 @@ sizes-says (Result.Ok c) o p w y e =
     let i = pick_right (ltb (length o) c.words) _ _ (Result.Ok (record { words = w; bytes = y })) (λ f. let z : ◌≡◌ {A = ℕ} 0 1 = cc in omega arith) e in
     let j = pick_right (ltb (length p) c.bytes) _ _ (Result.Ok (record { words = w; bytes = y })) (λ f. let z : ◌≡◌ {A = ℕ} 0 1 = cc in omega arith) i.1 in
     let q : ◌≡◌ {A = Result Sizes RefusedAt} (Result.Ok (record { words = c.words; bytes = c.bytes })) (Result.Ok (record { words = w; bytes = y })) = j.1 in
-    (c, refl, ltb-false _ _ i.0, ltb-false _ _ j.0, cc, cc)
+    let r : ◌≡◌ {A = Sizes} (record { words = c.words; bytes = c.bytes }) (record { words = w; bytes = y }) = cc in
+    (c, refl, ltb-false _ _ i.0, ltb-false _ _ j.0, ap (λ (z : Sizes). z.words) r, ap (λ (z : Sizes). z.bytes) r)
 
 -- The call: under a legal table, for a message below 2^32 bytes.
 module _ (l : List ℕ) (n : ℕ) (h : Bytes l) (e : table_of l ≡ Result.Ok n) (m : List ℕ) (k : length m < 2 ^ 32) (o p : List ℕ) where
@@ -228,7 +230,7 @@ kept : (x : Result Counts RefusedAt) (o p q y : List ℕ) (r : RefusedAt) → un
 kept (Err r) o p q y r' e = refl
 kept (Result.Ok c) o p q y r e = go (ltb (length o) c.words) (ltb (length p) c.bytes) e
   where
-    go : (a b : Bool) → pick a (Err (located (NoRoom c.words c.bytes) 0 0))
+    go : (a b : Bool) → pick {A = Result Sizes RefusedAt} a (Err (located (NoRoom c.words c.bytes) 0 0))
         (pick b (Err (located (NoRoom c.words c.bytes) 0 0)) (Result.Ok (record { words = c.words; bytes = c.bytes }))) ≡ Err r →
         pick a q (pick b q (sets q 0 y)) ≡ q
     go true b f = refl

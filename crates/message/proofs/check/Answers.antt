@@ -8,5 +8,5 @@ use Rattle.message.proofs.check.Goals as goal
 pub check_under-requires : goal.check_under-requires
 check_under-requires c =
     let b = bytes-known _ (λ i. (c.type_inv.layout i).fits) in
-    let k = table_known _ _ _ b (sym c.in-Upto.ensures.value) c.table_of-c.ensures.lens_after in
+    let k = table_known _ _ _ b (sym c.in_ok-n.ensures.value) c.in_ok-n.ensures.lens_after in
     (under_table _ _ _ k.0, k.1)

@@ -7,5 +7,5 @@ use Rattle.message.proofs.list.Goals as goal
 
 pub list_under-requires : goal.list_under-requires
 list_under-requires c =
-    let k = table_known _ _ _ (bytes-known _ c.type_inv.layout) (sym c.in-Upto.ensures.value) c.in-Upto.ensures.lens_after in
+    let k = table_known _ _ _ (bytes-known _ c.type_inv.layout) (sym c.in_ok-n.ensures.value) c.in_ok-n.ensures.lens_after in
     (under_table _ _ _ k.0, k.1)

@@ -14,14 +14,13 @@ use Rattle.message.proofs.Bodies.{plain_fits, plain-next, free_next, within-says
 use Rattle.message.proofs.Bodies.{item-small, small-more, leaf-told}
 use Rattle.message.proofs.Bodies.{bare-read, wrong-read, body_below, body-read}
 use Rattle.message.proofs.items.+field_check_item_check.Goals as goal
-use Rattle.message.specs.Read.{located}
 
 -- Where the field lies that was located: `left` has been counted down before.
-located :
+located_here :
     {lens l : List ℕ} {t a₀ step n own : ℕ} {b : List ℕ} {s : ℕ} {sum : Counts} {a left p : ℕ} → Reading lens l t a₀ step n own b s sum a left p
     → (f : ℕ) (w : Span) → w ≡ span_of (head (tree_of l f)) (heads_of l t (a + step) step (left - 1 + 1 - 1)) b p
     → w ≡ span_of (head (tree_of l f)) (heads_of l t (a + step) step (left - 1)) b p
-located {left = left} g f w q = let rest : left - 1 + 1 - 1 ≡ left - 1 = omega arith in rw rest at q
+located_here {left = left} g f w q = let rest : left - 1 + 1 - 1 ≡ left - 1 = omega arith in rw rest at q
 
 pub field_check-loop-left-init : goal.field_check-loop-left-init
 field_check-loop-left-init t c =
@@ -53,77 +52,77 @@ field_check-loop-left-preserved-then-is_plain t c =
 
 pub field_check-overflow_add-at : goal.field_check-overflow_add-at
 field_check-overflow_add-at t c =
-    let span = located c.loop-left.invariant _ _ c.locate-w.ensures in
+    let span = located_here c.loop-left.invariant _ _ c.locate-w.ensures in
     omega (arith, reading_span c.loop-left.invariant c.loop-left-test.true c.word_in-f.ensures.0 span, c.requires.1)
 
 pub field_check-overflow_sub-to : goal.field_check-overflow_sub-to
 field_check-overflow_sub-to t c =
-    (reading_span c.loop-left.invariant c.loop-left-test.true c.word_in-f.ensures.0 (located c.loop-left.invariant _ _ c.locate-w.ensures)).0
+    (reading_span c.loop-left.invariant c.loop-left-test.true c.word_in-f.ensures.0 (located_here c.loop-left.invariant _ _ c.locate-w.ensures)).0
 
 pub field_check-overflow_sub-to-then-is_within : goal.field_check-overflow_sub-to-then-is_within
 field_check-overflow_sub-to-then-is_within t c =
-    (reading_span c.loop-left.invariant c.loop-left-test.true c.word_in-f.ensures.0 (located c.loop-left.invariant _ _ c.locate-w.ensures)).0
+    (reading_span c.loop-left.invariant c.loop-left-test.true c.word_in-f.ensures.0 (located_here c.loop-left.invariant _ _ c.locate-w.ensures)).0
 
 pub field_check-one_more-sum-requires-then-is_within : goal.field_check-one_more-sum-requires-then-is_within
 field_check-one_more-sum-requires-then-is_within t c =
-    let span = located c.loop-left.invariant _ _ c.locate-w.ensures in
+    let span = located_here c.loop-left.invariant _ _ c.locate-w.ensures in
     let lies = reading_span c.loop-left.invariant c.loop-left-test.true c.word_in-f.ensures.0 span in
     (reading_small c.loop-left.invariant, omega arith, omega (arith, lies, c.requires.1))
 
 pub field_check-loop-left-preserved-then-is_within : goal.field_check-loop-left-preserved-then-is_within
 field_check-loop-left-preserved-then-is_within t c =
-    let span = located c.loop-left.invariant _ _ c.locate-w.ensures in
+    let span = located_here c.loop-left.invariant _ _ c.locate-w.ensures in
     let free = within-says _ _ _ (sym c.is_within.ensures ∙ c.if-is_within.true) in
     rw c.one_more-sum-then-is_within.ensures
     (free_next c.loop-left.invariant c.loop-left-test.true c.word_in-f.ensures.0 span c.look_in-node.ensures free.0 free.1 c.requires.1)
 
 pub field_check-slice_bounds-leaf_check-count : goal.field_check-slice_bounds-leaf_check-count
 field_check-slice_bounds-leaf_check-count t c =
-    (reading_span c.loop-left.invariant c.loop-left-test.true c.word_in-f.ensures.0 (located c.loop-left.invariant _ _ c.locate-w.ensures)).0
+    (reading_span c.loop-left.invariant c.loop-left-test.true c.word_in-f.ensures.0 (located_here c.loop-left.invariant _ _ c.locate-w.ensures)).0
 
 pub field_check-slice_bounds-leaf_check-start : goal.field_check-slice_bounds-leaf_check-start
 field_check-slice_bounds-leaf_check-start t c =
-    (reading_span c.loop-left.invariant c.loop-left-test.true c.word_in-f.ensures.0 (located c.loop-left.invariant _ _ c.locate-w.ensures)).0
+    (reading_span c.loop-left.invariant c.loop-left-test.true c.word_in-f.ensures.0 (located_here c.loop-left.invariant _ _ c.locate-w.ensures)).0
 
 pub field_check-slice_bounds-leaf_check-end : goal.field_check-slice_bounds-leaf_check-end
 field_check-slice_bounds-leaf_check-end t c =
-    (reading_span c.loop-left.invariant c.loop-left-test.true c.word_in-f.ensures.0 (located c.loop-left.invariant _ _ c.locate-w.ensures)).1
+    (reading_span c.loop-left.invariant c.loop-left-test.true c.word_in-f.ensures.0 (located_here c.loop-left.invariant _ _ c.locate-w.ensures)).1
 
-pub field_check-one_more-sum-requires-in-Sizes : goal.field_check-one_more-sum-requires-in-Sizes
-field_check-one_more-sum-requires-in-Sizes t c =
-    let span = located c.loop-left.invariant _ _ c.locate-w.ensures in
-    let says = leaf-told _ _ _ c.look_in-node.ensures c.if-node-lt6.true _ _ _ c.in-Sizes.is c.leaf_check.ensures in
+pub field_check-one_more-sum-requires-in-Ok : goal.field_check-one_more-sum-requires-in-Ok
+field_check-one_more-sum-requires-in-Ok t c =
+    let span = located_here c.loop-left.invariant _ _ c.locate-w.ensures in
+    let says = leaf-told _ _ _ c.look_in-node.ensures c.if-node-lt6.true _ _ _ c.in-Ok.is c.leaf_check.ensures in
     let counts = reading-item c.loop-left.invariant c.loop-left-test.true c.word_in-f.ensures.0 span _ c.requires.1 (says _) in
     (reading_small c.loop-left.invariant, (small-more _ counts).words, (small-more _ counts).bytes)
 
-pub field_check-returns-in-Refused : goal.field_check-returns-in-Refused
-field_check-returns-in-Refused t c =
-    let span = located c.loop-left.invariant _ _ c.locate-w.ensures in
-    let says = leaf-told _ _ _ c.look_in-node.ensures c.if-node-lt6.true _ _ _ c.in-Refused.is c.leaf_check.ensures in
-    reading_stop c.loop-left.invariant c.loop-left-test.true c.word_in-f.ensures.0 span _ _ _ (says _)
+pub field_check-returns-in-Err : goal.field_check-returns-in-Err
+field_check-returns-in-Err t c =
+    let span = located_here c.loop-left.invariant _ _ c.locate-w.ensures in
+    let says = leaf-told _ _ _ c.look_in-node.ensures c.if-node-lt6.true _ _ _ c.in-Err.is c.leaf_check.ensures in
+    rw c.located.ensures (reading_stop c.loop-left.invariant c.loop-left-test.true c.word_in-f.ensures.0 span _ (says _))
 
 pub field_check-loop-left-preserved-then-node-lt6 : goal.field_check-loop-left-preserved-then-node-lt6
 field_check-loop-left-preserved-then-node-lt6 t c =
-    let span = located c.loop-left.invariant _ _ c.locate-w.ensures in
-    let says = leaf-told _ _ _ c.look_in-node.ensures c.if-node-lt6.true _ _ _ c.in-Sizes.is c.leaf_check.ensures in
-    rw c.one_more-sum-in-Sizes.ensures
+    let span = located_here c.loop-left.invariant _ _ c.locate-w.ensures in
+    let says = leaf-told _ _ _ c.look_in-node.ensures c.if-node-lt6.true _ _ _ c.in-Ok.is c.leaf_check.ensures in
+    rw c.one_more-sum-in-Ok.ensures
     (reading-next c.loop-left.invariant c.loop-left-test.true c.word_in-f.ensures.0 span _ c.requires.1 (says _))
 
 pub field_check-slice_bounds-item_check-count : goal.field_check-slice_bounds-item_check-count
 field_check-slice_bounds-item_check-count t c =
-    (reading_span c.loop-left.invariant c.loop-left-test.true c.word_in-f.ensures.0 (located c.loop-left.invariant _ _ c.locate-w.ensures)).0
+    (reading_span c.loop-left.invariant c.loop-left-test.true c.word_in-f.ensures.0 (located_here c.loop-left.invariant _ _ c.locate-w.ensures)).0
 
 pub field_check-slice_bounds-item_check-start : goal.field_check-slice_bounds-item_check-start
 field_check-slice_bounds-item_check-start t c =
-    (reading_span c.loop-left.invariant c.loop-left-test.true c.word_in-f.ensures.0 (located c.loop-left.invariant _ _ c.locate-w.ensures)).0
+    (reading_span c.loop-left.invariant c.loop-left-test.true c.word_in-f.ensures.0 (located_here c.loop-left.invariant _ _ c.locate-w.ensures)).0
 
 pub field_check-slice_bounds-item_check-end : goal.field_check-slice_bounds-item_check-end
 field_check-slice_bounds-item_check-end t c =
-    (reading_span c.loop-left.invariant c.loop-left-test.true c.word_in-f.ensures.0 (located c.loop-left.invariant _ _ c.locate-w.ensures)).1
+    (reading_span c.loop-left.invariant c.loop-left-test.true c.word_in-f.ensures.0 (located_here c.loop-left.invariant _ _ c.locate-w.ensures)).1
 
 pub field_check-item_check-requires : goal.field_check-item_check-requires
 field_check-item_check-requires t c =
-    let span = located c.loop-left.invariant _ _ c.locate-w.ensures in
+    let span = located_here c.loop-left.invariant _ _ c.locate-w.ensures in
     let lies = reading_span c.loop-left.invariant c.loop-left-test.true c.word_in-f.ensures.0 span in
     let lower = row_below _ _ _ _ _ _ _ c.loop-left.invariant.row c.loop-left-test.true c.word_in-f.ensures.0 in
     let under = row_under _ _ _ _ _ _ _ c.loop-left.invariant.row c.loop-left-test.true c.word_in-f.ensures.0 in
@@ -131,69 +130,70 @@ field_check-item_check-requires t c =
 
 pub field_check-add-sum-requires : goal.field_check-add-sum-requires
 field_check-add-sum-requires t c =
-    let span = located c.loop-left.invariant _ _ c.locate-w.ensures in
-    let counts = reading-item c.loop-left.invariant c.loop-left-test.true c.word_in-f.ensures.0 span _ c.requires.1 c.in-Accepted.ensures in
+    let span = located_here c.loop-left.invariant _ _ c.locate-w.ensures in
+    let counts = reading-item c.loop-left.invariant c.loop-left-test.true c.word_in-f.ensures.0 span _ c.requires.1 c.in_ok-c.ensures in
     (reading_small c.loop-left.invariant, small-more _ counts)
 
 pub field_check-loop-left-preserved : goal.field_check-loop-left-preserved
 field_check-loop-left-preserved t c =
-    let span = located c.loop-left.invariant _ _ c.locate-w.ensures in
+    let span = located_here c.loop-left.invariant _ _ c.locate-w.ensures in
     rw c.add-sum.ensures
-    (reading-next c.loop-left.invariant c.loop-left-test.true c.word_in-f.ensures.0 span _ c.requires.1 c.in-Accepted.ensures)
+    (reading-next c.loop-left.invariant c.loop-left-test.true c.word_in-f.ensures.0 span _ c.requires.1 c.in_ok-c.ensures)
 
-pub field_check-returns-in-Refused-item_check : goal.field_check-returns-in-Refused-item_check
-field_check-returns-in-Refused-item_check t c =
-    let span = located c.loop-left.invariant _ _ c.locate-w.ensures in
-    reading_stop c.loop-left.invariant c.loop-left-test.true c.word_in-f.ensures.0 span _ _ _ c.in-Refused-item_check.ensures
+pub field_check-returns-in_err-c : goal.field_check-returns-in_err-c
+field_check-returns-in_err-c t c =
+    let span = located_here c.loop-left.invariant _ _ c.locate-w.ensures in
+    rw c.from_residual.ensures.0 (reading_stop c.loop-left.invariant c.loop-left-test.true c.word_in-f.ensures.0 span _ c.in_err-c.ensures)
 
 pub field_check-returns : goal.field_check-returns
 field_check-returns t c = reading-end c.loop-left.invariant c.loop-left-test.false
 
-pub item_check-returns-in-Sizes : goal.item_check-returns-in-Sizes
-item_check-returns-in-Sizes t c =
-    c.leaf.ensures ∙ leaf-told _ _ _ c.look_in-n.ensures c.if-n-lt6.true _ _ _ c.in-Sizes.is c.leaf_check-r.ensures _
+pub item_check-returns-in-Ok : goal.item_check-returns-in-Ok
+item_check-returns-in-Ok t c =
+    c.leaf.ensures ∙ leaf-told _ _ _ c.look_in-n.ensures c.if-n-lt6.true _ _ _ c.in-Ok.is c.leaf_check.ensures _
 
-pub item_check-returns-in-Refused : goal.item_check-returns-in-Refused
-item_check-returns-in-Refused t c = leaf-told _ _ _ c.look_in-n.ensures c.if-n-lt6.true _ _ _ c.in-Refused.is c.leaf_check-r.ensures _
+pub item_check-returns-in-Err : goal.item_check-returns-in-Err
+item_check-returns-in-Err t c =
+    rw c.located.ensures (leaf-told _ _ _ c.look_in-n.ensures c.if-n-lt6.true _ _ _ c.in-Err.is c.leaf_check.ensures c.args.start)
 
 pub item_check-overflow_add-first : goal.item_check-overflow_add-first
 item_check-overflow_add-first t c = omega (arith, (node_legal _ _ _ _ c.look_in-n.ensures c.requires.0).near)
 
-pub item_check-select-c-requires : goal.item_check-select-c-requires
-item_check-select-c-requires t c = omega (arith, (node_legal _ _ _ _ c.look_in-n.ensures c.requires.0).near)
+pub item_check-select-requires : goal.item_check-select-requires
+item_check-select-requires t c = omega (arith, (node_legal _ _ _ _ c.look_in-n.ensures c.requires.0).near)
 
 pub item_check-slice_bounds-item_check-count : goal.item_check-slice_bounds-item_check-count
 item_check-slice_bounds-item_check-count t c =
-    (body_below _ _ _ _ c.look_in-n.ensures c.requires.0 c.if-n-eq7.true _ _ c.in-Body.ensures).1
+    (body_below _ _ _ _ c.look_in-n.ensures c.requires.0 c.if-n-eq7.true _ _ (rw c.in-Ok-Some.field-0-is at c.in-Ok-Some.ensures)).1
 
 pub item_check-slice_bounds-item_check-start : goal.item_check-slice_bounds-item_check-start
 item_check-slice_bounds-item_check-start t c =
-    (body_below _ _ _ _ c.look_in-n.ensures c.requires.0 c.if-n-eq7.true _ _ c.in-Body.ensures).1
+    (body_below _ _ _ _ c.look_in-n.ensures c.requires.0 c.if-n-eq7.true _ _ (rw c.in-Ok-Some.field-0-is at c.in-Ok-Some.ensures)).1
 
 pub item_check-item_check-r-requires : goal.item_check-item_check-r-requires
 item_check-item_check-r-requires t c =
-    let z = body_below _ _ _ _ c.look_in-n.ensures c.requires.0 c.if-n-eq7.true _ _ c.in-Body.ensures in (
+    let z = body_below _ _ _ _ c.look_in-n.ensures c.requires.0 c.if-n-eq7.true _ _ (rw c.in-Ok-Some.field-0-is at c.in-Ok-Some.ensures) in (
       omega (arith, c.decreases, z),
       (under-below _ _ _ _ (omega (arith, z)) c.requires.0, simp (length-take, length-drop) (omega (arith, c.requires.1, z))),
     )
 
 pub item_check-with_selector-requires : goal.item_check-with_selector-requires
 item_check-with_selector-requires t c =
-    let z = body_below _ _ _ _ c.look_in-n.ensures c.requires.0 c.if-n-eq7.true _ _ c.in-Body.ensures in
+    let z = body_below _ _ _ _ c.look_in-n.ensures c.requires.0 c.if-n-eq7.true _ _ (rw c.in-Ok-Some.field-0-is at c.in-Ok-Some.ensures) in
     λ d e. small-more d
     (item-small _ _ _ _ _ d (under-below _ _ _ _ (omega (arith, z)) c.requires.0)
     (simp (length-take, length-drop) (omega (arith, c.requires.1, z))) (sym e ∙ c.item_check-r.ensures))
 
-pub item_check-returns-in-Bare : goal.item_check-returns-in-Bare
-item_check-returns-in-Bare t c =
-    c.leaf-in-Bare.ensures ∙ bare-read _ _ _ _ c.look_in-n.ensures c.requires.0 c.if-n-eq7.true _ _ c.in-Bare.ensures
+pub item_check-returns-in-Ok-None : goal.item_check-returns-in-Ok-None
+item_check-returns-in-Ok-None t c =
+    c.leaf-in-Ok-None.ensures ∙ bare-read _ _ _ _ c.look_in-n.ensures c.requires.0 c.if-n-eq7.true _ _ (rw c.in-Ok-None.field-0-is at c.in-Ok-None.ensures)
 
-pub item_check-returns-in-Body : goal.item_check-returns-in-Body
-item_check-returns-in-Body t c =
+pub item_check-returns-in-Ok-Some : goal.item_check-returns-in-Ok-Some
+item_check-returns-in-Ok-Some t c =
     c.with_selector.ensures
     ∙ ap (and_then (one 1 0)) c.item_check-r.ensures
-    ∙ body-read _ _ _ _ c.look_in-n.ensures c.requires.0 c.if-n-eq7.true _ _ c.in-Body.ensures _
+    ∙ body-read _ _ _ _ c.look_in-n.ensures c.requires.0 c.if-n-eq7.true _ _ (rw c.in-Ok-Some.field-0-is at c.in-Ok-Some.ensures) _
 
-pub item_check-returns-in-Wrong : goal.item_check-returns-in-Wrong
-item_check-returns-in-Wrong t c =
-    wrong-read _ _ _ _ c.look_in-n.ensures c.requires.0 c.if-n-eq7.true _ _ _ c.in-Wrong.ensures
+pub item_check-returns-in-Err-select : goal.item_check-returns-in-Err-select
+item_check-returns-in-Err-select t c =
+    rw c.located-in-Err-select.ensures (wrong-read _ _ _ _ c.look_in-n.ensures c.requires.0 c.if-n-eq7.true _ c.args.start _ c.in-Err-select.ensures)

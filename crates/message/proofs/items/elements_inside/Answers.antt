@@ -14,8 +14,8 @@ overflow_add-n c = omega (arith, (node_legal _ _ _ _ c.requires.2 c.requires.0).
 pub word_in-third-requires : goal.word_in-third-requires
 word_in-third-requires c = third-there _ _ _ _ c.requires.2 c.requires.0 c.requires.3
 
-pub vector_told-told-requires : goal.vector_told-told-requires
-vector_told-told-requires c =
+pub vector_told-requires : goal.vector_told-requires
+vector_told-requires c =
     let p = c.requires in (
       element-row _ _ _ _ p.2 p.0 p.3 _ c.word_in-third.ensures.1,
       element-word _ _ _ _ p.2 p.0 p.3,
@@ -27,20 +27,21 @@ vector_told-told-requires c =
 pub row_inside-requires : goal.row_inside-requires
 row_inside-requires c =
     let p = c.requires in
-    let a = vector-alike _ _ _ _ p.2 p.0 p.3 c.if-n-eq9.true _ c.word_in-third.ensures.0 _ c.word_in-third.ensures.1 c.in-Fine.ensures in
+    let a = vector-alike _ _ _ _ p.2 p.0 p.3 c.if-n-eq9.true _ c.word_in-third.ensures.0 _ c.word_in-third.ensures.1 c.in_ok-vector_told.ensures in
     (under-legal _ _ _ a.row.under _ a.lower, omega (arith, c.word_in-third.ensures.1))
 
-pub returns-in-Fine : goal.returns-in-Fine
-returns-in-Fine c =
+pub returns-then-n-eq9 : goal.returns-then-n-eq9
+returns-then-n-eq9 c =
     let p = c.requires in
-    let fine = c.in-Fine.ensures in
+    let fine = c.in_ok-vector_told.ensures in
     let a = vector-alike _ _ _ _ p.2 p.0 p.3 c.if-n-eq9.true _ c.word_in-third.ensures.0 _ c.word_in-third.ensures.1 fine in
     let on = vector_on _ _ _ _ p.2 p.0 p.3 c.if-n-eq9.true _ c.word_in-third.ensures.0 _ fine in
     rw c.row_inside.ensures (row-found _ _ _ _ _ _ _ _ a (omega arith) on)
 
-pub returns-in-Refused : goal.returns-in-Refused
-returns-in-Refused c =
-    vector_stop _ _ _ _ c.requires.2 c.requires.0 c.requires.3 c.if-n-eq9.true _ c.word_in-third.ensures.0 _ _ c.in-Refused.ensures
+pub returns-in_err-vector_told : goal.returns-in_err-vector_told
+returns-in_err-vector_told c =
+    rw c.from_residual.ensures.0
+    (vector_stop _ _ _ _ c.requires.2 c.requires.0 c.requires.3 c.if-n-eq9.true _ c.word_in-third.ensures.0 _ _ c.in_err-vector_told.ensures)
 
 pub offset_bounds-lens-e : goal.offset_bounds-lens-e
 offset_bounds-lens-e c = omega (arith, element-below _ _ _ _ c.requires.2 c.requires.0 c.requires.3, c.requires.0.few)
@@ -48,20 +49,21 @@ offset_bounds-lens-e c = omega (arith, element-below _ _ _ _ c.requires.2 c.requ
 pub bounds-lens-e : goal.bounds-lens-e
 bounds-lens-e c = omega (arith, element-below _ _ _ _ c.requires.2 c.requires.0 c.requires.3, c.requires.0.few)
 
-pub row_inside-requires-in-Many : goal.row_inside-requires-in-Many
-row_inside-requires-in-Many c =
+pub row_inside-requires-2 : goal.row_inside-requires-2
+row_inside-requires-2 c =
     let p = c.requires in
-    let a = list-alike _ _ _ _ p.2 p.0 p.3 c.if-n-eq9.false _ c.word_in-third.ensures.0 _ refl _ _ c.in-Many.ensures c.word_in-third.ensures.1 in
+    let a = list-alike _ _ _ _ p.2 p.0 p.3 c.if-n-eq9.false _ c.word_in-third.ensures.0 _ refl _ _ c.in_ok-m.ensures c.word_in-third.ensures.1 in
     (under-legal _ _ _ a.row.under _ a.lower, omega (arith, a.row.near))
 
-pub returns-in-Many : goal.returns-in-Many
-returns-in-Many c =
+pub returns : goal.returns
+returns c =
     let p = c.requires in
-    let m = c.in-Many.ensures in
+    let m = c.in_ok-m.ensures in
     let a = list-alike _ _ _ _ p.2 p.0 p.3 c.if-n-eq9.false _ c.word_in-third.ensures.0 _ refl _ _ m c.word_in-third.ensures.1 in
     let on = list_on _ _ _ _ p.2 p.0 p.3 c.if-n-eq9.false _ c.word_in-third.ensures.0 _ refl _ _ m in
-    rw c.row_inside-in-Many.ensures (row-found _ _ _ _ _ _ _ _ a (omega arith) on)
+    rw c.row_inside-2.ensures (row-found _ _ _ _ _ _ _ _ a (omega arith) on)
 
-pub returns-in-Refused-c : goal.returns-in-Refused-c
-returns-in-Refused-c c =
-    list_stop _ _ _ _ c.requires.2 c.requires.0 c.requires.3 c.if-n-eq9.false _ c.word_in-third.ensures.0 _ refl _ _ c.in-Refused-c.ensures
+pub returns-in_err-m : goal.returns-in_err-m
+returns-in_err-m c =
+    rw c.from_residual-in_err-m.ensures.0
+    (list_stop _ _ _ _ c.requires.2 c.requires.0 c.requires.3 c.if-n-eq9.false _ c.word_in-third.ensures.0 _ refl _ _ c.in_err-m.ensures)

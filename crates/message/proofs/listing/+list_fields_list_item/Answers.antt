@@ -76,22 +76,22 @@ list_item-select-c-requires t c = omega (arith, (node_legal _ _ _ _ c.look_in-n.
 
 pub list_item-slice_bounds-list_item-count : goal.list_item-slice_bounds-list_item-count
 list_item-slice_bounds-list_item-count t c =
-    omega (arith, body_below _ _ _ _ c.look_in-n.ensures c.requires.0 c.if-n-eq7.true _ _ c.in-Body.ensures)
+    omega (arith, body_below _ _ _ _ c.look_in-n.ensures c.requires.0 c.if-n-eq7.true _ _ (rw c.in-Ok-Some.field-0-is at c.in-Ok-Some.ensures))
 
 pub list_item-slice_bounds-list_item-start : goal.list_item-slice_bounds-list_item-start
 list_item-slice_bounds-list_item-start t c =
-    omega (arith, body_below _ _ _ _ c.look_in-n.ensures c.requires.0 c.if-n-eq7.true _ _ c.in-Body.ensures)
+    omega (arith, body_below _ _ _ _ c.look_in-n.ensures c.requires.0 c.if-n-eq7.true _ _ (rw c.in-Ok-Some.field-0-is at c.in-Ok-Some.ensures))
 
 pub list_item-list_item-requires : goal.list_item-list_item-requires
 list_item-list_item-requires t c =
-    let z = body_below _ _ _ _ c.look_in-n.ensures c.requires.0 c.if-n-eq7.true _ _ c.in-Body.ensures in (
+    let z = body_below _ _ _ _ c.look_in-n.ensures c.requires.0 c.if-n-eq7.true _ _ (rw c.in-Ok-Some.field-0-is at c.in-Ok-Some.ensures) in (
       omega (arith, c.decreases, z),
       (
         under-below _ _ _ _ (omega (arith, z)) c.requires.0,
         simp (length-take, length-drop) (omega (arith, c.requires.1, z)),
-        body-accepted _ _ _ _ c.look_in-n.ensures c.requires.0 _ _ c.requires.2 c.if-n-eq7.true _ c.in-Body.ensures,
+        body-accepted _ _ _ _ c.look_in-n.ensures c.requires.0 _ _ c.requires.2 c.if-n-eq7.true _ (rw c.in-Ok-Some.field-0-is at c.in-Ok-Some.ensures),
         room_then _ _ _ _ _ _ _ c.requires.3
-            (union-body _ _ _ _ c.look_in-n.ensures c.requires.0 _ _ c.requires.2 c.if-n-eq7.true _ c.in-Body.ensures) c.put_entry.ensures,
+            (union-body _ _ _ _ c.look_in-n.ensures c.requires.0 _ _ c.requires.2 c.if-n-eq7.true _ (rw c.in-Ok-Some.field-0-is at c.in-Ok-Some.ensures)) c.put_entry.ensures,
       ),
     )
 
@@ -99,17 +99,17 @@ pub list_item-series_in-s-requires : goal.list_item-series_in-s-requires
 list_item-series_in-s-requires t c =
     (c.requires.0, omega (arith, c.requires.1), c.look_in-n.ensures, c.if-n-eq7.false, accepted-start _ _ _ 0 c.requires.2)
 
-pub list_item-returns-in-Bare : goal.list_item-returns-in-Bare
-list_item-returns-in-Bare t c =
-    rw (union-bare _ _ _ _ c.look_in-n.ensures c.requires.0 _ _ c.requires.2 c.if-n-eq7.true c.in-Bare.ensures) c.put_entry.ensures
+pub list_item-returns-in-Ok-None : goal.list_item-returns-in-Ok-None
+list_item-returns-in-Ok-None t c =
+    rw (union-bare _ _ _ _ c.look_in-n.ensures c.requires.0 _ _ c.requires.2 c.if-n-eq7.true (rw c.in-Ok-None.field-0-is at c.in-Ok-None.ensures)) c.put_entry.ensures
 
-pub list_item-returns-in-Body : goal.list_item-returns-in-Body
-list_item-returns-in-Body t c =
+pub list_item-returns-in-Ok-Some : goal.list_item-returns-in-Ok-Some
+list_item-returns-in-Ok-Some t c =
     stored_then _ _ _ _ _ _ _ _ _ c.put_entry.ensures c.list_item.ensures
-    (union-body _ _ _ _ c.look_in-n.ensures c.requires.0 _ _ c.requires.2 c.if-n-eq7.true _ c.in-Body.ensures)
+    (union-body _ _ _ _ c.look_in-n.ensures c.requires.0 _ _ c.requires.2 c.if-n-eq7.true _ (rw c.in-Ok-Some.field-0-is at c.in-Ok-Some.ensures))
 
-pub list_item-returns-in-Wrong : goal.list_item-returns-in-Wrong
-list_item-returns-in-Wrong t c = union-never _ _ _ _ c.look_in-n.ensures c.requires.0 _ _ c.requires.2 c.if-n-eq7.true _ c.in-Wrong.ensures
+pub list_item-returns-in-Err : goal.list_item-returns-in-Err
+list_item-returns-in-Err t c = union-never _ _ _ _ c.look_in-n.ensures c.requires.0 _ _ c.requires.2 c.if-n-eq7.true _ c.in-Err.ensures
 
 pub list_item-returns-else-n-eq7 : goal.list_item-returns-else-n-eq7
 list_item-returns-else-n-eq7 t c =

@@ -105,40 +105,40 @@ unfold_item-put_selector-inside-requires t c = (
 )
 
 pub unfold_item-slice_bounds-unfold_item-count : goal.unfold_item-slice_bounds-unfold_item-count
-unfold_item-slice_bounds-unfold_item-count t c = omega (arith, body_below _ _ _ _ c.look_in-n.ensures c.requires.0 c.if-n-eq7.true _ _ c.in-Body.ensures)
+unfold_item-slice_bounds-unfold_item-count t c = omega (arith, body_below _ _ _ _ c.look_in-n.ensures c.requires.0 c.if-n-eq7.true _ _ (rw c.in-Ok-Some.field-0-is at c.in-Ok-Some.ensures))
 
 pub unfold_item-slice_bounds-unfold_item-start : goal.unfold_item-slice_bounds-unfold_item-start
-unfold_item-slice_bounds-unfold_item-start t c = omega (arith, body_below _ _ _ _ c.look_in-n.ensures c.requires.0 c.if-n-eq7.true _ _ c.in-Body.ensures)
+unfold_item-slice_bounds-unfold_item-start t c = omega (arith, body_below _ _ _ _ c.look_in-n.ensures c.requires.0 c.if-n-eq7.true _ _ (rw c.in-Ok-Some.field-0-is at c.in-Ok-Some.ensures))
 
 pub unfold_item-unfold_item-requires : goal.unfold_item-unfold_item-requires
 unfold_item-unfold_item-requires t c =
-    let z = body_below _ _ _ _ c.look_in-n.ensures c.requires.0 c.if-n-eq7.true _ _ c.in-Body.ensures in (
+    let z = body_below _ _ _ _ c.look_in-n.ensures c.requires.0 c.if-n-eq7.true _ _ (rw c.in-Ok-Some.field-0-is at c.in-Ok-Some.ensures) in (
       omega (arith, c.decreases, z),
       (
         under-below _ _ _ _ (omega (arith, z)) c.requires.0,
         simp (length-take, length-drop) (omega (arith, c.requires.1, z)),
-        body_accepts _ _ _ _ c.look_in-n.ensures c.requires.0 _ c.requires.2 c.if-n-eq7.true _ c.in-Body.ensures,
+        body_accepts _ _ _ _ c.look_in-n.ensures c.requires.0 _ c.requires.2 c.if-n-eq7.true _ (rw c.in-Ok-Some.field-0-is at c.in-Ok-Some.ensures),
         rooms_then _ _ _ _ _ _ _ _ _ _ _ _ c.requires.3
-            (body-words _ _ _ _ c.look_in-n.ensures c.requires.0 _ c.requires.2 c.if-n-eq7.true _ c.in-Body.ensures)
-            (body_bytes _ _ _ _ c.look_in-n.ensures c.requires.0 _ c.requires.2 c.if-n-eq7.true _ c.in-Body.ensures)
+            (body-words _ _ _ _ c.look_in-n.ensures c.requires.0 _ c.requires.2 c.if-n-eq7.true _ (rw c.in-Ok-Some.field-0-is at c.in-Ok-Some.ensures))
+            (body_bytes _ _ _ _ c.look_in-n.ensures c.requires.0 _ c.requires.2 c.if-n-eq7.true _ (rw c.in-Ok-Some.field-0-is at c.in-Ok-Some.ensures))
             (words-filled _ _ _ _ _ _ c.put_selector-inside.ensures.0 c.put_selector-inside.ensures.1),
       ),
     )
 
-pub unfold_item-returns-in-Bare : goal.unfold_item-returns-in-Bare
-unfold_item-returns-in-Bare t c =
-    bare-filled _ _ _ _ c.look_in-n.ensures c.requires.0 _ c.requires.2 c.if-n-eq7.true c.in-Bare.ensures _ _ _ _ _ _
+pub unfold_item-returns-in-Ok-None : goal.unfold_item-returns-in-Ok-None
+unfold_item-returns-in-Ok-None t c =
+    bare-filled _ _ _ _ c.look_in-n.ensures c.requires.0 _ c.requires.2 c.if-n-eq7.true (rw c.in-Ok-None.field-0-is at c.in-Ok-None.ensures) _ _ _ _ _ _
     (words-filled _ _ _ _ _ _ c.put_selector.ensures.0 c.put_selector.ensures.1)
 
-pub unfold_item-returns-in-Body : goal.unfold_item-returns-in-Body
-unfold_item-returns-in-Body t c =
+pub unfold_item-returns-in-Ok-Some : goal.unfold_item-returns-in-Ok-Some
+unfold_item-returns-in-Ok-Some t c =
     filled_then _ _ _ _ _ _ _ _ _ _ _ _ _ _ _
     (words-filled _ _ _ _ _ _ c.put_selector-inside.ensures.0 c.put_selector-inside.ensures.1) c.unfold_item.ensures
-    (body-words _ _ _ _ c.look_in-n.ensures c.requires.0 _ c.requires.2 c.if-n-eq7.true _ c.in-Body.ensures)
-    (body_bytes _ _ _ _ c.look_in-n.ensures c.requires.0 _ c.requires.2 c.if-n-eq7.true _ c.in-Body.ensures)
+    (body-words _ _ _ _ c.look_in-n.ensures c.requires.0 _ c.requires.2 c.if-n-eq7.true _ (rw c.in-Ok-Some.field-0-is at c.in-Ok-Some.ensures))
+    (body_bytes _ _ _ _ c.look_in-n.ensures c.requires.0 _ c.requires.2 c.if-n-eq7.true _ (rw c.in-Ok-Some.field-0-is at c.in-Ok-Some.ensures))
 
-pub unfold_item-returns-in-Wrong : goal.unfold_item-returns-in-Wrong
-unfold_item-returns-in-Wrong t c = never _ _ _ _ c.look_in-n.ensures c.requires.0 _ c.requires.2 c.if-n-eq7.true _ c.in-Wrong.ensures
+pub unfold_item-returns-in-Err : goal.unfold_item-returns-in-Err
+unfold_item-returns-in-Err t c = never _ _ _ _ c.look_in-n.ensures c.requires.0 _ c.requires.2 c.if-n-eq7.true _ c.in-Err.ensures
 
 pub unfold_item-returns-else-n-eq7 : goal.unfold_item-returns-else-n-eq7
 unfold_item-returns-else-n-eq7 t c = filling_last c.begin-s.ensures _ _ _ c.unfold_fields.ensures

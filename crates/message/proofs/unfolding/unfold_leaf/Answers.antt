@@ -12,15 +12,15 @@ returns-then-n-eq3 c = free_filled _ _ _ _ _ _ c.if-n-eq3.true _ _ _ c.unfold_fr
 
 pub unfold_bits-requires : goal.unfold_bits-requires
 unfold_bits-requires c =
-    let q = marked-at c.args.b.now c.args.n.second _ (bytes-known _ c.type_inv.b) (sym c.in-Bits.ensures) in (
+    let q = marked-at c.args.b.now c.args.n.second _ (bytes-known _ c.type_inv.b) (sym c.in-Ok.ensures) in (
       omega (arith, q.1, c.requires.1),
       q.0,
-      bits-rooms _ _ _ _ _ _ (variable_bits _ _ c.requires.0 c.if-n-eq3.false) _ c.in-Bits.ensures c.requires.4,
+      bits-rooms _ _ _ _ _ _ (variable_bits _ _ c.requires.0 c.if-n-eq3.false) _ c.in-Ok.ensures c.requires.4,
     )
 
-pub returns-in-Bits : goal.returns-in-Bits
-returns-in-Bits c =
-    bits-filled _ _ _ _ _ _ (variable_bits _ _ c.requires.0 c.if-n-eq3.false) _ c.in-Bits.ensures _ _ _ c.unfold_bits.ensures
+pub returns-in-Ok : goal.returns-in-Ok
+returns-in-Ok c =
+    bits-filled _ _ _ _ _ _ (variable_bits _ _ c.requires.0 c.if-n-eq3.false) _ c.in-Ok.ensures _ _ _ c.unfold_bits.ensures
 
-pub returns-in-Refused : goal.returns-in-Refused
-returns-in-Refused c = bits-never _ _ _ (variable_bits _ _ c.requires.0 c.if-n-eq3.false) _ c.in-Refused.ensures c.requires.3
+pub returns-in-Err : goal.returns-in-Err
+returns-in-Err c = bits-never _ _ _ (variable_bits _ _ c.requires.0 c.if-n-eq3.false) _ c.in-Err.ensures c.requires.3
