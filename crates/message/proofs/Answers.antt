@@ -9,7 +9,7 @@ use Rattle.standard.specs.declared.Refusal.{Refusal}
 use Rattle.message.specs.Read.{raw_bytes_lem, one, plus, and_then, built, of_vector_lem, of_list, of_elements}
 use Rattle.message.specs.Steps.{IsAccepted}
 use Rattle.message.specs.declared.Counts.{Counts}
-use Rattle.std.specs.Prelude.{⊤}
+use Rattle.std.specs.Prelude.{⊤, IsErrAnd}
 use Rattle.std.specs.declared.result.Result.{Result}
 use Rattle.std.specs.declared.result.Result.TheVariants.{Ok, Err}
 use Rattle.message.specs.declared.RefusedAt.{RefusedAt}
@@ -27,6 +27,11 @@ not_accepted r c e = let z : ◌≡◌ {A = ℕ} 0 1 = cc in absurd (omega arith
 
 pub accepted-same : (c d : Counts) → ◌≡◌ {A = Result Counts RefusedAt} (Ok c) (Ok d) → c ≡ d
 accepted-same c d e = cc
+
+-- What `?` hands on is the refusal that it met.
+pub handed : {T E : Type 0} (r : Result T E) (e : E) → IsErrAnd r (λ y. y ≡ e) → r ≡ Err e
+handed (Ok x) e h = absurd h
+handed (Err y) e h = ap Err h
 
 -- A test: which of its sides gives what is asked, where the other does not.
 pub pick-left : {A : Type 0} (q : Bool) (x y z : A) → (y ≡ z → ⊥) → pick q x y ≡ z → (q ≡ true) × (x ≡ z)

@@ -32,7 +32,6 @@ use Rattle.std.specs.declared.result.Result.{Result}
 use Rattle.std.specs.declared.result.Result.TheVariants.{Ok, Err}
 use Rattle.message.specs.declared.RefusedAt.{RefusedAt}
 use Rattle.message.specs.declared.Counts.{Counts}
-use Rattle.message.specs.Read.{located}
 
 not_fixed : {A : Type 0} (k : ℕ) → Variable ≡ Fixed k → A
 not_fixed k e = let z : ◌≡◌ {A = ℕ} 0 1 = cc in absurd (omega arith)

@@ -8,7 +8,6 @@ use lib.ListN.{length}
 use lib.Seq.{sets}
 use lib.Dec.{ltb}
 use Rattle.standard.specs.Types.{Ty}
-use Rattle.standard.specs.declared.Refusal.{Refusal}
 use Rattle.standard.specs.declared.Refusal.TheVariants.{NoRoom}
 use Rattle.standard.proofs.Kept.{pick-kept}
 use Rattle.layout.specs.Table.{table_of}

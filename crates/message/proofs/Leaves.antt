@@ -44,7 +44,6 @@ use Rattle.message.proofs.Tiles.{message-tiled}
 use Rattle.std.specs.declared.result.Result.{Result}
 use Rattle.std.specs.declared.result.Result.TheVariants.{Err}
 use Rattle.message.specs.declared.RefusedAt.{RefusedAt}
-use Rattle.message.specs.Read.{located}
 
 -- Leaves of two rows.
 leaves_append : (l : List ℕ) (xs ys : List Item) → leaves_of l (xs ++ ys) ≡ leaves_of l xs ++ leaves_of l ys

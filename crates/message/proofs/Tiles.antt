@@ -19,7 +19,6 @@ use Rattle.message.proofs.Theorem.{message_iff, message-one}
 use Rattle.std.specs.declared.result.Result.{Result}
 use Rattle.std.specs.declared.result.Result.TheVariants.{Err}
 use Rattle.standard.specs.declared.Refusal.{Refusal}
-use Rattle.standard.specs.declared.Refusal.TheVariants.{BadLayout}
 
 -- What is said of a message m that is accepted under the layout l: the layout is legal and has so many types, the message is below 2^32 bytes, it is the
 -- encoding of one value within bounds and of no other, and that value's pieces tile it.

@@ -19,7 +19,6 @@ use Rattle.standard.specs.Bits.{packs, pack, marked}
 use Rattle.standard.specs.Types.{Ty, Tys, Opts, number, boolean, fixed_bytes, free_bytes, bit_vector, bit_list, container, union, list, vector, end, field, over, bare, body, head, heads, Rising, LegalTy, LegalAll, LegalOptions}
 use Rattle.standard.specs.Parts.{join, span_of, part, split}
 use Rattle.standard.specs.Serialize.{Val, Vals, Option, Ok, OkAll, OkOption, serialize, parts}
-use Rattle.standard.specs.declared.Refusal.{Refusal}
 use Rattle.standard.specs.declared.Refusal.TheVariants.{NoRoom}
 use Rattle.standard.proofs.Bits.{bits_of, marked-injective, bytes-marked}
 use Rattle.standard.proofs.Join.{Small, split-join, small-join}

@@ -19,8 +19,8 @@ use bitfield::body::{bitlist_body, bitvector_body};
 use decode::split_union_bytes;
 use decode::union_selector::UnionSelector;
 use layout::{NO_BODY, Node};
-use standard::words::word_at;
 use standard::Refusal;
+use standard::words::word_at;
 
 // What is wrong with the item of type t that starts at start.
 fn located(refusal: Refusal, t: usize, start: usize) -> RefusedAt
@@ -64,7 +64,10 @@ fn exact_check(w: usize, b: &[u8]) -> Result<Sizes, Refusal>
 {
     let len = b.len();
     if len == w {
-        Ok(Sizes { words: 0, bytes: len })
+        Ok(Sizes {
+            words: 0,
+            bytes: len,
+        })
     } else {
         Err(Refusal::InvalidByteLength(len, w))
     }
@@ -94,7 +97,10 @@ fn free_check(limit: usize, b: &[u8]) -> Result<Sizes, Refusal>
 {
     let len = b.len();
     if len <= limit {
-        Ok(Sizes { words: 1, bytes: len })
+        Ok(Sizes {
+            words: 1,
+            bytes: len,
+        })
     } else {
         Err(Refusal::OverLimit(len, limit))
     }
@@ -106,7 +112,10 @@ fn vector_check(n: usize, b: &[u8]) -> Result<Sizes, Refusal>
     ensures { (t s : ℕ) → placed result t s ≡ read_item (bit_vector t n) b.now s }
 {
     bitvector_body(b, n)?;
-    Ok(Sizes { words: 0, bytes: b.len() })
+    Ok(Sizes {
+        words: 0,
+        bytes: b.len(),
+    })
 }
 
 // A bit list of at most limit bits.
@@ -115,7 +124,10 @@ fn list_check(limit: usize, b: &[u8]) -> Result<Sizes, Refusal>
     ensures { (t s : ℕ) → placed result t s ≡ read_item (bit_list t limit) b.now s }
 {
     let k = bitlist_body(b, limit)?;
-    Ok(Sizes { words: 1, bytes: raw_bytes(k) })
+    Ok(Sizes {
+        words: 1,
+        bytes: raw_bytes(k),
+    })
 }
 
 // An item of a type that has no lower types.
@@ -180,12 +192,7 @@ fn option_of(
 
 // What the selector of a union chooses among the n options that the words from a on name: the type of a body, or none.
 #[tactic(auto, unfolding(crate::specs::Steps::choose))]
-pub(crate) fn select(
-    layout: &[u8],
-    a: usize,
-    n: usize,
-    b: &[u8],
-) -> Result<Option<usize>, Refusal>
+pub(crate) fn select(layout: &[u8], a: usize, n: usize, b: &[u8]) -> Result<Option<usize>, Refusal>
     requires { a < 2 ^ 34 }
     ensures { result ≡ choose layout.now a n b.now }
 {

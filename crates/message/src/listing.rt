@@ -44,8 +44,7 @@ pub(crate) fn list_item(
     let next = at + 12;
     let n = look_in(layout, t);
     if n.kind == 7 {
-        let c = select(layout, n.at + 2, n.second, b);
-        match c {
+        match select(layout, n.at + 2, n.second, b) {
             Ok(None) => next,
             Ok(Some(o)) => {
                 let inside = start + 1;

@@ -229,8 +229,7 @@ pub(crate) fn unfold_item(
 {
     let n = look_in(layout, t);
     if n.kind == 7 {
-        let c = select(layout, n.at + 2, n.second, b);
-        match c {
+        match select(layout, n.at + 2, n.second, b) {
             Ok(None) => put_selector(contents, at, b),
             Ok(Some(o)) => {
                 let inside = put_selector(contents, at, b);

@@ -8,6 +8,7 @@ use Rattle.layout.specs.Tree.{tree_of}
 use Rattle.message.specs.Read.{one, and_then}
 use Rattle.message.specs.Steps.{heads_of}
 use Rattle.message.specs.declared.Counts.{Counts}
+use Rattle.message.proofs.Answers.{handed}
 use Rattle.message.proofs.Rows.{node_legal, row-there, row_below, row-few, row_under, row-legal, under-below}
 use Rattle.message.proofs.Bodies.{Reading, reading-new, reading_small, reading_span, reading-item, reading-next, reading_stop, reading-end}
 use Rattle.message.proofs.Bodies.{plain_fits, plain-next, free_next, within-says}
@@ -143,7 +144,7 @@ field_check-loop-left-preserved t c =
 pub field_check-returns-in_err-c : goal.field_check-returns-in_err-c
 field_check-returns-in_err-c t c =
     let span = located_here c.loop-left.invariant _ _ c.locate-w.ensures in
-    rw c.from_residual.ensures.0 (reading_stop c.loop-left.invariant c.loop-left-test.true c.word_in-f.ensures.0 span _ c.in_err-c.ensures)
+    rw (handed _ _ c.from_residual.ensures.1) (reading_stop c.loop-left.invariant c.loop-left-test.true c.word_in-f.ensures.0 span _ c.in_err-c.ensures)
 
 pub field_check-returns : goal.field_check-returns
 field_check-returns t c = reading-end c.loop-left.invariant c.loop-left-test.false

@@ -1,5 +1,6 @@
 -- A vector, then a list: what is found of the elements is found of the item (`row-found`). Assumes nothing.
 use Rattle.std.proofs.Common.{arith, refl}
+use Rattle.message.proofs.Answers.{handed}
 use Rattle.message.proofs.Rows.{node_legal, under-legal}
 use Rattle.message.proofs.Repeats.{element-below, element-word, element-row, third-there, vector-narrow}
 use Rattle.message.proofs.Alike.{row-found, vector-alike, vector_on, vector_stop, list-alike, list_on, list_stop}
@@ -40,7 +41,7 @@ returns-then-n-eq9 c =
 
 pub returns-in_err-vector_told : goal.returns-in_err-vector_told
 returns-in_err-vector_told c =
-    rw c.from_residual.ensures.0
+    rw (handed _ _ c.from_residual.ensures.1)
     (vector_stop _ _ _ _ c.requires.2 c.requires.0 c.requires.3 c.if-n-eq9.true _ c.word_in-third.ensures.0 _ _ c.in_err-vector_told.ensures)
 
 pub offset_bounds-lens-e : goal.offset_bounds-lens-e
@@ -65,5 +66,5 @@ returns c =
 
 pub returns-in_err-m : goal.returns-in_err-m
 returns-in_err-m c =
-    rw c.from_residual-in_err-m.ensures.0
+    rw (handed _ _ c.from_residual-in_err-m.ensures.1)
     (list_stop _ _ _ _ c.requires.2 c.requires.0 c.requires.3 c.if-n-eq9.false _ c.word_in-third.ensures.0 _ refl _ _ c.in_err-m.ensures)

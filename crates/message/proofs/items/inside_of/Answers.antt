@@ -1,6 +1,7 @@
 -- By the kind: a container's fields are read once they are registered. Assumes nothing.
 use Rattle.std.proofs.Common.{arith, sym}
 use Rattle.decode.proofs.Register.{layout-ranges}
+use Rattle.message.proofs.Answers.{handed}
 use Rattle.message.proofs.Rows.{node_legal, container_tree}
 use Rattle.message.proofs.Bodies.{container-row, container-on, container_stop}
 use Rattle.message.proofs.items.inside_of.Goals as goal
@@ -26,4 +27,4 @@ returns c =
 pub returns-in_err-container_told : goal.returns-in_err-container_told
 returns-in_err-container_told c =
     let p = c.requires in
-    rw c.from_residual.ensures.0 (λ s. container_stop _ _ _ _ p.2 p.0 c.if-n-ne6.false _ s _ c.in_err-container_told.ensures)
+    rw (handed _ _ c.from_residual.ensures.1) (λ s. container_stop _ _ _ _ p.2 p.0 c.if-n-ne6.false _ s _ c.in_err-container_told.ensures)

@@ -71,8 +71,8 @@ list_item-put_entry-requires t c = (room-long _ _ _ _ _ c.requires.3, c.requires
 pub list_item-overflow_add-n : goal.list_item-overflow_add-n
 list_item-overflow_add-n t c = omega (arith, (node_legal _ _ _ _ c.look_in-n.ensures c.requires.0).near)
 
-pub list_item-select-c-requires : goal.list_item-select-c-requires
-list_item-select-c-requires t c = omega (arith, (node_legal _ _ _ _ c.look_in-n.ensures c.requires.0).near)
+pub list_item-select-requires : goal.list_item-select-requires
+list_item-select-requires t c = omega (arith, (node_legal _ _ _ _ c.look_in-n.ensures c.requires.0).near)
 
 pub list_item-slice_bounds-list_item-count : goal.list_item-slice_bounds-list_item-count
 list_item-slice_bounds-list_item-count t c =

@@ -89,8 +89,8 @@ unfold_fields-returns t c = filling_end c.loop-left.invariant c.loop-left-test.f
 pub unfold_item-overflow_add-n : goal.unfold_item-overflow_add-n
 unfold_item-overflow_add-n t c = omega (arith, (node_legal _ _ _ _ c.look_in-n.ensures c.requires.0).near)
 
-pub unfold_item-select-c-requires : goal.unfold_item-select-c-requires
-unfold_item-select-c-requires t c = omega (arith, (node_legal _ _ _ _ c.look_in-n.ensures c.requires.0).near)
+pub unfold_item-select-requires : goal.unfold_item-select-requires
+unfold_item-select-requires t c = omega (arith, (node_legal _ _ _ _ c.look_in-n.ensures c.requires.0).near)
 
 pub unfold_item-put_selector-requires : goal.unfold_item-put_selector-requires
 unfold_item-put_selector-requires t c = (
