@@ -1,32 +1,43 @@
 -- Laws on numbers of eight bytes and on parts. Assumes nothing.
-use mathlib.Core.Path.{◌≡◌, refl, sym, ◌∙◌}
+use mathlib.Core.Path.{◌≡◌, refl, sym, ap, ◌∙◌}
 use mathlib.Core.Bool.{Bool, true, false}
 use mathlib.Core.List.{List, [], ◌∷◌}
 use Prim.Native.Nat.{ℕ, zero, suc, ◌+◌, ◌-◌, ◌*◌, ◌≤◌, ◌<◌}
 use native.Mathlib.Nat.{zero-add, suc-add}
 use native.Mathlib.Omega.{arith}
 use lib.Dec.{leb, ltb}
-use lib.ListN.{length, take, drop}
+use lib.ListN.{length, take, drop, get_or}
 use lib.Seq.{drop-drop}
 use borrow.Author.Tests.{leb-true, ltb-false, le-leb, lt-leb}
-use Rattle.standard.specs.Bytes.{num, num_at, four, word_at}
+use Rattle.standard.specs.Bytes.{num, four, word_at}
 use Rattle.standard.specs.Choice.{pick}
 use Rattle.cases.specs.Records.{end_of, go_on_lem, row_end, record_end_lem, next_of, start_of, body_of, part_of, reach}
+use Rattle.std.specs.Int.{w64, from_le_bytes}
+use Rattle.std.specs.Simd.{first_chunks}
+use Rattle.std.specs.Bool.{then_some}
+use Rattle.std.specs.Option.{unwrap_or}
 use Rattle.std.specs.declared.option.Option.{Option}
 use Rattle.std.specs.declared.option.Option.TheVariants.{Some, None}
 
--- A number of eight bytes is two words.
-eight-first : (b : List ℕ) → num (take 8 b) ≡ num (take 4 b) + 4294967296 * num (take 4 (drop 4 b))
+-- A number of eight bytes, by the library's sum
+pub eight-sum : (b : List ℕ) → from_le_bytes w64 b ≡ num (take 8 b)
 unfolding num
-eight-first [] = refl
-eight-first (a ∷ []) = omega arith
-eight-first (a ∷ b ∷ []) = omega arith
-eight-first (a ∷ b ∷ c ∷ []) = omega arith
-eight-first (a ∷ b ∷ c ∷ d ∷ xs) = omega arith
+eight-sum [] = refl
+eight-sum (a ∷ []) = omega arith
+eight-sum (a ∷ b ∷ []) = omega arith
+eight-sum (a ∷ b ∷ c ∷ []) = omega arith
+eight-sum (a ∷ b ∷ c ∷ d ∷ []) = omega arith
+eight-sum (a ∷ b ∷ c ∷ d ∷ e ∷ []) = omega arith
+eight-sum (a ∷ b ∷ c ∷ d ∷ e ∷ f ∷ []) = omega arith
+eight-sum (a ∷ b ∷ c ∷ d ∷ e ∷ f ∷ g ∷ []) = omega arith
+eight-sum (a ∷ b ∷ c ∷ d ∷ e ∷ f ∷ g ∷ h ∷ xs) = omega arith
 
-pub eight-words : (b : List ℕ) (p : ℕ) → num_at 8 b p ≡ four b p + 4294967296 * four b (p + 4)
-unfolding num_at
-eight-words b p = eight-first (drop p b) ∙ simp drop-drop
+pub chunk-at : (k i : ℕ) (xs d : List ℕ) → i < k → get_or (first_chunks 8 k xs) i d ≡ take 8 (drop (8 * i) xs)
+chunk-at zero i xs d h = absurd (omega arith)
+chunk-at (suc k) zero xs d h = refl
+chunk-at (suc k) (suc i) xs d h =
+    let e : 8 * suc i ≡ 8 + 8 * i = omega arith in
+    rw e (chunk-at k i (drop 8 xs) d (omega arith) ∙ ap (take 8) (drop-drop (8 * i) 8 xs))
 
 pub end_whole : (b : List ℕ) (p : ℕ) → p + 4 + four b p ≤ length b → Some (p + 4 + four b p) ≡ end_of b p
 unfolding end_of
@@ -118,3 +129,11 @@ record-step false b n e h k = row_within b n 8 e (h refl) k
 pub record-within : (b : List ℕ) (e : ℕ) → Some e ≡ record_end_lem b → (8 ≤ e) × (e ≤ length b)
 unfolding record_end_lem
 record-within b e h = record-step (ltb (length b) 8) b (word_at b 1) e (ltb-false (length b) 8) h
+
+pub then-pick : (c : Bool) (n : ℕ) → then_some c n ≡ pick c (Some n) None
+then-pick true n = refl
+then-pick false n = refl
+
+pub reach-or : (x : Option ℕ) (n : ℕ) → unwrap_or x n ≡ reach x n
+reach-or (Some e) n = refl
+reach-or None n = refl

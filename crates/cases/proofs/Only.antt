@@ -21,8 +21,8 @@ use Rattle.cases.proofs.refusal_matches.Kinds as refusal_matches_kinds
 use Rattle.cases.proofs.refusal_matches.Reads as refusal_matches_reads
 use Rattle.cases.proofs.is_formed.Kinds as is_formed_kinds
 use Rattle.cases.proofs.is_formed.Reads as is_formed_reads
-use Rattle.cases.proofs.told.Kinds as told_kinds
-use Rattle.cases.proofs.told.Reads as told_reads
+use Rattle.cases.proofs.VerdictFromBool.from.Kinds as told_kinds
+use Rattle.cases.proofs.VerdictFromBool.from.Reads as told_reads
 use Rattle.cases.proofs.part.Kinds as part_kinds
 use Rattle.cases.proofs.part.Reads as part_reads
 

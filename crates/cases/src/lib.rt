@@ -4,13 +4,12 @@
 // many bytes. A word is four bytes and a number eight, little-endian.
 #![tactic(auto)]
 
-ghost use Rattle.std.specs.Prelude.{◌≡◌, ◌+◌, ◌≤◌, length};
-ghost use Rattle.standard.specs.Bytes.{num_at};
+ghost use Rattle.std.specs.Prelude.{◌≡◌, length};
 ghost use Rattle.cases.specs.Records.{end_of, next_of, body_of, part_of, record_end_lem, number_at, number_of};
 ghost use Rattle.cases.specs.Answers.{agrees, is_number, head_matches_lem, refusal_matches_lem, is_formed_lem, told_of};
 
 use standard::words::{four_at, word_at};
-use standard::Refusal;
+use standard::{Numbers, Refusal};
 
 // What a head's field says where it is not compared: the greatest number
 pub const ANY: usize = 18446744073709551615;
@@ -18,38 +17,32 @@ pub const ANY: usize = 18446744073709551615;
 pub const HEAD: usize = 40;
 
 // How a record came out.
-#[derive(Clone, Copy)]
+#[derive(Clone, Copy, Debug, PartialEq, Eq)]
 pub enum Verdict {
     Same,
     Differs,
     Malformed,
 }
 
-// The number in the eight bytes from p on.
-fn eight_at(b: &[u8], p: usize) -> usize
-    requires { p + 8 ≤ length b.now }
-    ensures { result ≡ num_at 8 b.now p }
-{
-    four_at(b, p) + 4294967296 * four_at(b, p + 4)
+// Whether the answer is the expected one.
+impl From<bool> for Verdict {
+    ghost from_gives = { λ same r. r ≡ told_of same };
+
+    fn from(same: bool) -> Verdict {
+        if same {
+            Verdict::Same
+        } else {
+            Verdict::Differs
+        }
+    }
 }
 
 // Where the part that begins at p ends.
 pub fn part_end(b: &[u8], p: usize) -> Option<usize>
     ensures { result ≡ end_of b.now p }
 {
-    let len = b.len();
-    if len < 4 {
-        return None;
-    }
-    if len - 4 < p {
-        return None;
-    }
-    let size = four_at(b, p);
-    if len - 4 - p < size {
-        None
-    } else {
-        Some(p + 4 + size)
-    }
+    let end = p.checked_add(4)?.checked_add(four_at(b, p))?;
+    (end <= b.len()).then_some(end)
 }
 
 // How many bytes the record takes that begins the bytes.
@@ -59,15 +52,9 @@ pub fn record_end(b: &[u8]) -> Option<usize>
     if b.len() < 8 {
         return None;
     }
-    let mut left = word_at(b, 1);
     let mut at = 8;
-    while left > 0 {
-        let end = part_end(b, at);
-        match end {
-            Some(e) => at = e,
-            None => return None,
-        }
-        left -= 1;
+    for _ in 0..word_at(b, 1) {
+        at = part_end(b, at)?;
     }
     Some(at)
 }
@@ -76,24 +63,16 @@ pub fn record_end(b: &[u8]) -> Option<usize>
 fn next_start(b: &[u8], p: usize) -> usize
     ensures { result ≡ next_of b.now p }
 {
-    let end = part_end(b, p);
-    match end {
-        Some(e) => e,
-        None => b.len(),
-    }
+    part_end(b, p).unwrap_or(b.len())
 }
 
 // The bytes of the part that begins at p; none where it is not all there.
 fn body_at(b: &[u8], p: usize) -> &[u8]
     ensures { result.now ≡ body_of b.now p }
 {
-    let end = part_end(b, p);
-    match end {
-        Some(e) => {
-            let from = p + 4;
-            &b[from..e]
-        }
-        None => &b[..0],
+    match part_end(b, p) {
+        Some(end) => &b[p + 4..end],
+        None => &[],
     }
 }
 
@@ -102,12 +81,12 @@ fn body_at(b: &[u8], p: usize) -> &[u8]
 pub fn part(b: &[u8], i: usize) -> &[u8]
     ensures { result.now ≡ part_of b.now i }
 {
-    let len = b.len();
     let mut at = 8;
-    let mut k = 0;
-    while k < i && at < len {
+    for _ in 0..i {
+        if at >= b.len() {
+            break;
+        }
         at = next_start(b, at);
-        k += 1;
     }
     body_at(b, at)
 }
@@ -116,10 +95,10 @@ pub fn part(b: &[u8], i: usize) -> &[u8]
 pub fn number_at(row: &[u8], i: usize) -> usize
     ensures { result ≡ number_at row.now i }
 {
-    if i < row.len() / 8 {
-        eight_at(row, 8 * i)
-    } else {
-        0
+    let (numbers, _) = row.as_chunks::<8>();
+    match numbers.get(i) {
+        Some(bytes) => usize::from_le_bytes(*bytes),
+        None => 0,
     }
 }
 
@@ -127,85 +106,47 @@ pub fn number_at(row: &[u8], i: usize) -> usize
 pub fn number(part: &[u8]) -> Option<usize>
     ensures { result ≡ number_of part.now }
 {
-    if part.len() == 8 {
-        Some(eight_at(part, 0))
-    } else {
-        None
-    }
+    let bytes = part.as_array::<8>()?;
+    Some(usize::from_le_bytes(*bytes))
 }
 
 // Whether the part says this number.
 pub fn is_number(part: &[u8], x: usize) -> bool
     ensures { result ≡ is_number part.now x }
 {
-    if part.len() == 8 {
-        eight_at(part, 0) == x
-    } else {
-        false
-    }
+    number(part) == Some(x)
 }
 
 // Whether an expected number stands for this one.
 fn does_agree(expected: usize, x: usize) -> bool
     ensures { result ≡ agrees expected x }
 {
-    if expected == ANY { true } else { expected == x }
+    expected == ANY || expected == x
 }
 
 // Whether the expected head is this one, but for what it leaves open.
 #[tactic(auto, unfolding(crate::specs::Answers::head_matches_lem))]
-pub fn head_matches(
-    head: &[u8],
-    number: usize,
-    a: usize,
-    b: usize,
-    kind: usize,
-    start: usize,
-) -> bool
-    ensures { result ≡ head_matches_lem head.now number a b kind start }
+pub fn head_matches(head: &[u8], said: Numbers, kind: usize, start: usize) -> bool
+    ensures { result ≡ head_matches_lem head.now said.number said.a said.b kind start }
 {
-    if head.len() != HEAD {
-        return false;
-    }
-    if !does_agree(eight_at(head, 0), number) {
-        return false;
-    }
-    if !does_agree(eight_at(head, 8), a) {
-        return false;
-    }
-    if !does_agree(eight_at(head, 16), b) {
-        return false;
-    }
-    if !does_agree(eight_at(head, 24), kind) {
-        return false;
-    }
-    does_agree(eight_at(head, 32), start)
+    head.len() == HEAD
+        && does_agree(number_at(head, 0), said.number)
+        && does_agree(number_at(head, 1), said.a)
+        && does_agree(number_at(head, 2), said.b)
+        && does_agree(number_at(head, 3), kind)
+        && does_agree(number_at(head, 4), start)
 }
 
 // Whether the expected head is that of a refusal without type and start.
 pub fn refusal_matches(head: &[u8], refusal: Refusal) -> bool
     ensures { result ≡ refusal_matches_lem head.now refusal }
 {
-    let said = refusal.numbers();
-    head_matches(head, said.number, said.a, said.b, 0, 0)
+    head_matches(head, refusal.numbers(), 0, 0)
 }
 
 // Whether the record has so many parts, with a head after the question's.
 pub fn is_formed(b: &[u8], question: usize, parts: usize) -> bool
     ensures { result ≡ is_formed_lem b.now question parts }
 {
-    if word_at(b, 1) != parts {
-        return false;
-    }
-    part(b, question).len() == HEAD
-}
-
-pub fn told(same: bool) -> Verdict
-    ensures { result ≡ told_of same }
-{
-    if same {
-        Verdict::Same
-    } else {
-        Verdict::Differs
-    }
+    word_at(b, 1) == parts && part(b, question).len() == HEAD
 }

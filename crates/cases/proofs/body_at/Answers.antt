@@ -4,8 +4,8 @@ use Rattle.cases.specs.Records.{body_of}
 use Rattle.cases.proofs.Laws.{end-within}
 use Rattle.cases.proofs.body_at.Goals as goal
 
-pub overflow_add-from : goal.overflow_add-from
-overflow_add-from c = let w = end-within _ _ _ c.in-Some.ensures in omega arith
+pub overflow_add-result : goal.overflow_add-result
+overflow_add-result c = let w = end-within _ _ _ c.in-Some.ensures in omega arith
 
 pub slice_bounds-result-count : goal.slice_bounds-result-count
 slice_bounds-result-count c = let w = end-within _ _ _ c.in-Some.ensures in omega arith

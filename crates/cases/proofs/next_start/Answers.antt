@@ -1,11 +1,8 @@
 -- By where the part ends. Assumes nothing.
 use Rattle.cases.specs.Records.{next_of}
+use Rattle.cases.proofs.Laws.{reach-or}
 use Rattle.cases.proofs.next_start.Goals as goal
 
-pub returns-in-Some : goal.returns-in-Some
+pub returns : goal.returns
 unfolding next_of
-returns-in-Some c = rw (← c.in-Some.ensures)
-
-pub returns-in-None : goal.returns-in-None
-unfolding next_of
-returns-in-None c = rw (← c.in-None.ensures)
+returns c = rw (c.unwrap_or.ensures, reach-or, c.part_end.ensures)

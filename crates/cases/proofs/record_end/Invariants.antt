@@ -1,10 +1,8 @@
 -- What is left of the row of parts ends where the whole row does. Assumes nothing.
-use Rattle.std.proofs.Common.{◌≡◌}
+use Rattle.std.proofs.Common.{◌≡◌, ◌-◌}
+use Rattle.standard.specs.Bytes.{word_at}
 use Rattle.cases.specs.Records.{row_end}
 use Rattle.cases.proofs.record_end.Given as goal
 
-abbrev pub invariant-loop-left : goal.invariant-loop-left
-invariant-loop-left l = row_end l.b l.left l.at ≡ row_end l.b l.initial.left l.initial.at
-
-abbrev pub decreases-loop-left : goal.decreases-loop-left
-decreases-loop-left l = l.left
+abbrev pub invariant-loop : goal.invariant-loop
+invariant-loop l = row_end l.b (word_at l.b 1 - l.counter) l.at ≡ row_end l.b (word_at l.b 1) 8
