@@ -4,22 +4,24 @@ use Rattle.standard.specs.Choice.{pick}
 use Rattle.standard.specs.Refusals.{numbers_of_lem}
 use Rattle.standard.specs.declared.Numbers.{Numbers}
 use Rattle.message.specs.Check.{check_message, list_message, listed_records}
-use Rattle.message.specs.declared.Answer.{Answer}
-use Rattle.message.specs.declared.Listed.{Listed}
+use Rattle.message.specs.declared.Counts.{Counts}
+use Rattle.message.specs.declared.RefusedAt.{RefusedAt}
+use Rattle.std.specs.declared.result.Result.{Result}
+use Rattle.std.specs.declared.result.Result.TheVariants.{Ok, Err}
 
 -- "a last argument 0 to 4 picks which is returned: number, a, b, type, start"
 abbrev pub which_of_lem : ℕ → Numbers → ℕ → ℕ → ℕ
 which_of_lem w n t s = pick (eqb w 0) n.number (pick (eqb w 1) n.a (pick (eqb w 2) n.b (pick (eqb w 3) t s)))
 
 -- "on success all 0"
-abbrev pub answer_number : Answer → ℕ → ℕ
-answer_number (Answer.Accepted c) w = 0
-answer_number (Answer.Refused r t s) w = which_of_lem w (numbers_of_lem r) t s
+abbrev pub answer_number : Result Counts RefusedAt → ℕ → ℕ
+answer_number (Ok c) w = 0
+answer_number (Err e) w = which_of_lem w (numbers_of_lem e.refusal) e.type_number e.start
 
 -- "but a is the listing's count"
-abbrev pub listed_number : Listed → ℕ → ℕ
-listed_number (Listed.Records n) w = pick (eqb w 1) n 0
-listed_number (Listed.Refused r t s) w = which_of_lem w (numbers_of_lem r) t s
+abbrev pub listed_number : Result ℕ RefusedAt → ℕ → ℕ
+listed_number (Ok n) w = pick (eqb w 1) n 0
+listed_number (Err e) w = which_of_lem w (numbers_of_lem e.refusal) e.type_number e.start
 
 -- "above 4 gives 0 and writes nothing"
 abbrev pub check_number : List ℕ → List ℕ → ℕ → ℕ

@@ -2,28 +2,24 @@
 #![tactic(auto)]
 
 ghost use Rattle.std.specs.Prelude.{◌≡◌};
+ghost use Rattle.standard.specs.Refusals.{numbers_of_lem};
 ghost use Rattle.cartwhisker.specs.Calls.{which_of_lem, check_number, list_number, list_buffer};
 
-use message::{Answer, Listed, check, list};
-use standard::Numbers;
+use message::{RefusedAt, check, list};
 
 // 0 to 4 pick number, a, b, type, start.
-fn which_of(which: u32, n: Numbers, t: usize, start: usize) -> u64
-    ensures { result ≡ which_of_lem which n t start }
+fn which_of(which: u32, e: RefusedAt) -> u64
+    ensures { result ≡ which_of_lem which (numbers_of_lem e.refusal) e.type_number e.start }
 {
-    if which == 0 {
-        return n.number as u64;
-    }
-    if which == 1 {
-        return n.a as u64;
-    }
-    if which == 2 {
-        return n.b as u64;
-    }
-    if which == 3 {
-        return t as u64;
-    }
-    start as u64
+    let said = e.refusal.numbers();
+    let picked = match which {
+        0 => said.number,
+        1 => said.a,
+        2 => said.b,
+        3 => e.type_number,
+        _ => e.start,
+    };
+    picked as u64
 }
 
 #[unsafe(no_mangle)]
@@ -33,10 +29,9 @@ pub extern "C" fn cartwhisker_check(layout: &[u8], message: &[u8], which: u32) -
     if which > 4 {
         return 0;
     }
-    let r = check(layout, message);
-    match r {
-        Answer::Accepted(_) => 0,
-        Answer::Refused(x, t, start) => which_of(which, x.numbers(), t, start),
+    match check(layout, message) {
+        Ok(_) => 0,
+        Err(e) => which_of(which, e),
     }
 }
 
@@ -53,9 +48,8 @@ pub extern "C" fn cartwhisker_list(
     if which > 4 {
         return 0;
     }
-    let r = list(layout, message, records);
-    match r {
-        Listed::Records(n) => { if which == 1 { n as u64 } else { 0 } }
-        Listed::Refused(x, t, start) => which_of(which, x.numbers(), t, start),
+    match list(layout, message, records) {
+        Ok(n) => { if which == 1 { n as u64 } else { 0 } }
+        Err(e) => which_of(which, e),
     }
 }
