@@ -2,20 +2,21 @@
 use mathlib.Core.Path.{◌≡◌, refl, sym, ap, ◌∙◌}
 use mathlib.Core.Logic.{⊎_elim}
 use mathlib.Core.List.{List, [], ◌∷◌, ◌++◌, append_assoc}
-use mathlib.Core.Bool.{Bool, true, false}
+use mathlib.Core.Bool.{true}
 use Prim.Native.Nat.{ℕ, zero, suc, ◌+◌, ◌-◌, ◌≤◌, ◌<◌}
 use native.Mathlib.Nat.{eq-or-lt_of_le, add-zero}
 use native.Mathlib.Omega.{arith}
-use borrow.Author.Tests.{ne_eqb, eqb-true, eqb-false, ltb-true, ltb-false}
+use borrow.Author.Tests.{ne_eqb}
 use lib.ListN.{length, get_or, set, replicate, length-append, length-replicate, get_or-append}
 use lib.Seq.{get_or_at, set_at}
-use lib.Dec.{eqb, ltb}
 use Rattle.standard.specs.Bytes.{word_at}
 use Rattle.standard.specs.Types.{Ty, boolean, container, union, list, vector, end, field, head, heads, LegalTy}
 use Rattle.standard.specs.declared.Head.{Head}
 use Rattle.standard.specs.declared.Head.TheVariants.{Fixed, Variable}
 use Rattle.standard.proofs.Laws.{fixed-some}
-use Rattle.layout.specs.Tree.{node_of, leaf_of, from_node, fields, options, trees, tree_of, len_of, head_of, lengths, filled}
+use Rattle.layout.specs.Kinds.{is_leaf}
+use Rattle.layout.specs.declared.Kind.{Kind}
+use Rattle.layout.specs.Tree.{node_of, leaf_with, leaf_of, type_with, from_node, fields, options, trees, tree_of, len_of, head_of, lengths, filled}
 use Rattle.layout.specs.Table.{count}
 use Rattle.layout.specs.Legal.{Lower, LegalNode, Legal}
 use Rattle.layout.specs.declared.Node.{Node}
@@ -85,55 +86,48 @@ pub head_len : (t : Ty) → LegalTy t → head_of (len_of (head t)) ≡ head t
 head_len t g = head-of_len (head t) (λ n e. fixed-some t n g e)
 
 -- What holds of leaves, of containers, of unions, of lists and of vectors holds of every kind.
-pub each-kind : (P : Type 0) (k : ℕ) → k ≤ 9 → (k < 6 → P) → (k ≡ 6 → P) → (k ≡ 7 → P) → (k ≡ 8 → P) → (k ≡ 9 → P) → P
-each-kind P k h leaf six seven eight nine = go (ltb k 6) (eqb k 6) (eqb k 7) (eqb k 8) refl refl refl refl
-  where
-    go : (a b c d : Bool) → ltb k 6 ≡ a → eqb k 6 ≡ b → eqb k 7 ≡ c → eqb k 8 ≡ d → P
-    go true b c d p q r s = leaf (ltb-true k 6 p)
-    go false true c d p q r s = six (eqb-true k 6 q)
-    go false false true d p q r s = seven (eqb-true k 7 r)
-    go false false false true p q r s = eight (eqb-true k 8 s)
-    go false false false false p q r s =
-        let x = ltb-false k 6 p in
-        let y = eqb-false k 6 q in
-        let z = eqb-false k 7 r in
-        let w = eqb-false k 8 s in
-        nine (omega arith)
+pub each-kind : (P : Type 0) (k : Kind) → (is_leaf k ≡ true → P) → (k ≡ Kind.Container → P) → (k ≡ Kind.Union → P) → (k ≡ Kind.List → P) →
+    (k ≡ Kind.Vector → P) → P
+each-kind P Kind.Container leaf six seven eight nine = six refl
+each-kind P Kind.Union leaf six seven eight nine = seven refl
+each-kind P Kind.List leaf six seven eight nine = eight refl
+each-kind P Kind.Vector leaf six seven eight nine = nine refl
+each-kind P k leaf six seven eight nine = leaf refl
+
+leaf_alone : (k : Kind) (l : List ℕ) (lower : List Ty) (t at w : ℕ) → is_leaf k ≡ true → type_with k l lower t at w ≡ leaf_with k t w
+leaf_alone Kind.Container l lower t at w h = absurd (cc)
+leaf_alone Kind.Union l lower t at w h = absurd (cc)
+leaf_alone Kind.List l lower t at w h = absurd (cc)
+leaf_alone Kind.Vector l lower t at w h = absurd (cc)
+leaf_alone k l lower t at w h = refl
 
 -- What the node says of the tree.
 module _ (l : List ℕ) (t : ℕ) (r : Node) (e : r ≡ node_of l t) where
-  pub as_container : r.kind ≡ 6 → tree_of l t ≡ container t (fields l (trees l t) (r.at + 2) r.second)
+  pub as_container : r.kind ≡ Kind.Container → tree_of l t ≡ container t (fields l (trees l t) (r.at + 2) r.second)
   unfolding tree_of from_node
   as_container h = rw (← e, h)
 
-  pub as_union : r.kind ≡ 7 → tree_of l t ≡ union t (options l (trees l t) (r.at + 2) 0 r.second)
+  pub as_union : r.kind ≡ Kind.Union → tree_of l t ≡ union t (options l (trees l t) (r.at + 2) 0 r.second)
   unfolding tree_of from_node
   as_union h = rw (← e, h)
 
-  pub as_leaf : r.kind < 6 → tree_of l t ≡ leaf_of t r
-  unfolding tree_of from_node
-  as_leaf h =
-      rw (
-        ← e,
-        ne_eqb r.kind 6 (λ (q : r.kind ≡ 6). omega arith),
-        ne_eqb r.kind 7 (λ (q : r.kind ≡ 7). omega arith),
-        ne_eqb r.kind 8 (λ (q : r.kind ≡ 8). omega arith),
-        ne_eqb r.kind 9 (λ (q : r.kind ≡ 9). omega arith),
-      )
+  pub as_leaf : is_leaf r.kind ≡ true → tree_of l t ≡ leaf_of t r
+  unfolding tree_of from_node leaf_of
+  as_leaf h = rw (← e) (leaf_alone r.kind l (trees l t) t r.at r.second h)
 
   -- a list and a vector, over the lower types, and over the type of their elements
-  pub list_over : r.kind ≡ 8 → tree_of l t ≡ list t (get_or (trees l t) r.second (boolean 0)) (word_at l (r.at + 2))
+  list_over : r.kind ≡ Kind.List → tree_of l t ≡ list t (get_or (trees l t) r.second (boolean 0)) (word_at l (r.at + 2))
   unfolding tree_of from_node
   list_over h = rw (← e, h)
 
-  pub as_list_lem : r.kind ≡ 8 → r.second < t → tree_of l t ≡ list t (tree_of l r.second) (word_at l (r.at + 2))
+  pub as_list_lem : r.kind ≡ Kind.List → r.second < t → tree_of l t ≡ list t (tree_of l r.second) (word_at l (r.at + 2))
   as_list_lem h k = list_over h ∙ ap (λ (x : Ty). list t x (word_at l (r.at + 2))) (trees-get l t r.second (boolean 0) k)
 
-  pub vector-over : r.kind ≡ 9 → tree_of l t ≡ vector t (get_or (trees l t) r.second (boolean 0)) (word_at l (r.at + 2))
+  vector-over : r.kind ≡ Kind.Vector → tree_of l t ≡ vector t (get_or (trees l t) r.second (boolean 0)) (word_at l (r.at + 2))
   unfolding tree_of from_node
   vector-over h = rw (← e, h)
 
-  pub as_vector : r.kind ≡ 9 → r.second < t → tree_of l t ≡ vector t (tree_of l r.second) (word_at l (r.at + 2))
+  pub as_vector : r.kind ≡ Kind.Vector → r.second < t → tree_of l t ≡ vector t (tree_of l r.second) (word_at l (r.at + 2))
   as_vector h k = vector-over h ∙ ap (λ (x : Ty). vector t x (word_at l (r.at + 2))) (trees-get l t r.second (boolean 0) k)
 
   pub legal_node : Legal l (t + 1) → LegalNode l t r

@@ -5,18 +5,23 @@ use mathlib.Core.Bool.{Bool, true, false}
 use Prim.Native.Nat.{ℕ, zero, suc, ◌+◌, ◌-◌, ◌*◌, ◌%◌, ◌≤◌, ◌<◌, ◌^◌}
 use native.Mathlib.Nat.{add-zero}
 use native.Mathlib.Omega.{arith}
-use borrow.Author.Tests.{eqb-true, eqb-false, ltb-true, ltb-false, leb-true, lt-ltb, le-ltb, ne_eqb, eq-eqb}
+use borrow.Author.Tests.{eqb-true, ltb-true, leb-true, lt-ltb, le-ltb, ne_eqb, eq-eqb}
 use lib.ListN.{length, get_or, replicate}
 use lib.Dec.{eqb, leb, ltb}
 use Rattle.standard.specs.Choice.{pick, and_also, or_else}
 use Rattle.standard.specs.Bytes.{Bytes, word_at}
 use Rattle.standard.specs.Types.{Ty, boolean, head, heads, width, portion}
 use Rattle.standard.proofs.Bytes.{word_bound}
+use Rattle.std.specs.Prelude.{unwrap_or}
+use Rattle.std.specs.declared.option.Option.{Option}
+use Rattle.std.specs.declared.option.Option.TheVariants.{Some, None}
+use Rattle.layout.specs.Kinds.{kind_of, has_many, has_element}
+use Rattle.layout.specs.declared.Kind.{Kind}
 use Rattle.layout.specs.Tree.{node_of, fields, trees, tree_of, len_of, head_of, lengths, filled}
-use Rattle.layout.specs.Table.{onward, count, may_name_lem, refs, counted, many, container_end_lem, list_end_lem, vector_end_lem, leaf_word, leaf_end_lem, body_end_lem, types_end_lem, types_of, table_of, lengths_of}
+use Rattle.layout.specs.Table.{onward, count, may_name_lem, refs, counted, many, container_end_lem, list_end_lem, vector_end_lem, leaf_word, leaf_end_lem, kind_end, body_end_lem, types_end_lem, types_of, table_of, lengths_of}
 use Rattle.layout.specs.Legal.{Lower, LowerOrBare, LegalNode, Legal}
 use Rattle.layout.specs.Steps.{Known, Typed}
-use Rattle.layout.proofs.Facts.{trees-get, each-kind, fields-none, heads-at, lower-here, lower-rest, filled-get, length-filled, head_len, legal-more}
+use Rattle.layout.proofs.Facts.{trees-get, fields-none, heads-at, lower-here, lower-rest, filled-get, length-filled, head_len, legal-more}
 use Rattle.layout.proofs.Trees.{legal_tree, len_small}
 use Rattle.std.specs.declared.result.Result.{Result}
 use Rattle.std.specs.declared.result.Result.TheVariants.{Ok, Err}
@@ -37,14 +42,6 @@ module _ (lens l : List ℕ) (k : ℕ) (g : Known lens l k) (f : ℕ) (h : f < k
 
 pub known-length : (lens l : List ℕ) (k : ℕ) → Known lens l k → length lens ≡ 64
 known-length lens l k g = ap length g.found ∙ length-filled l k g.few
-
--- A leaf's kind is no list's and no vector's; a kind that is no vector's is at most a list's.
-pub leaf-kind : (k : ℕ) → k < 6 → (eqb k 7 ≡ false) × (eqb k 8 ≡ false) × (eqb k 9 ≡ false)
-leaf-kind k h =
-    (ne_eqb k 7 (λ (q : k ≡ 7). omega arith), ne_eqb k 8 (λ (q : k ≡ 8). omega arith), ne_eqb k 9 (λ (q : k ≡ 9). omega arith))
-
-pub below-nine : (k : ℕ) → k ≤ 9 → (k ≡ 9 → ⊥) → k ≤ 8
-below-nine k h n = omega arith
 
 -- The loop of `refs_end`.
 pub refs_cons : (l : List ℕ) (t : ℕ) (none : Bool) (a left : ℕ) → 0 < left →
@@ -208,11 +205,11 @@ container-says l t at e h =
     let s : portion (heads (fields l (trees l t) (at + 2) (word_at l (at + 1)))) ≤ 4294967295 = leb-true _ _ q.0 in
     (rw w at (many-says l t at 64 false p.0 p.1), omega arith)
 
-leaf-says : (l : List ℕ) (at e : ℕ) → leaf_end_lem l at ≡ Ok e → (leaf_word (word_at l at) (word_at l (at + 1)) ≡ true) × (e ≤ count l)
+leaf-says : (k : Kind) (l : List ℕ) (at e : ℕ) → leaf_end_lem k l at ≡ Ok e → (leaf_word k (word_at l (at + 1)) ≡ true) × (e ≤ count l)
 unfolding leaf_end_lem
-leaf-says l at e h =
+leaf-says k l at e h =
     let p = upto_left (ltb (at + 1) (count l)) _ (count l) e h in
-    let q = upto_left (leaf_word (word_at l at) (word_at l (at + 1))) (Ok (at + 2)) (at + 1) e p.1 in
+    let q = upto_left (leaf_word k (word_at l (at + 1))) (Ok (at + 2)) (at + 1) e p.1 in
     (q.0, omega (arith, upto_inj (at + 2) e q.1, ltb-true (at + 1) (count l) p.0))
 
 -- An accepted list or vector: its element's type is lower, and the number behind it is there and ends it.
@@ -258,98 +255,62 @@ vector-says l t at e h =
     narrow : (n m : ℕ) (x y : Ty) → n ≡ m → x ≡ y → n * width (head x) < 2 ^ 32 → m * width (head y) < 2 ^ 32
     narrow n m x y e f h = rw (← e, ← f) h
 
+-- What an accepted body of each kind says.
+module _ (l : List ℕ) (t at e : ℕ) where
+  ends-within : (k : Kind) → at < count l → kind_end (Some k) l t at ≡ Ok e → e ≤ count l
+  ends-within Kind.Container i h = (container-says l t at e h).0.within
+  ends-within Kind.Union i h = (many-says l t at 128 true e h).within
+  ends-within Kind.List i h = let s = list-says l t at e h in omega (arith, s.third, s.ends)
+  ends-within Kind.Vector i h = let s = (vector-says l t at e h).0 in omega (arith, s.third, s.ends)
+  ends-within Kind.Boolean i h = omega (arith, upto_inj (at + 1) e h)
+  ends-within Kind.Number i h = (leaf-says Kind.Number l at e h).1
+  ends-within Kind.FixedBytes i h = (leaf-says Kind.FixedBytes l at e h).1
+  ends-within Kind.FreeBytes i h = (leaf-says Kind.FreeBytes l at e h).1
+  ends-within Kind.BitVector i h = (leaf-says Kind.BitVector l at e h).1
+  ends-within Kind.BitList i h = (leaf-says Kind.BitList l at e h).1
+
+  word-allowed : (k : Kind) → kind_end (Some k) l t at ≡ Ok e → leaf_word k (word_at l (at + 1)) ≡ true
+  word-allowed Kind.Number h = (leaf-says Kind.Number l at e h).0
+  word-allowed Kind.FixedBytes h = (leaf-says Kind.FixedBytes l at e h).0
+  word-allowed Kind.BitVector h = (leaf-says Kind.BitVector l at e h).0
+  word-allowed k h = refl
+
+  -- a container or a union: a number of 1 on, and as many words
+  many-within : (k : Kind) → has_many k ≡ true → kind_end (Some k) l t at ≡ Ok e →
+      (1 ≤ word_at l (at + 1)) × (at + 2 + word_at l (at + 1) ≤ count l)
+  many-within Kind.Container q h = let m = (container-says l t at e h).0 in (m.some, omega (arith, m.within, m.ends))
+  many-within Kind.Union q h = let m = many-says l t at 128 true e h in (m.some, omega (arith, m.within, m.ends))
+  many-within k q h = absurd (cc)
+
+  -- a list or a vector: an element's type and a number
+  element-says : (k : Kind) → has_element k ≡ true → kind_end (Some k) l t at ≡ Ok e → Element l t at e
+  element-says Kind.List q h = list-says l t at e h
+  element-says Kind.Vector q h = (vector-says l t at e h).0
+  element-says k q h = absurd (cc)
+
+  -- the kind word names a kind
+  named : (o : Option Kind) → kind_end o l t at ≡ Ok e → o ≡ Some (unwrap_or o Kind.BitList)
+  named None h = bad-upto (BadLayout at) e h
+  named (Some k) h = refl
+
 module _ (l : List ℕ) (t at e : ℕ) (h : body_end_lem l t at ≡ Ok e) where
   body-there : at < count l
   unfolding body_end_lem
   body-there = ltb-true _ _ (upto_left (ltb at (count l)) _ (count l) e h).0
 
-  -- the answer of a leaf's kind, and of an unknown one
-  abbrev at_leaf : ℕ → Result ℕ Refusal
-  at_leaf k = pick (eqb k 1) (Ok (at + 1)) (pick (ltb k 6) (leaf_end_lem l at) (Err (BadLayout at)))
+  abbrev body-kind : Kind
+  body-kind = unwrap_or (kind_of (word_at l at)) Kind.BitList
 
-  -- the answer of the kind
-  abbrev at-kind : ℕ → Result ℕ Refusal
-  at-kind k =
-      pick (eqb k 6) (container_end_lem l t at)
-      (pick (eqb k 7) (many l t at true 128) (pick (eqb k 8) (list_end_lem l t at) (pick (eqb k 9) (vector_end_lem l t at) (at_leaf k))))
-
-  body-kind : (k : ℕ) → word_at l at ≡ k → at-kind k ≡ Ok e
+  body-known : kind_of (word_at l at) ≡ Some body-kind
   unfolding body_end_lem
-  body-kind k q = rw q at (upto_left (ltb at (count l)) _ (count l) e h).1
+  body-known = named l t at e _ (upto_left (ltb at (count l)) _ (count l) e h).1
 
-  six : word_at l at ≡ 6 → container_end_lem l t at ≡ Ok e
-  six k = body-kind 6 k
-
-  seven : word_at l at ≡ 7 → many l t at true 128 ≡ Ok e
-  seven k = body-kind 7 k
-
-  eight : word_at l at ≡ 8 → list_end_lem l t at ≡ Ok e
-  eight k = body-kind 8 k
-
-  nine : word_at l at ≡ 9 → vector_end_lem l t at ≡ Ok e
-  nine k = body-kind 9 k
-
-  -- neither a container, a union, a list nor a vector
-  other : (6 ≤ word_at l at → word_at l at ≤ 9 → ⊥) → at_leaf (word_at l at) ≡ Ok e
-  other k =
-      rw (
-        ne_eqb (word_at l at) 6 (λ (q : word_at l at ≡ 6). k (omega arith) (omega arith)),
-        ne_eqb (word_at l at) 7 (λ (q : word_at l at ≡ 7). k (omega arith) (omega arith)),
-        ne_eqb (word_at l at) 8 (λ (q : word_at l at ≡ 8). k (omega arith) (omega arith)),
-        ne_eqb (word_at l at) 9 (λ (q : word_at l at ≡ 9). k (omega arith) (omega arith)),
-      ) at (body-kind (word_at l at) refl)
-
-  leaf : word_at l at < 6 → (word_at l at ≡ 1 → ⊥) → leaf_end_lem l at ≡ Ok e
-  leaf k n = rw (ne_eqb _ _ n, lt-ltb _ _ k) at (other (λ (i : 6 ≤ word_at l at) j. omega arith))
-
-  body-known : word_at l at ≤ 9
-  body-known = go (ltb 9 (word_at l at)) refl
-    where
-      go : (c : Bool) → ltb 9 (word_at l at) ≡ c → word_at l at ≤ 9
-      go true p =
-          let i = ltb-true 9 (word_at l at) p in
-          let no = ne_eqb (word_at l at) 1 (λ (q : word_at l at ≡ 1). omega arith) in
-          bad-upto (BadLayout at) e (rw (no, le-ltb (word_at l at) 6 (omega arith)) at (other (λ x (j : word_at l at ≤ 9). omega arith)))
-      go false p = ltb-false 9 (word_at l at) p
-
-  body-leaf : word_at l at < 6 → e ≤ count l
-  body-leaf k = go (eqb (word_at l at) 1) refl
-    where
-      go : (c : Bool) → eqb (word_at l at) 1 ≡ c → e ≤ count l
-      go true p = omega (arith, upto_inj (at + 1) e (body-kind 1 (eqb-true _ _ p)), body-there)
-      go false p = (leaf-says l at e (leaf k (eqb-false _ _ p))).1
+  body-ends : (k : Kind) → body-kind ≡ k → kind_end (Some k) l t at ≡ Ok e
+  unfolding body_end_lem
+  body-ends k q = rw (body-known, q) at (upto_left (ltb at (count l)) _ (count l) e h).1
 
   pub body-within : e ≤ count l
-  body-within =
-      each-kind (e ≤ count l) (word_at l at) body-known
-      body-leaf
-      (λ k. (container-says l t at e (six k)).0.within)
-      (λ k. (many-says l t at 128 true e (seven k)).within)
-      (λ k. let s = list-says l t at e (eight k) in omega (arith, s.third, s.ends))
-      (λ k. let s = (vector-says l t at e (nine k)).0 in omega (arith, s.third, s.ends))
-
-  -- A container or a union: a number of 1 on, and as many words.
-  some-within : 6 ≤ word_at l at → word_at l at ≤ 7 → (1 ≤ word_at l (at + 1)) × (at + 2 + word_at l (at + 1) ≤ count l)
-  some-within k m = go (eqb (word_at l at) 6) refl
-    where
-      said : (most : ℕ) (none : Bool) → Many l t at most none e → (1 ≤ word_at l (at + 1)) × (at + 2 + word_at l (at + 1) ≤ count l)
-      said most none m = (m.some, omega (arith, m.within, m.ends))
-
-      go : (c : Bool) → eqb (word_at l at) 6 ≡ c → (1 ≤ word_at l (at + 1)) × (at + 2 + word_at l (at + 1) ≤ count l)
-      go true p = said 64 false (container-says l t at e (six (eqb-true _ _ p))).0
-      go false p =
-          let n : word_at l at ≡ 6 → ⊥ = eqb-false _ _ p in
-          said 128 true (many-says l t at 128 true e (seven (omega arith)))
-
-  -- A list or a vector: an element's type and a number.
-  body-element : 8 ≤ word_at l at → Element l t at e
-  body-element k = go (eqb (word_at l at) 8) refl
-    where
-      go : (c : Bool) → eqb (word_at l at) 8 ≡ c → Element l t at e
-      go true p = list-says l t at e (eight (eqb-true _ _ p))
-      go false p =
-          let n : word_at l at ≡ 8 → ⊥ = eqb-false _ _ p in
-          (vector-says l t at e (nine (omega (arith, body-known)))).0
+  body-within = ends-within l t at e _ body-there (body-ends _ refl)
 
   pub body-legal : Bytes l → 1 + t < count l → word_at l (1 + t) ≡ at → LegalNode l t (node_of l t)
   unfolding node_of
@@ -361,18 +322,18 @@ module _ (l : List ℕ) (t at e : ℕ) (h : body_end_lem l t at ≡ Ok e) where
         begun = body-there;
         near = rw (← w) (word_bound l (1 + t) b);
         small = word_bound l (at + 1) b;
-        leaf = λ k n. (leaf-says l at e (leaf k n)).0;
-        some = λ k m. (some-within k m).0;
-        few = λ k. (container-says l t at e (six k)).0.few;
-        within = λ k m. (some-within k m).1;
-        lower = λ k. many-lower l t at 64 e (container-says l t at e (six k)).0;
-        short = λ k. (container-says l t at e (six k)).1;
-        most = λ k. (many-says l t at 128 true e (seven k)).few;
-        optional = λ k. many-bare l t at 128 e (many-says l t at 128 true e (seven k));
-        element = λ k. (body-element k).lower;
-        third = λ k. (body-element k).third;
-        several = λ k. (vector-says l t at e (nine k)).1;
-        narrow = λ k. (vector-says l t at e (nine k)).2;
+        leaf = word-allowed l t at e _ (body-ends _ refl);
+        some = λ q. (many-within l t at e _ q (body-ends _ refl)).0;
+        within = λ q. (many-within l t at e _ q (body-ends _ refl)).1;
+        few = λ k. (container-says l t at e (body-ends _ k)).0.few;
+        lower = λ k. many-lower l t at 64 e (container-says l t at e (body-ends _ k)).0;
+        short = λ k. (container-says l t at e (body-ends _ k)).1;
+        most = λ k. (many-says l t at 128 true e (body-ends _ k)).few;
+        optional = λ k. many-bare l t at 128 e (many-says l t at 128 true e (body-ends _ k));
+        element = λ q. (element-says l t at e _ q (body-ends _ refl)).lower;
+        third = λ q. (element-says l t at e _ q (body-ends _ refl)).third;
+        several = λ k. (vector-says l t at e (body-ends _ k)).1;
+        narrow = λ k. (vector-says l t at e (body-ends _ k)).2;
       })
 
 -- The loop of `types_end`: the types so far are legal and their lengths are found, and what is left gives the whole.
@@ -407,6 +368,10 @@ module _ (l lens : List ℕ) (n t at : ℕ) (g : Checking l lens n t at) (p : t 
     module _ (b : Bytes l) (e : ℕ) (h : Ok e ≡ body_end_lem l t at) where
       pub checking_legal : Legal l (t + 1)
       checking_legal = legal-more l t g.known.legal (body-legal l t at e (sym h) b (checking_listed l lens n t at g p) (sym q ∙ k))
+
+      pub checking_small : (m : ℕ) → m ≡ len_of (head (tree_of l t)) → m < 2 ^ 32
+      unfolding Legal
+      checking_small m v = rw v (len_small l t (checking_legal t (omega arith)))
 
       pub checking_next : (lens' : List ℕ) → n ≤ 64 → lens' ≡ filled l (t + 1) → Checking l lens' n (t + 1) e
       checking_next lens' m f =

@@ -7,7 +7,7 @@ use mathlib.Core.Bool.{Bool, true, false}
 use Prim.Native.Nat.{ℕ, zero, suc, ◌+◌, ◌*◌, ◌≤◌, ◌<◌, ◌^◌}
 use native.Mathlib.Nat.{add-zero}
 use native.Mathlib.Omega.{arith}
-use borrow.Author.Tests.{eqb-true, eqb-false, ltb-true, ne_eqb}
+use borrow.Author.Tests.{eqb-false, ltb-true}
 use lib.ListN.{get_or}
 use lib.Dec.{eqb}
 use Rattle.standard.specs.Choice.{pick}
@@ -16,49 +16,40 @@ use Rattle.standard.specs.Types.{Ty, Tys, Opts, number, boolean, fixed_bytes, fr
 use Rattle.standard.specs.declared.Head.{Head}
 use Rattle.standard.specs.declared.Head.TheVariants.{Fixed, Variable}
 use Rattle.standard.proofs.Elements.{All}
-use Rattle.layout.specs.Tree.{node_of, leaf_of, fields, options, trees, tree_of, len_of}
+use Rattle.layout.specs.Kinds.{is_leaf}
+use Rattle.layout.specs.declared.Kind.{Kind}
+use Rattle.layout.specs.Tree.{node_of, leaf_with, leaf_of, fields, options, trees, tree_of, len_of}
 use Rattle.layout.specs.Table.{leaf_word}
 use Rattle.layout.specs.Legal.{Lower, LowerOrBare, LegalNode, Legal}
 use Rattle.layout.specs.Steps.{leaf_len_lem}
 use Rattle.layout.specs.declared.Node.{Node}
-use Rattle.layout.proofs.Facts.{trees-get, each-kind, as_container, as_union, as_leaf, as_list_lem, as_vector, list_over}
+use Rattle.layout.proofs.Facts.{trees-get, each-kind, as_container, as_union, as_leaf, as_list_lem, as_vector}
 
 -- A leaf, by its kind.
 module _ (t : ℕ) (n : Node) where
-  pub leaf-cases : (P : Ty → Type 0) → (n.kind ≡ 0 → P (number t n.second)) → (n.kind ≡ 1 → P (boolean t)) →
-      (n.kind ≡ 2 → P (fixed_bytes t n.second)) → P (free_bytes t n.second) → (n.kind ≡ 4 → P (bit_vector t n.second)) →
+  pub leaf-cases : (P : Ty → Type 0) → (n.kind ≡ Kind.Number → P (number t n.second)) → (n.kind ≡ Kind.Boolean → P (boolean t)) →
+      (n.kind ≡ Kind.FixedBytes → P (fixed_bytes t n.second)) → P (free_bytes t n.second) → (n.kind ≡ Kind.BitVector → P (bit_vector t n.second)) →
       P (bit_list t n.second) → P (leaf_of t n)
   unfolding leaf_of
-  leaf-cases P p0 p1 p2 p3 p4 p5 = go (eqb n.kind 0) (eqb n.kind 1) (eqb n.kind 2) (eqb n.kind 3) (eqb n.kind 4) refl refl refl refl
+  leaf-cases P p0 p1 p2 p3 p4 p5 = go n.kind refl
     where
-      go : (a b c d e : Bool) → eqb n.kind 0 ≡ a → eqb n.kind 1 ≡ b → eqb n.kind 2 ≡ c → eqb n.kind 4 ≡ e →
-          P (pick a (number t n.second) (pick b (boolean t)
-          (pick c (fixed_bytes t n.second) (pick d (free_bytes t n.second) (pick e (bit_vector t n.second) (bit_list t n.second))))))
-      go true b c d e f g h i = p0 (eqb-true _ _ f)
-      go false true c d e f g h i = p1 (eqb-true _ _ g)
-      go false false true d e f g h i = p2 (eqb-true _ _ h)
-      go false false false true e f g h i = p3
-      go false false false false true f g h i = p4 (eqb-true _ _ i)
-      go false false false false false f g h i = p5
+      go : (k : Kind) → n.kind ≡ k → P (leaf_with k t n.second)
+      go Kind.Number e = p0 e
+      go Kind.Boolean e = p1 e
+      go Kind.FixedBytes e = p2 e
+      go Kind.FreeBytes e = p3
+      go Kind.BitVector e = p4 e
+      go k e = p5
 
-  leaf-legal : (n.kind < 6 → (n.kind ≡ 1 → ⊥) → leaf_word n.kind n.second ≡ true) → LegalTy (leaf_of t n)
+  leaf-legal : leaf_word n.kind n.second ≡ true → LegalTy (leaf_of t n)
   unfolding LegalTy
   leaf-legal w =
-      leaf-cases LegalTy
-      (λ k. rw k at (w (omega arith) (λ (q : n.kind ≡ 1). omega arith)))
-      (λ k. tt)
-      (λ k. ltb-true 0 _ (rw k at (w (omega arith) (λ (q : n.kind ≡ 1). omega arith))))
-      tt
-      (λ k. ltb-true 0 _ (rw k at (w (omega arith) (λ (q : n.kind ≡ 1). omega arith))))
-      tt
+      leaf-cases LegalTy (λ k. rw k at w) (λ k. tt) (λ k. ltb-true 0 _ (rw k at w)) tt (λ k. ltb-true 0 _ (rw k at w)) tt
 
   leaf-small : n.second < 2 ^ 32 → len_of (head (leaf_of t n)) < 2 ^ 32
   unfolding head
   leaf-small s =
       leaf-cases (λ (x : Ty). len_of (head x) < 2 ^ 32) (λ k. s) (λ k. omega arith) (λ k. s) (omega arith) (λ k. omega arith) (omega arith)
-
-pub leaf_len-small : (n : Node) (r : ℕ) → r ≡ leaf_len_lem n → n.second < 2 ^ 32 → r < 2 ^ 32
-leaf_len-small n r e h = rw e (leaf-small 0 n h)
 
 -- P of the body of each option
 abbrev pub AllBodies : (Ty → Type 0) → Opts → Type 0
@@ -94,19 +85,19 @@ module _ (P : Ty → Type 0) (l : List ℕ) (t : ℕ) (f : (u : ℕ) → u < t �
 
   pub node_holds :
       (n : Node) → n ≡ node_of l t → LegalNode l t n
-      → (n.kind < 6 → P (leaf_of t n))
-      → (n.kind ≡ 6 → All P (fields l (trees l t) (n.at + 2) n.second) → P (container t (fields l (trees l t) (n.at + 2) n.second)))
-      → (n.kind ≡ 7 → AllBodies P (options l (trees l t) (n.at + 2) 0 n.second) → P (union t (options l (trees l t) (n.at + 2) 0 n.second)))
-      → (n.kind ≡ 8 → P (tree_of l n.second) → P (list t (tree_of l n.second) (word_at l (n.at + 2))))
-      → (n.kind ≡ 9 → P (tree_of l n.second) → P (vector t (tree_of l n.second) (word_at l (n.at + 2))))
+      → (is_leaf n.kind ≡ true → P (leaf_of t n))
+      → (n.kind ≡ Kind.Container → All P (fields l (trees l t) (n.at + 2) n.second) → P (container t (fields l (trees l t) (n.at + 2) n.second)))
+      → (n.kind ≡ Kind.Union → AllBodies P (options l (trees l t) (n.at + 2) 0 n.second) → P (union t (options l (trees l t) (n.at + 2) 0 n.second)))
+      → (n.kind ≡ Kind.List → P (tree_of l n.second) → P (list t (tree_of l n.second) (word_at l (n.at + 2))))
+      → (n.kind ≡ Kind.Vector → P (tree_of l n.second) → P (vector t (tree_of l n.second) (word_at l (n.at + 2))))
       → P (tree_of l t)
   node_holds n e g leaf six seven eight nine =
-      each-kind (P (tree_of l t)) n.kind g.known
+      each-kind (P (tree_of l t)) n.kind
       (λ k. rw (as_leaf l t n e k) (leaf k))
       (λ k. rw (as_container l t n e k) (six k (fields_hold _ _ (g.lower k))))
       (λ k. rw (as_union l t n e k) (seven k (options_hold _ 0 _ (g.optional k))))
-      (λ k. let i = g.element (omega arith) in rw (as_list_lem l t n e k i) (eight k (f _ i)))
-      (λ k. let i = g.element (omega arith) in rw (as_vector l t n e k i) (nine k (f _ i)))
+      (λ k. let i = g.element (rw k) in rw (as_list_lem l t n e k i) (eight k (f _ i)))
+      (λ k. let i = g.element (rw k) in rw (as_vector l t n e k i) (nine k (f _ i)))
 
 pub by_lower : (P : ℕ → Type 0) (n : ℕ) → ((t : ℕ) → t < n → ((u : ℕ) → u < t → P u) → P t) → (t : ℕ) → t < n → P t
 by_lower P zero f t h = absurd (omega arith)
@@ -156,9 +147,9 @@ module _ (l : List ℕ) (t : ℕ) where
   node_legal f n e g =
       node_holds LegalTy l t f n e g
       (λ k. leaf-legal t n g.leaf)
-      (λ k h. (fields-some _ _ (g.some (omega arith) (omega arith)), legal-fields (fields l (trees l t) (n.at + 2) n.second) h))
+      (λ k h. (fields-some _ _ (g.some (rw k)), legal-fields (fields l (trees l t) (n.at + 2) n.second) h))
       (λ k h. (
-        options-some _ 0 _ (g.some (omega arith) (omega arith)),
+        options-some _ 0 _ (g.some (rw k)),
         options_rising _ 0 _ (omega (arith, g.most k)),
         legal-bodies (options l (trees l t) (n.at + 2) 0 n.second) h,
       ))
@@ -194,57 +185,29 @@ unfolding times width
 times-portion n (Fixed k) = omega arith
 times-portion n Variable = omega arith
 
-pub vector_len : (l : List ℕ) (t : ℕ) (r : Node) → r ≡ node_of l t → r.kind ≡ 9 → r.second < t →
-    len_of (head (tree_of l t)) ≡ word_at l (r.at + 2) * len_of (head (tree_of l r.second))
-unfolding head
-vector_len l t r e h i = rw (as_vector l t r e h i) (times_len (word_at l (r.at + 2)) (head (tree_of l r.second)))
-
 pub len_small : (l : List ℕ) (t : ℕ) → LegalNode l t (node_of l t) → len_of (head (tree_of l t)) < 2 ^ 32
 unfolding head
 len_small l t g =
     let n = node_of l t in
-    each-kind (len_of (head (tree_of l t)) < 2 ^ 32) n.kind g.known
+    each-kind (len_of (head (tree_of l t)) < 2 ^ 32) n.kind
     (λ k. rw (as_leaf l t n refl k) (leaf-small t n g.small))
     (λ k. rw (as_container l t n refl k) (omega (arith, g.short k, all-portion (fields l (trees l t) (n.at + 2) n.second))))
     (λ k. rw (as_union l t n refl k) (omega arith))
-    (λ k. rw (as_list_lem l t n refl k (g.element (omega arith))) (omega arith))
-    (λ k. rw (as_vector l t n refl k (g.element (omega arith)))
+    (λ k. rw (as_list_lem l t n refl k (g.element (rw k))) (omega arith))
+    (λ k. rw (as_vector l t n refl k (g.element (rw k)))
     (omega (arith, g.narrow k, times-portion (word_at l (n.at + 2)) (head (tree_of l n.second)))))
 
--- The length of a type that is no container and no vector; its number is no matter.
-leaf-number : (t : ℕ) (n : Node) → leaf_len_lem n ≡ len_of (head (leaf_of t n))
-unfolding leaf_of head
-leaf-number t n = go (eqb n.kind 0) (eqb n.kind 1) (eqb n.kind 2) (eqb n.kind 3) (eqb n.kind 4)
-  where
-    go : (a b c d e : Bool) → len_of (head (pick a (number 0 n.second)
-        (pick b (boolean 0) (pick c (fixed_bytes 0 n.second)
-        (pick d (free_bytes 0 n.second) (pick e (bit_vector 0 n.second) (bit_list 0 n.second))))))) ≡
-        len_of (head (pick a (number t n.second) (pick b (boolean t)
-        (pick c (fixed_bytes t n.second) (pick d (free_bytes t n.second) (pick e (bit_vector t n.second) (bit_list t n.second)))))))
-    go true b c d e = refl
-    go false true c d e = refl
-    go false false true d e = refl
-    go false false false true e = refl
-    go false false false false true = refl
-    go false false false false false = refl
-
-leaf_variable : (n : Node) → 6 ≤ n.kind → leaf_len_lem n ≡ 0
-unfolding leaf_of head
-leaf_variable n h =
-    rw (
-      ne_eqb n.kind 0 (λ (q : n.kind ≡ 0). omega arith),
-      ne_eqb n.kind 1 (λ (q : n.kind ≡ 1). omega arith),
-      ne_eqb n.kind 2 (λ (q : n.kind ≡ 2). omega arith),
-      ne_eqb n.kind 3 (λ (q : n.kind ≡ 3). omega arith),
-      ne_eqb n.kind 4 (λ (q : n.kind ≡ 4). omega arith),
-    )
-
-pub leaf-length : (l : List ℕ) (t : ℕ) (r : Node) → r ≡ node_of l t → r.kind ≤ 8 → (r.kind ≡ 6 → ⊥) → leaf_len_lem r ≡ len_of (head (tree_of l t))
+-- The length of a type does not hang on its number.
+pub leaf-number : (k : Kind) (t w : ℕ) → len_of (head (leaf_with k t w)) ≡ leaf_len_lem k w
 unfolding head
-leaf-length l t r e h c =
-    each-kind (leaf_len_lem r ≡ len_of (head (tree_of l t))) r.kind (omega arith)
-    (λ k. rw (as_leaf l t r e k) (leaf-number t r))
-    (λ k. absurd (c k))
-    (λ k. rw (as_union l t r e k) (leaf_variable r (omega arith)))
-    (λ k. rw (list_over l t r e k) (leaf_variable r (omega arith)))
-    (λ (k : r.kind ≡ 9). absurd (omega arith))
+leaf-number Kind.Number t w = refl
+leaf-number Kind.Boolean t w = refl
+leaf-number Kind.FixedBytes t w = refl
+leaf-number Kind.FreeBytes t w = refl
+leaf-number Kind.BitVector t w = refl
+leaf-number k t w = refl
+
+-- The length of a vector is its count times that of an element, 0 if that is of variable size.
+pub vector_len : (t n : ℕ) (x : Ty) → len_of (head (vector t x n)) ≡ n * len_of (head x)
+unfolding head
+vector_len t n x = times_len n (head x)

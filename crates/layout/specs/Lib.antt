@@ -1,3 +1,4 @@
+pub mod Kinds
 pub mod Tree
 pub mod Table
 pub mod Legal

@@ -4,7 +4,11 @@ use Rattle.standard.specs.Choice.{pick, and_also, or_else}
 use Rattle.standard.specs.Bytes.{word_at}
 use Rattle.standard.specs.Types.{boolean, is_width, head, width, portion, heads}
 use Rattle.standard.specs.declared.Refusal.TheVariants.{BadLayout}
+use Rattle.layout.specs.Kinds.{kind_of}
 use Rattle.layout.specs.Tree.{fields, trees, filled}
+use Rattle.layout.specs.declared.Kind.{Kind}
+use Rattle.std.specs.declared.option.Option.{Option}
+use Rattle.std.specs.declared.option.Option.TheVariants.{Some, None}
 use Rattle.std.specs.declared.result.Result.{Result}
 use Rattle.std.specs.declared.result.Result.TheVariants.{Ok, Err}
 use Rattle.std.specs.Prelude.{⊤}
@@ -59,28 +63,32 @@ vector_end_lem l t at =
     pick (leb (n * width (head (get_or (trees l t) (word_at l (at + 1)) (boolean 0)))) 4294967295) (Ok (at + 3)) (Err (BadLayout at))))
 
 -- What a leaf's word must be: a width; at least 1 for fixed bytes and bit vectors; any limit
-abbrev pub leaf_word : ℕ → ℕ → Bool
-leaf_word k w = pick (eqb k 0) (is_width w) (pick (or_else (eqb k 2) (eqb k 4)) (ltb 0 w) true)
+abbrev pub leaf_word : Kind → ℕ → Bool
+leaf_word Kind.Number w = is_width w
+leaf_word Kind.FixedBytes w = ltb 0 w
+leaf_word Kind.BitVector w = ltb 0 w
+leaf_word k w = true
 
--- Where a leaf with one word ends
-unfoldable pub leaf_end_lem : List ℕ → ℕ → Result ℕ Refusal
-leaf_end_lem l at =
+-- Where a leaf of the kind, with one word, ends
+unfoldable pub leaf_end_lem : Kind → List ℕ → ℕ → Result ℕ Refusal
+leaf_end_lem k l at =
     pick (ltb (at + 1) (count l))
-    (pick (leaf_word (word_at l at) (word_at l (at + 1))) (Ok (at + 2)) (Err (BadLayout (at + 1))))
+    (pick (leaf_word k (word_at l (at + 1))) (Ok (at + 2)) (Err (BadLayout (at + 1))))
     (Err (BadLayout (count l)))
+
+-- Where the body of type t ends, whose kind word is the word at; one that names no kind is bad
+abbrev pub kind_end : Option Kind → List ℕ → ℕ → ℕ → Result ℕ Refusal
+kind_end None l t at = Err (BadLayout at)
+kind_end (Some Kind.Container) l t at = container_end_lem l t at
+kind_end (Some Kind.Union) l t at = many l t at true 128
+kind_end (Some Kind.List) l t at = list_end_lem l t at
+kind_end (Some Kind.Vector) l t at = vector_end_lem l t at
+kind_end (Some Kind.Boolean) l t at = Ok (at + 1)
+kind_end (Some k) l t at = leaf_end_lem k l at
 
 -- Where the body of type t ends, which starts at the word at
 unfoldable pub body_end_lem : List ℕ → ℕ → ℕ → Result ℕ Refusal
-body_end_lem l t at =
-    pick (ltb at (count l))
-    (pick (eqb (word_at l at) 6) (container_end_lem l t at)
-    (pick (eqb (word_at l at) 7) (many l t at true 128)
-    (pick (eqb (word_at l at) 8) (list_end_lem l t at)
-    (pick (eqb (word_at l at) 9) (vector_end_lem l t at)
-    (pick (eqb (word_at l at) 1) (Ok (at + 1))
-    (pick (ltb (word_at l at) 6) (leaf_end_lem l at)
-    (Err (BadLayout at))))))))
-    (Err (BadLayout (count l)))
+body_end_lem l t at = pick (ltb at (count l)) (kind_end (kind_of (word_at l at)) l t at) (Err (BadLayout (count l)))
 
 -- Where the k types from t on end, the first of which starts at the word at: "for each type its start word, kind, further words"
 unfoldable pub types_end_lem : List ℕ → ℕ → ℕ → ℕ → Result ℕ Refusal

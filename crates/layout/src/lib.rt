@@ -1,13 +1,13 @@
 // The check of a layout table, lent as its little-endian bytes, with the fixed length of each of its types.
 #![tactic(auto)]
 
-ghost use Rattle.std.specs.Prelude.{◌≡◌, ◌+◌, ◌≤◌, ◌<◌, ◌^◌, set, true, false};
+ghost use Rattle.std.specs.Prelude.{◌≡◌, ◌+◌, ◌*◌, ◌≤◌, ◌<◌, ◌^◌, get_or, false, true};
 ghost use Rattle.standard.specs.Bytes.{word_at};
-ghost use Rattle.standard.specs.Types.{is_width, width};
-ghost use Rattle.layout.specs.Tree.{node_of, fields, trees, head_of};
-ghost use Rattle.layout.specs.Table.{count, may_name_lem, refs, counted, many, container_end_lem, list_end_lem, vector_end_lem, leaf_word, leaf_end_lem, body_end_lem, types_end_lem, types_of, table_of, lengths_of, told_of};
-ghost use Rattle.layout.specs.Legal.{Legal};
-ghost use Rattle.layout.specs.Steps.{Known, leaf_len_lem, sizes_of, Lengthened, Ended, Typed, Tabled};
+ghost use Rattle.standard.specs.Types.{is_width, width, boolean, head, head_all};
+ghost use Rattle.layout.specs.Kinds.{kind_of};
+ghost use Rattle.layout.specs.Tree.{fields, trees, tree_of, len_of, head_of};
+ghost use Rattle.layout.specs.Table.{count, may_name_lem, refs, counted, many, container_end_lem, list_end_lem, vector_end_lem, leaf_word, leaf_end_lem, body_end_lem, types_of, table_of, lengths_of, told_of};
+ghost use Rattle.layout.specs.Steps.{Known, leaf_len_lem, sizes_of, with_len, Typed, Tabled};
 
 use standard::Refusal;
 use standard::words::{four_at, word_at};
@@ -15,12 +15,56 @@ use standard::words::{four_at, word_at};
 // What stands in an option's place where it has no body.
 pub const NO_BODY: usize = 4294967295;
 
+// What a type is, by its kind word: 0 to 9 in this order.
+#[derive(Clone, Copy, Debug, PartialEq, Eq)]
+pub enum Kind {
+    Number,
+    Boolean,
+    FixedBytes,
+    FreeBytes,
+    BitVector,
+    BitList,
+    Container,
+    Union,
+    List,
+    Vector,
+}
+
+impl Kind {
+    // The kind that a kind word names.
+    #[tactic(auto, unfolding(crate::specs::Kinds::kind_of))]
+    pub fn of(word: usize) -> Option<Kind>
+        ensures { result ≡ kind_of word }
+    {
+        match word {
+            0 => Some(Kind::Number),
+            1 => Some(Kind::Boolean),
+            2 => Some(Kind::FixedBytes),
+            3 => Some(Kind::FreeBytes),
+            4 => Some(Kind::BitVector),
+            5 => Some(Kind::BitList),
+            6 => Some(Kind::Container),
+            7 => Some(Kind::Union),
+            8 => Some(Kind::List),
+            9 => Some(Kind::Vector),
+            _ => None,
+        }
+    }
+}
+
 // What a table says of a type: the kind, where the body starts, and the word behind the kind.
-#[derive(Clone, Copy)]
+#[derive(Clone, Copy, Debug, PartialEq, Eq)]
 pub struct Node {
-    pub kind: usize,
+    pub kind: Kind,
     pub at: usize,
     pub second: usize,
+}
+
+// Where a type's body ends, and how long the type is, 0 if it is of variable size.
+#[derive(Clone, Copy)]
+struct Body {
+    end: usize,
+    len: usize,
 }
 
 // Where the words of some fields end, what the fields take of a fixed portion, and how long they are, 0 if one of them is of variable size.
@@ -39,27 +83,6 @@ fn word_in(layout: &[u8], i: usize) -> usize
 {
     let p = 4 * i;
     four_at(&layout[p..p + 4], 0)
-}
-
-fn start_of(layout: &[u8], t: usize) -> usize
-    ensures { (result ≡ word_at layout.now (1 + t)) × (result < 2 ^ 32) }
-{
-    if t < layout.len() {
-        word_at(layout, 1 + t)
-    } else {
-        0
-    }
-}
-
-// What the table says of the type t.
-#[tactic(auto, unfolding(crate::specs::Tree::node_of))]
-fn look(layout: &[u8], t: usize) -> Node
-    ensures { result ≡ node_of layout.now t }
-{
-    let at = start_of(layout, t);
-    let kind = word_at(layout, at);
-    let second = word_at(layout, at + 1);
-    Node { kind, at, second }
 }
 
 // A word names a type below t, or no body where that may be.
@@ -151,128 +174,62 @@ fn width_ok(w: usize) -> bool
 }
 
 // What the word of a leaf must be.
-fn leaf_ok(kind: usize, w: usize) -> bool
+fn leaf_ok(kind: Kind, w: usize) -> bool
     ensures { result ≡ leaf_word kind w }
 {
-    if kind == 0 {
-        return width_ok(w);
+    match kind {
+        Kind::Number => width_ok(w),
+        Kind::FixedBytes | Kind::BitVector => 0 < w,
+        _ => true,
     }
-    if kind == 2 {
-        return 0 < w;
-    }
-    if kind == 4 {
-        return 0 < w;
-    }
-    true
 }
 
-// The fixed length of a type that is no container and no vector.
-#[tactic(auto, unfolding(crate::specs::Tree::leaf_of, standard::specs::Types::head))]
-fn leaf_len(n: Node) -> usize
-    requires { n.second < 2 ^ 32 }
-    ensures { result ≡ leaf_len_lem n }
+// The fixed length of a leaf.
+#[tactic(auto, unfolding(standard::specs::Types::head))]
+fn leaf_len(kind: Kind, w: usize) -> usize
+    requires { w < 2 ^ 32 }
+    ensures { result ≡ leaf_len_lem kind w }
 {
-    if n.kind == 0 {
-        return n.second;
+    match kind {
+        Kind::Number | Kind::FixedBytes => w,
+        Kind::Boolean => 1,
+        Kind::BitVector => (w + 7) / 8,
+        _ => 0,
     }
-    if n.kind == 1 {
-        return 1;
-    }
-    if n.kind == 2 {
-        return n.second;
-    }
-    if n.kind == 4 {
-        return (n.second + 7) / 8;
-    }
-    0
 }
 
-// Remembers the fixed length of the type t, which is no container and no vector.
-fn keep(lens: &mut [u32; 64], t: usize, n: Node)
-    requires { (t < 64) × (n.second < 2 ^ 32) }
-    ensures { lens.new ≡ set lens.old t (leaf_len_lem n) }
-{
-    lens[t] = leaf_len(n) as u32;
-}
-
-// A leaf with one word behind its kind; its length goes to `lens`.
+// A leaf with one word behind its kind.
 #[tactic(auto, unfolding(crate::specs::Table::leaf_end_lem, crate::specs::Table::count))]
-fn leaf_end(
-    lens: &mut [u32; 64],
-    layout: &[u8],
-    t: usize,
-    kind: usize,
-    at: usize,
-) -> Result<usize, Refusal>
-    requires { Known lens.old layout.now t × (t < 64) × (at < 2 ^ 32) × (at ≡ word_at layout.now (1 + t)) × (kind ≡ word_at layout.now at) × (kind < 6) }
-    ensures { Ended layout.now t (leaf_end_lem layout.now at) result lens.new }
+fn leaf_end(layout: &[u8], kind: Kind, at: usize) -> Result<Body, Refusal>
+    requires { at < 2 ^ 32 }
+    ensures { result ≡ with_len (leaf_end_lem kind layout.now at) (leaf_len_lem kind (word_at layout.now (at + 1))) }
 {
     let words = layout.len() / 4;
     let next = at + 1;
     if next >= words {
         return Err(Refusal::BadLayout(words));
     }
-    let second = word_in(layout, next);
-    if !leaf_ok(kind, second) {
+    let w = word_in(layout, next);
+    if !leaf_ok(kind, w) {
         return Err(Refusal::BadLayout(next));
     }
-    let n = Node { kind, at, second };
-    keep(lens, t, n);
-    Ok(next + 1)
-}
-
-// The fixed length of the type t: remembered below `known`, or worked out.
-#[cycle(fields_len_fixed_len_work_out)]
-fn fixed_len(lens: &mut [u32; 64], known: usize, layout: &[u8], t: usize) -> usize
-    requires { Known lens.old layout.now known × Legal layout.now (t + 1) × (t ≤ known) × (t < 64) }
-    ensures { Lengthened layout.now known t result lens.new }
-{
-    if t < known {
-        return lens[t] as usize;
-    }
-    work_out(lens, layout, t)
-}
-
-// The fixed length of the type t, from the lower types that it names, and remembered. Apart from the look at what is remembered, which is
-// then no call.
-#[cycle(fields_len_fixed_len_work_out)]
-fn work_out(lens: &mut [u32; 64], layout: &[u8], t: usize) -> usize
-    requires { Known lens.old layout.now t × Legal layout.now (t + 1) × (t < 64) }
-    ensures { Lengthened layout.now t t result lens.new }
-{
-    let n = look(layout, t);
-    if n.kind == 9 {
-        let count = word_at(layout, n.at + 2);
-        let len = count * fixed_len(lens, t, layout, n.second);
-        lens[t] = len as u32;
-        return len;
-    }
-    if n.kind != 6 {
-        let len = leaf_len(n);
-        lens[t] = len as u32;
-        return len;
-    }
-    let first = n.at + 2;
-    let sizes = fields_len(lens, t, layout, t, first, n.second).unwrap();
-    let len = sizes.length;
-    lens[t] = len as u32;
-    len
+    Ok(Body {
+        end: at + 2,
+        len: leaf_len(kind, w),
+    })
 }
 
 // The n words from a0 on, which are there, name types below t, the fields of type t: their sizes, from their fixed lengths, or the first bad
 // word.
-#[cycle(fields_len_fixed_len_work_out)]
 fn fields_len(
-    lens: &mut [u32; 64],
-    known: usize,
     layout: &[u8],
+    lens: &[u32; 64],
     t: usize,
     a0: usize,
     n: usize,
 ) -> Result<Sizes, Refusal>
-    requires { Known lens.old layout.now known × (t ≤ known) × (n ≤ 64) × (a0 < 2 ^ 62) × (a0 + n ≤ count layout.now) }
-    ensures value { result ≡ sizes_of (refs layout.now t false a0 n) (fields layout.now (trees layout.now t) a0 n) }
-    ensures lens_unchanged { lens.new ≡ lens.old }
+    requires { Known lens.now layout.now t × (n ≤ 64) × (a0 < 2 ^ 62) × (a0 + n ≤ count layout.now) }
+    ensures { result ≡ sizes_of (refs layout.now t false a0 n) (fields layout.now (trees layout.now t) a0 n) }
 {
     let mut a = a0;
     let mut left = n;
@@ -283,7 +240,7 @@ fn fields_len(
         if !may_name(f, t, false) {
             return Err(Refusal::BadLayout(a));
         }
-        let k = fixed_len(lens, known, layout, f);
+        let k = lens[f] as usize;
         if k == 0 {
             fixed = false;
         }
@@ -299,24 +256,26 @@ fn fields_len(
     })
 }
 
-// The container t at the word at: a number of fields, their words, and a fixed portion that fits an offset; its length goes to `lens`.
-#[tactic(auto, using(crate::proofs::Lengths::container_filled), unfolding(crate::specs::Table::container_end_lem, crate::specs::Table::many, crate::specs::Table::counted, crate::specs::Steps::sizes_of))]
-fn container_end(lens: &mut [u32; 64], layout: &[u8], t: usize, at: usize) -> Result<usize, Refusal>
-    requires { Known lens.old layout.now t × (t < 64) × (at < 2 ^ 32) × (at ≡ word_at layout.now (1 + t)) × (word_at layout.now at ≡ 6) }
-    ensures { Ended layout.now t (container_end_lem layout.now t at) result lens.new }
+// The container t at the word at: a number of fields, their words, and a fixed portion that fits an offset.
+#[tactic(auto, unfolding(crate::specs::Table::container_end_lem, crate::specs::Table::many, crate::specs::Table::counted, crate::specs::Steps::sizes_of))]
+fn container_end(layout: &[u8], lens: &[u32; 64], t: usize, at: usize) -> Result<Body, Refusal>
+    requires { Known lens.now layout.now t × (at < 2 ^ 32) }
+    ensures { result ≡ with_len (container_end_lem layout.now t at) (len_of (head_all (fields layout.now (trees layout.now t) (at + 2) (word_at layout.now (at + 1))))) }
 {
     let n = count_at(layout, at, 64)?;
     let first = at + 2;
     // only where a word is missing is each looked for
     if first + n > layout.len() / 4 {
-        return refs_end(layout, t, false, first, n);
+        return Err(refs_end(layout, t, false, first, n).unwrap_err());
     }
-    let sizes = fields_len(lens, t, layout, t, first, n)?;
+    let sizes = fields_len(layout, lens, t, first, n)?;
     if sizes.portion > 4294967295 {
         return Err(Refusal::BadLayout(at));
     }
-    lens[t] = sizes.length as u32;
-    Ok(sizes.end)
+    Ok(Body {
+        end: sizes.end,
+        len: sizes.length,
+    })
 }
 
 // The list t at the word at: its element's type, and any greatest count.
@@ -334,12 +293,12 @@ fn list_end(layout: &[u8], t: usize, at: usize) -> Result<usize, Refusal>
     }
 }
 
-// The vector t at the word at: its element's type, a count of at least 1, and a fixed portion that fits an offset; its length goes to `lens`.
-// An element of variable size has the length 0 there, and so has the vector.
-#[tactic(auto, using(crate::proofs::Lengths::vector_rules), unfolding(crate::specs::Table::vector_end_lem))]
-fn vector_end(lens: &mut [u32; 64], layout: &[u8], t: usize, at: usize) -> Result<usize, Refusal>
-    requires { Known lens.old layout.now t × (t < 64) × (at < 2 ^ 32) × (at ≡ word_at layout.now (1 + t)) × (word_at layout.now at ≡ 9) }
-    ensures { Ended layout.now t (vector_end_lem layout.now t at) result lens.new }
+// The vector t at the word at: its element's type, a count of at least 1, and a fixed portion that fits an offset. An element of variable size
+// has the length 0, and so has the vector.
+#[tactic(auto, unfolding(crate::specs::Table::vector_end_lem))]
+fn vector_end(layout: &[u8], lens: &[u32; 64], t: usize, at: usize) -> Result<Body, Refusal>
+    requires { Known lens.now layout.now t × (at < 2 ^ 32) }
+    ensures { result ≡ with_len (vector_end_lem layout.now t at) (word_at layout.now (at + 2) * len_of (head (get_or (trees layout.now t) (word_at layout.now (at + 1)) (boolean 0)))) }
 {
     refs_end(layout, t, false, at + 1, 1)?;
     let n = count_at(layout, at + 1, 4294967295)?;
@@ -348,43 +307,42 @@ fn vector_end(lens: &mut [u32; 64], layout: &[u8], t: usize, at: usize) -> Resul
     if n * width_of(len) > 4294967295 {
         return Err(Refusal::BadLayout(at));
     }
-    lens[t] = (n * len) as u32;
-    Ok(at + 3)
+    Ok(Body {
+        end: at + 3,
+        len: n * len,
+    })
 }
 
-// Where the body of type t ends, which starts at the word at; its length goes to `lens`.
+// Where the body of type t ends, which starts at the word at, and how long the type is.
 #[tactic(auto, unfolding(crate::specs::Table::body_end_lem, crate::specs::Table::count))]
-fn body_end(lens: &mut [u32; 64], layout: &[u8], t: usize, at: usize) -> Result<usize, Refusal>
-    requires { Known lens.old layout.now t × (t < 64) × (at < 2 ^ 32) × (at ≡ word_at layout.now (1 + t)) }
-    ensures { Ended layout.now t (body_end_lem layout.now t at) result lens.new }
+fn body_end(layout: &[u8], lens: &[u32; 64], t: usize, at: usize) -> Result<Body, Refusal>
+    requires { Known lens.now layout.now t × (at < 2 ^ 32) × (at ≡ word_at layout.now (1 + t)) }
+    ensures { result ≡ with_len (body_end_lem layout.now t at) (len_of (head (tree_of layout.now t))) }
 {
     let words = layout.len() / 4;
     if at >= words {
         return Err(Refusal::BadLayout(words));
     }
-    let kind = word_in(layout, at);
-    if kind == 6 {
-        return container_end(lens, layout, t, at);
+    let Some(kind) = Kind::of(word_in(layout, at)) else {
+        return Err(Refusal::BadLayout(at));
+    };
+    match kind {
+        Kind::Container => container_end(layout, lens, t, at),
+        Kind::Vector => vector_end(layout, lens, t, at),
+        Kind::Union => {
+            let end = union_end(layout, t, at)?;
+            Ok(Body { end, len: 0 })
+        }
+        Kind::List => {
+            let end = list_end(layout, t, at)?;
+            Ok(Body { end, len: 0 })
+        }
+        Kind::Boolean => Ok(Body {
+            end: at + 1,
+            len: 1,
+        }),
+        leaf => leaf_end(layout, leaf, at),
     }
-    if kind == 1 {
-        lens[t] = 1;
-        return Ok(at + 1);
-    }
-    if kind < 6 {
-        return leaf_end(lens, layout, t, kind, at);
-    }
-    if kind == 7 {
-        lens[t] = 0;
-        return union_end(layout, t, at);
-    }
-    if kind == 8 {
-        lens[t] = 0;
-        return list_end(layout, t, at);
-    }
-    if kind == 9 {
-        return vector_end(lens, layout, t, at);
-    }
-    Err(Refusal::BadLayout(at))
 }
 
 // Where the n types end, whose bodies follow the contents; their lengths go to `lens`.
@@ -400,7 +358,9 @@ fn types_end(lens: &mut [u32; 64], layout: &[u8], n: usize) -> Result<usize, Ref
         if w != at {
             return Err(Refusal::BadLayout(next));
         }
-        at = body_end(lens, layout, t, at)?;
+        let body = body_end(layout, lens, t, at)?;
+        lens[t] = body.len as u32;
+        at = body.end;
         t += 1;
     }
     Ok(at)

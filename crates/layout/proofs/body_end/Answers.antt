@@ -1,28 +1,35 @@
--- By the kind; the length of a union or a list is 0, as a leaf's of variable size. Assumes nothing.
-use Rattle.std.proofs.Common.{sym, ◌∙◌, arith}
-use borrow.Author.Tests.{lt-ltb}
-use Rattle.layout.specs.Table.{count, body_end_lem}
-use Rattle.layout.proofs.Lengths.{one_found, none_found, ended}
+-- By the kind. Assumes nothing.
+use Rattle.std.proofs.Common.{◌∙◌}
+use Rattle.layout.specs.Table.{count}
+use Rattle.layout.proofs.Lengths.{rest_leaf, leaf_here, boolean_here, container_here, union_here, list_here, vector_here}
 use Rattle.layout.proofs.body_end.Goals as goal
 
-pub returns-then-kind-eq1 : goal.returns-then-kind-eq1
-unfolding body_end_lem count
-returns-then-kind-eq1 c =
-    let kind = c.word_in-kind.ensures.0 in
-    ended _ _ _ _ _
-    (rw (lt-ltb _ _ c.if-at-words.false, ← kind, c.if-kind-eq1.true))
-    (one_found _ _ _ c.requires.3 _ (sym kind ∙ c.if-kind-eq1.true) c.requires.0.found c.requires.1)
+pub returns-in-Container : goal.returns-in-Container
+unfolding count
+returns-in-Container c =
+    c.container_end.ensures ∙ container_here _ _ _ _ _ c.requires.2 c.if-at-words.false c.word_in.ensures.0 c.in-Some.ensures c.in-Container.is
 
-pub returns-then-kind-eq7 : goal.returns-then-kind-eq7
-unfolding body_end_lem count
-returns-then-kind-eq7 c =
-    ended _ _ _ _ _
-    (rw (lt-ltb _ _ c.if-at-words.false, ← c.word_in-kind.ensures.0, c.if-kind-eq7.true) c.union_end.ensures)
-    (none_found _ _ _ c.requires.3 _ (omega arith) (omega arith) c.requires.0.found c.requires.1)
+pub returns-in-Vector : goal.returns-in-Vector
+unfolding count
+returns-in-Vector c = c.vector_end.ensures ∙ vector_here _ _ _ _ _ c.requires.2 c.if-at-words.false c.word_in.ensures.0 c.in-Some.ensures c.in-Vector.is
 
-pub returns-then-kind-eq8 : goal.returns-then-kind-eq8
-unfolding body_end_lem count
-returns-then-kind-eq8 c =
-    ended _ _ _ _ _
-    (rw (lt-ltb _ _ c.if-at-words.false, ← c.word_in-kind.ensures.0, c.if-kind-eq8.true) c.list_end.ensures)
-    (none_found _ _ _ c.requires.3 _ (omega arith) (omega arith) c.requires.0.found c.requires.1)
+pub returns-in_ok-end-in-Union : goal.returns-in_ok-end-in-Union
+unfolding count
+returns-in_ok-end-in-Union c =
+    union_here _ _ _ _ _ c.requires.2 c.if-at-words.false c.word_in.ensures.0 c.in-Some.ensures _ c.in-Union.is c.in_ok-end-in-Union.ensures
+
+pub returns-in_ok-end-in-List : goal.returns-in_ok-end-in-List
+unfolding count
+returns-in_ok-end-in-List c =
+    list_here _ _ _ _ _ c.requires.2 c.if-at-words.false c.word_in.ensures.0 c.in-Some.ensures _ c.in-List.is c.in_ok-end-in-List.ensures
+
+pub returns-in-Boolean : goal.returns-in-Boolean
+unfolding count
+returns-in-Boolean c = boolean_here _ _ _ _ _ c.requires.2 c.if-at-words.false c.word_in.ensures.0 c.in-Some.ensures c.in-Boolean.is
+
+pub returns-in_default-kind : goal.returns-in_default-kind
+unfolding count
+returns-in_default-kind c =
+    let d = c.in_default-kind in
+    c.leaf_end.ensures ∙ leaf_here _ _ _ _ _ c.requires.2 c.if-at-words.false c.word_in.ensures.0 c.in-Some.ensures
+    (rest_leaf _ d.not-Container d.not-Union d.not-List d.not-Vector) d.not-Boolean

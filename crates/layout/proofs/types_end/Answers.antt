@@ -1,7 +1,8 @@
 -- The types so far are legal, and what is left of the check gives the whole. Assumes nothing.
-use Rattle.std.proofs.Common.{◌≡◌, refl, sym, ◌∙◌, ◌-◌, arith, rules}
+use Rattle.std.proofs.Common.{◌≡◌, sym, ◌∙◌, ◌-◌, arith, rules}
 use Rattle.standard.proofs.Bytes.{bytes-known}
-use Rattle.layout.proofs.Tables.{typed-bad, checking_start, checking_bad, checking_next, checking_end}
+use Rattle.layout.proofs.Tables.{typed-bad, checking_start, checking_bad, checking_small, checking_next, checking_end}
+use Rattle.layout.proofs.Lengths.{found-set, stands, stands-not}
 use Rattle.layout.proofs.types_end.Goals as goal
 
 pub loop-t-init : goal.loop-t-init
@@ -14,18 +15,27 @@ returns-then-w-at c =
     typed-bad _ _ _ _ (checking_start _ _ _ _ _ c.loop-t.invariant c.loop-t-test.true _ c.word_in-w.ensures.0 c.if-w-at.true)
 
 pub body_end-requires : goal.body_end-requires
-body_end-requires c = (c.loop-t.invariant.known, omega arith, omega arith, sym c.if-w-at.false ∙ c.word_in-w.ensures.0)
+body_end-requires c = (c.loop-t.invariant.known, omega arith, sym c.if-w-at.false ∙ c.word_in-w.ensures.0)
 
-pub returns-in_err-at : goal.returns-in_err-at
-returns-in_err-at c =
-    let e = checking_bad _ _ _ _ _ c.loop-t.invariant c.loop-t-test.true _ c.word_in-w.ensures.0 c.if-w-at.false _ c.in_err-at.ensures.gives in
+pub returns-in_err-body : goal.returns-in_err-body
+returns-in_err-body c =
+    let e = checking_bad _ _ _ _ _ c.loop-t.invariant c.loop-t-test.true _ c.word_in-w.ensures.0 c.if-w-at.false _
+    (stands-not _ _ _ c.in_err-body.ensures) in
     record { gives = search rules; found = λ n q. search rules }
+
+pub overflow_cast-lens : goal.overflow_cast-lens
+overflow_cast-lens c =
+    let b = bytes-known _ (λ i. (c.type_inv.layout i).fits) in
+    let s = stands _ _ _ c.in_ok-body.ensures in
+    let m = checking_small _ _ _ _ _ c.loop-t.invariant c.loop-t-test.true _ c.word_in-w.ensures.0 c.if-w-at.false b _ (sym s.ends) _ s.long in
+    omega arith
 
 pub loop-t-preserved : goal.loop-t-preserved
 loop-t-preserved c =
     let b = bytes-known _ (λ i. (c.type_inv.layout i).fits) in
+    let s = stands _ _ _ c.in_ok-body.ensures in
     checking_next _ _ _ _ _ c.loop-t.invariant c.loop-t-test.true _ c.word_in-w.ensures.0 c.if-w-at.false b _
-    c.in_ok-at.ensures.gives _ c.requires.1 (c.in_ok-at.ensures.found _ refl)
+    (sym s.ends) _ c.requires.1 (found-set _ _ _ _ c.loop-t.invariant.known.found (omega arith) s.long)
 
 pub returns : goal.returns
 returns c =
