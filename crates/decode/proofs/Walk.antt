@@ -2,15 +2,15 @@
 use mathlib.Core.Path.{◌≡◌, refl, sym, ap, ◌∙◌}
 use mathlib.Core.List.{List, [], ◌∷◌}
 use mathlib.Core.Bool.{Bool, true, false}
+use mathlib.Core.Logic.{◌⊎◌, inl, inr}
 use Prim.Native.Nat.{ℕ, zero, suc, ◌+◌, ◌-◌, ◌≤◌, ◌<◌, ◌^◌}
-use native.Mathlib.Numerals.{add-one}
-use native.Mathlib.Nat.{sub-zero}
 use native.Mathlib.Omega.{arith}
 use borrow.Author.Tests.{eq-eqb, ne_eqb, eqb-true, ltb-false, leb-true, le-leb}
-use lib.ListN.{length, get_or, drop, drop_of_length-le}
-use lib.Seq.{drop-cons}
+use lib.ListN.{length, get_or, take, drop}
 use lib.Dec.{eqb, ltb, leb}
-use Rattle.standard.specs.Choice.{pick}
+use Rattle.std.specs.Bool.{MatchBool}
+use Rattle.std.specs.List.{AllWithin, HoldsAt}
+use Rattle.standard.specs.Choice.{pick, and_also}
 use Rattle.standard.specs.Bytes.{four}
 use Rattle.standard.specs.Types.{width}
 use Rattle.standard.specs.declared.Head.{Head}
@@ -25,51 +25,63 @@ use Rattle.decode.proofs.Register.{refused_next, past, follow-next, register-ste
 use Rattle.std.specs.declared.result.Result.{Result}
 use Rattle.std.specs.declared.result.Result.TheVariants.{Ok, Err}
 
--- All entries of a record from a place on are zero: one entry, and the rest.
-module _ (a : List ℕ) (i : ℕ) (long : length a ≡ 64) where
-  pub zeros-more : i < 64 → get_or a i 0 ≡ 0 → zeros (drop (i + 1) a) ≡ zeros (drop i a)
-  unfolding zeros
-  zeros-more h e = rw (add-one, drop-cons a i 0 (omega arith), eq-eqb _ _ e)
+follow-alike : (s : Result Progress Refusal) (f g : Progress → Result Progress Refusal) → ((y : Progress) → f y ≡ g y) → follow s f ≡ follow s g
+follow-alike (Ok y) f g h = h y
+follow-alike (Err r) f g h = refl
 
-  pub zeros_stop : i < 64 → (get_or a i 0 ≡ 0 → ⊥) → false ≡ zeros (drop i a)
-  unfolding zeros
-  zeros_stop h e = rw (drop-cons a i 0 (omega arith), ne_eqb _ _ e)
+-- All entries are zero, or one of them is not.
+are-zero : (l : List ℕ) → ((k : ℕ) → k < length l → get_or l k 0 ≡ 0) → true ≡ zeros l
+unfolding zeros
+are-zero [] h = refl
+are-zero (x ∷ xs) h = rw (eq-eqb x 0 (h 0 (omega arith))) (are-zero xs (λ k i. h (suc k) (omega arith)))
 
-  pub zeros-end : 64 ≤ i → true ≡ zeros (drop i a)
-  unfolding zeros
-  zeros-end h =
-      let k : length a ≤ i = omega arith in
-      rw (drop_of_length-le a k)
+not_zero : (l : List ℕ) (k : ℕ) → k < length l → (get_or l k 0 ≡ 0 → ⊥) → false ≡ zeros l
+unfolding zeros
+not_zero [] k i h = absurd (omega arith)
+not_zero (x ∷ xs) zero i h = rw (ne_eqb x 0 h) refl
+not_zero (x ∷ xs) (suc k) i h = rw (← not_zero xs k (omega arith) h) (go (eqb x 0))
+  where
+    go : (c : Bool) → false ≡ and_also c false
+    go true = refl
+    go false = refl
 
--- The first i of n items are walked, which has come to x.
-pub record Walking (ss es : List ℕ) (n : ℕ) (b : List ℕ) (x : Progress) (i : ℕ) : Type 0 where
-  pub within : i ≤ n
-  pub same : walk (drop i ss) (drop i es) (n - i) b x ≡ walk ss es n b fresh
+pub zero-test : (l : List ℕ) (r : Bool) → MatchBool r (AllWithin (λ x. x ≡ 0) l 0 (length l)) ((k : ℕ) × (k < length l) × HoldsAt (λ x. x ≡ 0 → ⊥) l k)
+    → r ≡ zeros l
+zero-test l true h = are-zero l (λ k i. h k 0 (omega arith) i)
+zero-test l false h = not_zero l h.0 h.1 (h.2 0)
 
-pub walking_none : (ss es : List ℕ) (n : ℕ) (b : List ℕ) (x : Progress) → x ≡ fresh → Walking ss es n b x 0
-walking_none ss es n b x e = record { within = omega arith; same = rw (e, sub-zero) }
+-- The front of the record is enough for its items.
+pub walk_front : (ss es : List ℕ) (n : ℕ) (b : List ℕ) (x : Progress) → n ≤ length ss → n ≤ length es
+    → walk (take n ss) (take n es) (length (take n ss)) b x ≡ walk ss es n b x
+unfolding walk
+walk_front ss es zero b x h k = refl
+walk_front [] es (suc n) b x h k = absurd (omega arith)
+walk_front (s ∷ ss) [] (suc n) b x h k = absurd (omega arith)
+walk_front (s ∷ ss) (e ∷ es) (suc n) b x h k = follow-alike (recall s e b x) _ _ (λ (y : Progress). walk_front ss es n b y (omega arith) (omega arith))
 
-module _ (ss es : List ℕ) (n : ℕ) (b : List ℕ) (x : Progress) (i : ℕ) (g : Walking ss es n b x i) where
-  pub walking_all : n ≤ i → Ok x ≡ walk ss es n b fresh
+-- What is left of the items gives, behind the progress x, what they all give.
+pub record Walking (ss es : List ℕ) (b : List ℕ) (x : Progress) (rest_ss rest_es : List ℕ) : Type 0 where
+  pub long : length rest_ss ≡ length rest_es
+  pub same : walk rest_ss rest_es (length rest_ss) b x ≡ walk ss es (length ss) b fresh
+
+module _ (ss es b : List ℕ) (x : Progress) (rs re : List ℕ) (g : Walking ss es b x rs re) where
+  pub walking_all : (rs ≡ []) ⊎ (re ≡ []) → Ok x ≡ walk ss es (length ss) b fresh
   unfolding walk
-  walking_all h =
-      let k : n - i ≡ 0 = omega arith in
-      rw k at g.same
+  walking_all (inl e) = rw e at g.same
+  walking_all (inr e) =
+      let n : length rs ≡ 0 = g.long ∙ ap length e in
+      rw n at g.same
 
-  module _ (h : i < n) (ls : length ss ≡ 64) (le : length es ≡ 64) (small : n ≤ 64) where
-    walk_cons : follow (recall (get_or ss i 0) (get_or es i 0) b x) (walk (drop (suc i) ss) (drop (suc i) es) (n - suc i) b) ≡ walk ss es n b fresh
+  module _ (s e : ℕ) (ss' es' : List ℕ) (p : rs ≡ s ∷ ss') (q : re ≡ e ∷ es') where
+    walk_cons : follow (recall s e b x) (walk ss' es' (length ss') b) ≡ walk ss es (length ss) b fresh
     unfolding walk
-    walk_cons =
-        let k : n - i ≡ suc (n - suc i) = omega arith in
-        let p : i < length ss = omega arith in
-        let q : i < length es = omega arith in
-        rw (drop-cons ss i 0 p, drop-cons es i 0 q, k) at g.same
+    walk_cons = rw (p, q) at g.same
 
-    pub walking_more : (y : Progress) → Ok y ≡ recall (get_or ss i 0) (get_or es i 0) b x → Walking ss es n b y (i + 1)
-    walking_more y e = record { within = omega arith; same = rw (add-one) (rw (← e) at walk_cons) }
+    pub walking_more : (y : Progress) → Ok y ≡ recall s e b x → Walking ss es b y ss' es'
+    walking_more y r = record { long = omega (arith, g.long, ap length p, ap length q); same = rw (← r) at walk_cons }
 
-    pub walking_bad : (r : Refusal) → Err r ≡ recall (get_or ss i 0) (get_or es i 0) b x → Err r ≡ walk ss es n b fresh
-    walking_bad r e = rw (← e) at walk_cons
+    pub walking_bad : (r : Refusal) → Err r ≡ recall s e b x → Err r ≡ walk ss es (length ss) b fresh
+    walking_bad r h = rw (← h) at walk_cons
 
 -- What an accepted item of the record says.
 pub pick_next : (c : Bool) (u : Result Progress Refusal) (y : Progress) → pick c u bad ≡ Ok y → (c ≡ true) × (u ≡ Ok y)
@@ -130,6 +142,22 @@ walk-within (s ∷ ss) (t ∷ es) (suc n) b x y e h =
     let r = recall-says b x q.0 s t q.1 in
     walk-within ss es n b q.0 y q.2 (step-within r.head b x q.0 r.stepped)
 
+-- The test of a state refuses with 23 alone.
+bad-pick : (c : Bool) (u : Result Progress Refusal) (r : Refusal) → (u ≡ Err r → r ≡ BadState) → pick c u bad ≡ Err r → r ≡ BadState
+bad-pick true u r k e = k e
+bad-pick false u r k e = cc e
+
+bad-arrived : (s : Result Progress Refusal) (n : ℕ) (r : Refusal) → arrived s n ≡ Err r → r ≡ BadState
+bad-arrived (Ok y) n r e = bad-pick (eqb y.pos n) (Ok y) r (λ f. refused_next r y (sym f)) e
+bad-arrived (Err q) n r e = cc e
+
+pub recalled_bad : (x : SszDecoderBuilder) (b : List ℕ) (r : Refusal) → recalled x b ≡ Err r → r ≡ BadState
+unfolding recalled
+recalled_bad x b r e =
+    bad-pick (leb x.count 64) _ r
+    (bad-pick (zeros (drop x.count x.starts)) _ r
+    (bad-pick (zeros (drop x.count x.ends)) _ r (bad-arrived (walk x.starts x.ends x.count b fresh) x.pos r))) e
+
 -- What the test of a state says.
 pub record Tested (x : SszDecoderBuilder) (b : List ℕ) (p : Progress) : Type 0 where
   pub few : x.count ≤ 64
@@ -159,6 +187,9 @@ module _ (x : SszDecoderBuilder) (b : List ℕ) (p : Progress) where
   unfolding recalled
   recalled-tested g = rw (le-leb _ _ g.few, g.no-starts, g.no-ends, g.walked, eq-eqb _ _ g.arrives)
 
+  pub recalled_few : recalled x b ≡ Ok p → x.count ≤ 64
+  recalled_few e = (recalled-says e).few
+
   pub recalled_come : recalled x b ≡ Ok p → Come p x b
   recalled_come e =
       let g = recalled-says e in
@@ -174,5 +205,9 @@ unfolding width
 step_pos (Fixed n) b x y e = rw (step-fixed b x y n e).2
 step_pos Variable b x y e = rw (step_variable b x y e).3
 
-pub come_pos : (h : Head) (b : List ℕ) (p q : Progress) (x : SszDecoderBuilder) → Come p x b → step h b p ≡ Ok q → q.pos ≡ x.pos + width h
+come_pos : (h : Head) (b : List ℕ) (p q : Progress) (x : SszDecoderBuilder) → Come p x b → step h b p ≡ Ok q → q.pos ≡ x.pos + width h
 come_pos h b p q x g e = rw (← g.same) (step_pos h b p q e)
+
+pub come_next : (h : Head) (b : List ℕ) (p q : Progress) (x : SszDecoderBuilder) → Come p x b → length b ≤ 4294967295
+    → register_head_lem h b p ≡ Ok q → q.pos ≡ x.pos + width h
+come_next h b p q x g l e = come_pos h b p q x g (come_step h b p x (Ok q) g l (sym e))

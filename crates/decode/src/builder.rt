@@ -6,7 +6,7 @@ use crate::{BYTES_PER_LENGTH_OFFSET, read_offset, sanitize_offset};
 use standard::{Head, Refusal};
 
 // How far registration has come.
-#[derive(Clone, Copy)]
+#[derive(Clone, Copy, Debug, PartialEq, Eq)]
 pub struct Progress {
     pub pos: usize,
     pub first: Option<usize>,
@@ -48,8 +48,7 @@ fn register_variable(x: Progress, bytes: &[u8]) -> Result<Progress, Refusal>
     requires { (x.pos ≤ length bytes.now) × (length bytes.now < 2 ^ 32) }
     ensures { result ≡ step Head.Variable bytes.now x }
 {
-    let read = read_offset(&bytes[x.pos..])?;
-    let offset = sanitize_offset(read, x.previous, bytes.len(), None)?;
+    let offset = sanitize_offset(read_offset(&bytes[x.pos..])?, x.previous, bytes.len(), None)?;
     Ok(Progress {
         pos: x.pos + BYTES_PER_LENGTH_OFFSET,
         first: x.first.or(Some(offset)),

@@ -1,10 +1,9 @@
-// The builder and the reader, as SszDecoderBuilder and SszDecoder of decode.rs have them: plain data by value, over lent bytes. The
-// source's slices are start and end numbers here, at most 64 of each.
-ghost use Rattle.std.specs.Prelude.{◌≡◌, ◌+◌, ◌≤◌, ◌<◌, drop};
+// The builder and the reader, as SszDecoderBuilder and SszDecoder of decode.rs have them: plain data by value, over lent bytes.
+ghost use Rattle.std.specs.Prelude.{◌≡◌, ◌+◌, ◌≤◌, ◌<◌, length};
 ghost use Rattle.standard.specs.Types.{width};
 ghost use Rattle.decode.specs.Builder.{fresh};
 ghost use Rattle.decode.specs.Held.{new, start_of, end_of, put, zeros, recall, walk, arrived, recalled, Come, allowed, register_item, head_for};
-ghost use Rattle.decode.specs.Reader.{closed_end_lem, start_from_lem, close_ends_lem, closable, build_items, item_told_lem, item_of};
+ghost use Rattle.decode.specs.Reader.{close_ends_lem, closable, build_items, item_told_lem, item_of};
 
 use crate::builder::{Progress, finalize, register_head};
 use standard::words::four_at;
@@ -12,9 +11,11 @@ use standard::{Head, Refusal, Refused};
 
 pub const MAX_ITEMS: usize = 64;
 // Stands for the end of a variable item until the container is built. No fixed item can end there.
-pub const OPEN_END: usize = 18446744073709551615;
+// kept: a state as given (operation 52 of docs/CASES.md) holds plain numbers, so an open end is one of them and no `None`.
+pub const OPEN_END: usize = usize::MAX;
 
 // How many items are registered, where the next one's head is, and where each item starts and ends; unused entries are zero.
+// kept: document 01 ("SmallVec of slices becomes start and end numbers in arrays") and operation 52 of docs/CASES.md have two arrays.
 #[derive(Clone, Copy)]
 pub struct SszDecoderBuilder {
     pub count: usize,
@@ -31,18 +32,11 @@ pub struct SszDecoder {
     pub ends: [usize; 64],
 }
 
-// Whether all entries from a place on are zero.
-fn is_zero_from(a: [usize; 64], from: usize) -> bool
-    ensures { result ≡ zeros (drop from a) }
+// Whether all unused entries are zero.
+fn are_zero(unused: &[usize]) -> bool
+    ensures { result ≡ zeros unused.now }
 {
-    let mut i = from;
-    while i < MAX_ITEMS {
-        if a[i] != 0 {
-            return false;
-        }
-        i += 1;
-    }
-    true
+    unused.iter().all(|entry| *entry == 0)
 }
 
 // Registers anew an item that the record tells of.
@@ -50,63 +44,25 @@ fn is_zero_from(a: [usize; 64], from: usize) -> bool
 fn recall_item(x: Progress, start: usize, end: usize, bytes: &[u8]) -> Result<Progress, Refusal>
     ensures { result ≡ recall start end bytes.now x }
 {
-    let pos = x.pos;
-    if end == OPEN_END {
-        if start == four_at(bytes, pos) {
-            return register_head(x, Head::Variable, bytes);
-        }
-        return Err(Refusal::BadState);
+    if end == OPEN_END && start == four_at(bytes, x.pos) {
+        register_head(x, Head::Variable, bytes)
+    } else if end != OPEN_END && start == x.pos && start <= end {
+        register_head(x, Head::Fixed(end - start), bytes)
+    } else {
+        Err(Refusal::BadState)
     }
-    if start != pos {
-        return Err(Refusal::BadState);
-    }
-    if end < start {
-        return Err(Refusal::BadState);
-    }
-    register_head(x, Head::Fixed(end - start), bytes)
 }
 
 // Registers anew all the items that the record tells of.
-fn recall_items(
-    starts: [usize; 64],
-    ends: [usize; 64],
-    count: usize,
-    bytes: &[u8],
-) -> Result<Progress, Refusal>
-    requires { count ≤ 64 }
-    ensures { result ≡ walk starts ends count bytes.now fresh }
+fn recall_items(starts: &[usize], ends: &[usize], bytes: &[u8]) -> Result<Progress, Refusal>
+    requires { length starts.now ≡ length ends.now }
+    ensures { result ≡ walk starts.now ends.now (length starts.now) bytes.now fresh }
 {
     let mut x = Progress::new();
-    let mut i = 0;
-    while i < count {
-        let s = recall_item(x, starts[i], ends[i], bytes);
-        match s {
-            Ok(y) => {
-                x = y;
-            }
-            Err(r) => {
-                return Err(r);
-            }
-        }
-        i += 1;
+    for (start, end) in starts.iter().zip(ends) {
+        x = recall_item(x, *start, *end, bytes)?;
     }
     Ok(x)
-}
-
-// Whether the items have come to the state's own position.
-fn arrive(s: Result<Progress, Refusal>, pos: usize) -> Result<Progress, Refusal>
-    ensures { result ≡ arrived s pos }
-{
-    match s {
-        Ok(x) => {
-            if x.pos == pos {
-                Ok(x)
-            } else {
-                Err(Refusal::BadState)
-            }
-        }
-        Err(_) => Err(Refusal::BadState),
-    }
 }
 
 fn start_of(head: Head, pos: usize, bytes: &[u8]) -> usize
@@ -127,20 +83,6 @@ fn end_of(head: Head, next: usize) -> usize
     }
 }
 
-// An open end is closed where the next variable item starts.
-fn closed_end(end: usize, next: usize) -> usize
-    ensures { result ≡ closed_end_lem end next }
-{
-    if end == OPEN_END { next } else { end }
-}
-
-// Where the items from this one on first have a variable one.
-fn start_from(start: usize, end: usize, next: usize) -> usize
-    ensures { result ≡ start_from_lem start end next }
-{
-    if end == OPEN_END { start } else { next }
-}
-
 // Each variable item ends where the next one starts, the last one at the end of the bytes.
 fn close_ends(starts: [usize; 64], ends: [usize; 64], count: usize, len: usize) -> [usize; 64]
     requires { count ≤ 64 }
@@ -148,12 +90,11 @@ fn close_ends(starts: [usize; 64], ends: [usize; 64], count: usize, len: usize) 
 {
     let mut closed = ends;
     let mut next = len;
-    let mut i = count;
-    while i > 0 {
-        i -= 1;
-        let end = ends[i];
-        closed[i] = closed_end(end, next);
-        next = start_from(starts[i], end, next);
+    for i in (0..count).rev() {
+        if ends[i] == OPEN_END {
+            closed[i] = next;
+            next = starts[i];
+        }
     }
     closed
 }
@@ -171,26 +112,18 @@ impl SszDecoderBuilder {
     }
 
     // How far the registrations over these bytes have come that reach this state; refused if none do.
-    #[tactic(auto, unfolding(crate::specs::Held::recalled))]
+    #[tactic(auto, using(crate::proofs::Walk::walk_front), unfolding(crate::specs::Held::recalled))]
     fn recall(self, bytes: &[u8]) -> Result<Progress, Refusal>
         ensures { result ≡ recalled self bytes.now }
     {
         let count = self.count;
-        if count > MAX_ITEMS {
+        if count > MAX_ITEMS || !are_zero(&self.starts[count..]) || !are_zero(&self.ends[count..]) {
             return Err(Refusal::BadState);
         }
-        let starts = self.starts;
-        let no_starts = is_zero_from(starts, count);
-        if !no_starts {
-            return Err(Refusal::BadState);
+        match recall_items(&self.starts[..count], &self.ends[..count], bytes) {
+            Ok(x) if x.pos == self.pos => Ok(x),
+            _ => Err(Refusal::BadState),
         }
-        let ends = self.ends;
-        let no_ends = is_zero_from(ends, count);
-        if !no_ends {
-            return Err(Refusal::BadState);
-        }
-        let s = recall_items(starts, ends, count, bytes);
-        arrive(s, self.pos)
     }
 
     // What a refusal gives back: the old state.
@@ -208,24 +141,16 @@ impl SszDecoderBuilder {
         requires { (self.count < 64) × (next ≡ self.pos + width head) }
         ensures { result ≡ put head bytes.now self }
     {
-        let count = self.count;
-        let start = start_of(head, self.pos, bytes);
-        let end = end_of(head, next);
-        let mut starts = self.starts;
-        starts[count] = start;
-        let mut ends = self.ends;
-        ends[count] = end;
-        let more = count + 1;
-        SszDecoderBuilder {
-            count: more,
-            pos: next,
-            starts,
-            ends,
-        }
+        let mut state = self;
+        state.starts[self.count] = start_of(head, self.pos, bytes);
+        state.ends[self.count] = end_of(head, next);
+        state.count = self.count + 1;
+        state.pos = next;
+        state
     }
 
     // Registers an item in a state that is reached: 21, 26, then the rules of reading.
-    #[tactic(auto, using(crate::proofs::Walk::come_step, crate::proofs::Walk::come_pos))]
+    #[tactic(auto, using(crate::proofs::Walk::come_step, crate::proofs::Walk::come_next))]
     fn admit(self, x: Progress, head: Head, bytes: &[u8]) -> Result<Self, Refused<Self>>
         requires { Come x self bytes.now }
         ensures { result ≡ allowed x head bytes.now self }
@@ -236,20 +161,16 @@ impl SszDecoderBuilder {
         if self.count >= MAX_ITEMS {
             return Err(self.refused(Refusal::BuilderFull(MAX_ITEMS)));
         }
-        match register_head(x, head, bytes) {
-            Ok(y) => Ok(self.put(head, y.pos, bytes)),
-            Err(r) => Err(self.refused(r)),
-        }
+        let y = register_head(x, head, bytes).map_err(|refusal| self.refused(refusal))?;
+        Ok(self.put(head, y.pos, bytes))
     }
 
-    #[tactic(auto, using(crate::proofs::Walk::recalled_come), unfolding(crate::specs::Held::register_item))]
+    #[tactic(auto, using(crate::proofs::Walk::recalled_come, crate::proofs::Walk::recalled_bad), unfolding(crate::specs::Held::register_item))]
     fn register(self, head: Head, bytes: &[u8]) -> Result<Self, Refused<Self>>
         ensures { result ≡ register_item head bytes.now self }
     {
-        match self.recall(bytes) {
-            Ok(x) => self.admit(x, head, bytes),
-            Err(_) => Err(self.refused(Refusal::BadState)),
-        }
+        let x = self.recall(bytes).map_err(|refusal| self.refused(refusal))?;
+        self.admit(x, head, bytes)
     }
 
     // Registers an item of so many bytes.
@@ -302,14 +223,12 @@ impl SszDecoderBuilder {
     }
 
     // The ranges of all items.
-    #[tactic(auto, unfolding(crate::specs::Reader::build_items))]
+    #[tactic(auto, using(crate::proofs::Walk::recalled_bad, crate::proofs::Walk::recalled_few), unfolding(crate::specs::Reader::build_items))]
     pub fn build(self, bytes: &[u8]) -> Result<SszDecoder, Refusal>
         ensures { result ≡ build_items bytes.now self }
     {
-        match self.recall(bytes) {
-            Ok(x) => self.close(x, bytes),
-            Err(_) => Err(Refusal::BadState),
-        }
+        let x = self.recall(bytes)?;
+        self.close(x, bytes)
     }
 }
 
@@ -319,19 +238,10 @@ impl SszDecoder {
     pub fn item_told(self, index: usize, len: usize) -> Result<(), Refusal>
         ensures { result ≡ item_told_lem self index len }
     {
-        if index >= self.count {
+        if index >= self.count || index >= MAX_ITEMS {
             return Err(Refusal::BadState);
         }
-        if index >= MAX_ITEMS {
-            return Err(Refusal::BadState);
-        }
-        let starts = self.starts;
-        let ends = self.ends;
-        let end = ends[index];
-        if end < starts[index] {
-            return Err(Refusal::BadState);
-        }
-        if end > len {
+        if self.ends[index] < self.starts[index] || self.ends[index] > len {
             return Err(Refusal::BadState);
         }
         Ok(())
@@ -342,15 +252,8 @@ impl SszDecoder {
     pub fn item<'a>(self, index: usize, bytes: &'a [u8]) -> &'a [u8]
         ensures { result.now ≡ item_of self index bytes.now }
     {
-        let told = self.item_told(index, bytes.len());
-        match told {
-            Ok(()) => {
-                let starts = self.starts;
-                let ends = self.ends;
-                let start = starts[index];
-                let end = ends[index];
-                &bytes[start..end]
-            }
+        match self.item_told(index, bytes.len()) {
+            Ok(()) => &bytes[self.starts[index]..self.ends[index]],
             Err(_) => &bytes[..0],
         }
     }

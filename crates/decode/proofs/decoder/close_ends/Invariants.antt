@@ -4,6 +4,3 @@ use Rattle.decode.proofs.decoder.close_ends.Given as goal
 
 abbrev pub invariant-loop-i : goal.invariant-loop-i
 invariant-loop-i l = Closing l.starts l.ends l.count l.len l.closed l.next l.i
-
-abbrev pub decreases-loop-i : goal.decreases-loop-i
-decreases-loop-i l = l.i
