@@ -3,34 +3,26 @@
 
 mod print;
 
-ghost use Rattle.std.specs.Prelude.{◌≡◌, ◌≤◌, length};
+ghost use Rattle.std.specs.Prelude.{◌≤◌, length};
 
-use message::{Listed, list};
+use message::list;
+use print::Listing;
 use std::io::Read;
 use std::rt::Files;
 use std::{fs, io};
 
 // The file and the input have at most so many bytes.
 const LONGEST: usize = 65536;
-
 // Room for one byte more, so that it shows what is longer.
-fn room() -> [u8; 65537]
-    ensures { 65537 ≡ length result }
-{
-    [0; 65537]
-}
+const ROOM: usize = 65537;
 
 // Reads until the room is full, the bytes end or a reading fails, and returns how many bytes there are then.
 fn read_full<R: Read>(reader: &mut R, b: &mut [u8]) -> usize
     ensures { result ≤ length b.new }
 {
     let mut done = 0;
-    while done < b.len() {
-        match reader.read(&mut b[done..]) {
-            Ok(0) => break,
-            Ok(n) => done += n,
-            Err(_) => break,
-        }
+    while let Ok(n @ 1..) = reader.read(&mut b[done..]) {
+        done += n;
     }
     done
 }
@@ -48,30 +40,26 @@ fn read_layout(rt: &impl Files, b: &mut [u8]) -> usize
 // There is room for 4,000 records of 12 bytes.
 fn answer(rt: &impl Print, layout: &[u8], message: &[u8]) -> io::Result<()> {
     let mut records = [0u8; 48000];
-    let listed = list(layout, message, &mut records);
-    match listed {
-        Listed::Records(n) => {
-            let end = 12 * n;
-            print::listing(rt, &records[..end])
-        }
-        Listed::Refused(r, t, start) => print::refusal(rt, r.numbers(), t, start),
+    match list(layout, message, &mut records) {
+        Ok(n) => rt.print(Listing(&records[..12 * n])),
+        Err(e) => print::refusal(rt, e),
     }
 }
 
 // What is too long comes before a layout that is no whole number of words.
 fn run(rt: &impl Print, layout: &[u8], message: &[u8]) -> io::Result<()> {
     if layout.len() > LONGEST || message.len() > LONGEST {
-        print::line(rt, b"too long\n")
+        println!(rt; "too long")
     } else if layout.len() % 4 != 0 {
-        print::line(rt, b"cut word\n")
+        println!(rt; "cut word")
     } else {
         answer(rt, layout, message)
     }
 }
 
 fn main(rt: HostRuntime) -> io::Result<()> {
-    let mut layout = room();
-    let mut message = room();
+    let mut layout = [0u8; ROOM];
+    let mut message = [0u8; ROOM];
     let l = read_layout(&rt, &mut layout);
     let m = read_full(&mut rt.stdin(), &mut message);
     run(&rt, &layout[..l], &message[..m])
