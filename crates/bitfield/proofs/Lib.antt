@@ -13,4 +13,3 @@ pub mod Tolds
 pub mod Results
 pub mod Serial
 pub mod Kept
-pub mod Only

@@ -2,7 +2,7 @@
 use mathlib.Core.Path.{◌≡◌, refl, sym, ap, ◌∙◌}
 use mathlib.Core.List.{List, [], ◌∷◌, ◌++◌, append_assoc}
 use Prim.Native.Nat.{ℕ, zero, suc, ◌+◌, ◌-◌, ◌*◌, ◌/◌, ◌%◌, ◌^◌, ◌<◌, ◌≤◌}
-use native.Mathlib.Nat.{pow-succ', mul-le-mul_left, mul-le-mul_right, one-le-pow}
+use native.Mathlib.Nat.{add_assoc, pow-succ', mul-le-mul_left, mul-le-mul_right, one-le-pow}
 use native.Mathlib.Numerals.{add-one}
 use native.Mathlib.Omega.{arith}
 use borrow.Author.Tests.{eq-eqb, ne_eqb}
@@ -21,39 +21,37 @@ use Rattle.bitfield.proofs.Tops.{byte_at}
 use Rattle.bitfield.proofs.Numbers.{raw-le}
 use Rattle.bitfield.proofs.Places.{num-at, num-set, raw-set}
 
--- Two lists put together, byte by byte
-length-zipped : (f : ℕ → ℕ → ℕ) (xs ys : List ℕ) → length xs ≡ length ys → length (zipped f xs ys) ≡ length xs
-unfolding zipped
-length-zipped f [] ys h = refl
-length-zipped f (x ∷ xs) [] h = sym h
-length-zipped f (x ∷ xs) (y ∷ ys) h = ap suc (length-zipped f xs ys (omega arith))
+pub zeros-at : (n k : ℕ) → ◌≡◌ {A = ℕ} (get_or (replicate n 0) k 0) 0
+zeros-at zero k = refl
+zeros-at (suc n) zero = refl
+zeros-at (suc n) (suc k) = zeros-at n k
 
-zipped_snoc : (f : ℕ → ℕ → ℕ) (xs ys : List ℕ) (x y : ℕ) → length xs ≡ length ys
-    → zipped f (xs ++ (x ∷ [])) (ys ++ (y ∷ [])) ≡ zipped f xs ys ++ (f x y ∷ [])
-unfolding zipped
-zipped_snoc f [] [] x y h = refl
-zipped_snoc f [] (b ∷ ys) x y h = absurd (omega arith)
-zipped_snoc f (a ∷ xs) [] x y h = absurd (omega arith)
-zipped_snoc f (a ∷ xs) (b ∷ ys) x y h = ap (λ (l : List ℕ). f a b ∷ l) (zipped_snoc f xs ys x y (omega arith))
+-- What is said of each byte is said of all: the bytes put together, and zero behind them.
+pub firsts-known : (f : ℕ → ℕ → ℕ) (i : ℕ) (a b o : List ℕ) → i ≤ 256 → length a ≡ 256 → length b ≡ 256 → length o ≡ 256
+    → ((k : ℕ) → k < i → get_or o k 0 ≡ f (get_or a k 0) (get_or b k 0)) → ((k : ℕ) → i ≤ k → get_or o k 0 ≡ 0) → o ≡ firsts f i a b
+unfolding firsts zipped
+firsts-known f i a b o h la lb lo p q = rw (← lo) (all a b o i (rw (la, lo)) (rw (lb, lo)) (rw lo h) p q)
+  where
+    zeros : (o : List ℕ) → ((k : ℕ) → get_or o k 0 ≡ 0) → o ≡ replicate (length o) 0
+    zeros [] q = refl
+    zeros (z ∷ o) q = let e : z ≡ 0 = q 0 in rw e (ap (λ (l : List ℕ). 0 ∷ l) (zeros o (λ (k : ℕ). q (suc k))))
 
-pub firsts-next : (f : ℕ → ℕ → ℕ) (i : ℕ) (a b : List ℕ) → i < 256 → i < length a → i < length b
-    → set (firsts f i a b) i (f (get_or a i 0) (get_or b i 0)) ≡ firsts f (i + 1) a b
-unfolding firsts
-firsts-next f i a b h p q =
-    let la = length-take-le i a (omega arith) in
-    let lb = length-take-le i b (omega arith) in
-    let z = zipped f (take i a) (take i b) in
-    let lz : length z ≡ i = length-zipped f (take i a) (take i b) (la ∙ sym lb) ∙ la in
-    let e : 256 - i ≡ suc (256 - (i + 1)) = omega arith in
-    let s = zipped_snoc f (take i a) (take i b) (get_or a i 0) (get_or b i 0) (la ∙ sym lb) in
-    rw (e, set_at z 0 (replicate (256 - (i + 1)) 0) (f (get_or a i 0) (get_or b i 0)) i lz, add-one i, take-suc a i 0 p, take-suc b i 0 q, s, append_assoc)
-
--- The bytes of a buffer that were put there, and the rest
-pub put_next : (o b l : List ℕ) (i : ℕ) → l ≡ take i b ++ drop i o → i < length b → i < length o
-    → set l i (get_or b i 0) ≡ take (i + 1) b ++ drop (i + 1) o
-put_next o b l i e p q =
-    let lb = length-take-le i b (omega arith) in
-    rw (e, drop-cons o i 0 q, set_at (take i b) (get_or o i 0) (drop (suc i) o) (get_or b i 0) i lb, add-one i, take-suc b i 0 p, append_assoc)
+    all :
+        (a b o : List ℕ) (i : ℕ) → length a ≡ length o → length b ≡ length o → i ≤ length o
+        → ((k : ℕ) → k < i → get_or o k 0 ≡ f (get_or a k 0) (get_or b k 0)) → ((k : ℕ) → i ≤ k → get_or o k 0 ≡ 0)
+        → o ≡ zipped f (take i a) (take i b) ++ replicate (length o - i) 0
+    all a b o zero la lb h p q = let e : length o - 0 ≡ length o = omega arith in rw e (zeros o (λ (k : ℕ). q k (omega arith)))
+    all a b [] (suc i) la lb h p q = absurd (omega arith)
+    all [] b (z ∷ o) (suc i) la lb h p q = absurd (omega arith)
+    all (x ∷ a) [] (z ∷ o) (suc i) la lb h p q = absurd (omega arith)
+    all (x ∷ a) (y ∷ b) (z ∷ o) (suc i) la lb h p q =
+        let e : z ≡ f x y = p 0 (omega arith) in
+        let m : suc (length o) - suc i ≡ length o - i = omega arith in
+        rw (e, m)
+        (ap (λ (l : List ℕ). f x y ∷ l)
+            (all a b o i (omega arith) (omega arith) (omega arith)
+            (λ (k : ℕ) (l : k < i). p (suc k) (omega arith))
+            (λ (k : ℕ) (l : i ≤ k). q (suc k) (omega arith))))
 
 -- "Or" of two numbers is zero exactly if both are.
 or_none : (a b : ℕ) → bit_or a b ≡ 0 → (a ≡ 0) × (b ≡ 0)
@@ -298,18 +296,26 @@ pub ones_none : (n : ℕ) → n ≡ 0 → ones n ≡ 0
 unfolding ones ones_in
 ones_none n e = rw e
 
--- Two halves of four bytes each are a word.
-four-drop : (l : List ℕ) (i : ℕ) → i + 4 ≤ length l → num (drop i l) ≡ four l i + 4294967296 * num (drop (i + 4) l)
-unfolding num_at
-four-drop l i h =
-    let e = num-append (take 4 (drop i l)) (drop 4 (drop i l)) in
-    let m : length (take 4 (drop i l)) ≡ 4 = length-take-le 4 (drop i l) (simp length-drop (omega arith)) in
-    rw (take-append-drop 4 (drop i l), m, drop-drop 4 i l) at e
-
-pub word-halves : (l : List ℕ) (w x y : ℕ) → length l ≡ 256 → w < 32 → (x ≡ four l (8 * w)) × (x < 2 ^ 32) → (y ≡ four l (8 * w + 4)) × (y < 2 ^ 32)
-    → Word l (8 * w) (x + 4294967296 * y)
-word-halves l w x y n h p q =
-    let c : 8 * w + 4 + 4 ≡ 8 * w + 8 = omega arith in
-    let low = four-drop l (8 * w) (omega arith) in
-    let high = rw c at (four-drop l (8 * w + 4) (omega arith)) in
-    record { small = omega arith; says = rw (p.0, q.0) (omega arith) }
+-- Eight bytes, and those behind them
+pub word-bytes : (l : List ℕ) (i x : ℕ) → Bytes l → i + 8 ≤ length l
+    → x ≡ get_or l i 0 + 256 * (get_or l (i + 1) 0 + 256 * (get_or l (i + 2) 0 + 256 * (get_or l (i + 3) 0 + 256 * (get_or l (i + 4) 0
+        + 256 * (get_or l (i + 5) 0 + 256 * (get_or l (i + 6) 0 + 256 * get_or l (i + 7) 0))))))
+    → Word l i x
+word-bytes l i x b h e =
+    let b0 = byte_at l i b in
+    let b1 = byte_at l (i + 1) b in
+    let b2 = byte_at l (i + 2) b in
+    let b3 = byte_at l (i + 3) b in
+    let b4 = byte_at l (i + 4) b in
+    let b5 = byte_at l (i + 5) b in
+    let b6 = byte_at l (i + 6) b in
+    let b7 = byte_at l (i + 7) b in
+    let d0 = byte-drop l i (omega arith) in
+    let d1 = rw (add_assoc i 1 1) at (byte-drop l (i + 1) (omega arith)) in
+    let d2 = rw (add_assoc i 2 1) at (byte-drop l (i + 2) (omega arith)) in
+    let d3 = rw (add_assoc i 3 1) at (byte-drop l (i + 3) (omega arith)) in
+    let d4 = rw (add_assoc i 4 1) at (byte-drop l (i + 4) (omega arith)) in
+    let d5 = rw (add_assoc i 5 1) at (byte-drop l (i + 5) (omega arith)) in
+    let d6 = rw (add_assoc i 6 1) at (byte-drop l (i + 6) (omega arith)) in
+    let d7 = rw (add_assoc i 7 1) at (byte-drop l (i + 7) (omega arith)) in
+    record { small = omega arith; says = omega arith }

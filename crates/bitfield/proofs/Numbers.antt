@@ -4,24 +4,21 @@ use mathlib.Core.List.{List, ◌++◌}
 use Prim.Native.Nat.{ℕ, zero, suc, ◌+◌, ◌-◌, ◌*◌, ◌/◌, ◌%◌, ◌^◌, ◌<◌, ◌≤◌}
 use native.Mathlib.Nat.{pow-succ'}
 use native.Mathlib.Omega.{arith}
-use lib.Bits.{bit_and, and_mod, or_mod, and_shr, or_shr, and_le_l}
+use lib.Bits.{bit_and, bit_or, and_mod, or_mod, and_shr, or_shr, and_le_l}
 use lib.ListN.{take, replicate}
 use Rattle.standard.specs.Bytes.{le, num}
 use Rattle.standard.proofs.Bytes.{le-num}
-use Rattle.bitfield.specs.declared.raw.Op.TheVariants.{And, Or, AndNot, Not}
-use Rattle.bitfield.specs.Raw.{op_of, zipped, firsts, Raw}
+use Rattle.bitfield.specs.Raw.{taken_out, turned, zipped, firsts, Raw}
 
 -- f works on each byte by itself.
 pub record Bytewise (f : ℕ → ℕ → ℕ) : Type 0 where
   pub first : (x y : ℕ) → f x y % 256 ≡ f (x % 256) (y % 256)
   pub rest : (x y : ℕ) → f x y / 256 ≡ f (x / 256) (y / 256)
 
-pub and_bytewise : Bytewise (op_of And)
-unfolding op_of
+pub and_bytewise : Bytewise bit_and
 and_bytewise = record { first = λ x y. and_mod x y 8; rest = λ x y. and_shr x y 8 }
 
-pub or_bytewise : Bytewise (op_of Or)
-unfolding op_of
+pub or_bytewise : Bytewise bit_or
 or_bytewise = record { first = λ x y. or_mod x y 8; rest = λ x y. or_shr x y 8 }
 
 module _ (x y : ℕ) where
@@ -38,8 +35,7 @@ module _ (x y : ℕ) where
   split : ((x - bit_and x y) % 256 ≡ x % 256 - lows) × ((x - bit_and x y) / 256 ≡ x / 256 - highs)
   split = less (bit_and x y) highs lows (and_mod x y 8) (and_shr x y 8) (and_le_l (x % 256) (y % 256)) (and_le_l (x / 256) (y / 256))
 
-pub and_not_bytewise : Bytewise (op_of AndNot)
-unfolding op_of
+pub and_not_bytewise : Bytewise taken_out
 and_not_bytewise = record { first = λ x y. (split x y).0; rest = λ x y. (split x y).1 }
 
 -- Numbers in bytes, byte by byte
@@ -49,8 +45,8 @@ le-zipped f w zero x y = refl
 le-zipped f w (suc n) x y = rw (w.first x y, w.rest x y, le-zipped f w n (x / 256) (y / 256))
 
 -- The complement of n bytes
-pub le_not : (n x y : ℕ) → x < 256 ^ n → zipped (op_of Not) (le n x) (le n y) ≡ le n (256 ^ n - 1 - x)
-unfolding zipped le op_of
+pub le_not : (n x y : ℕ) → x < 256 ^ n → zipped turned (le n x) (le n y) ≡ le n (256 ^ n - 1 - x)
+unfolding zipped le
 le_not zero x y h = refl
 le_not (suc n) x y h =
     let k = rw (pow-succ' 256 n) at h in
@@ -96,12 +92,7 @@ unfolding firsts
 firsts-le f w i a b r s h k =
     rw (first-le a i r h, first-le b i s h, le-zipped f w i (num a) (num b)) (padded i (f (num a) (num b)) h k)
 
-pub firsts_not : (i : ℕ) (a : List ℕ) → Raw a → i ≤ 256 → num a < 256 ^ i → firsts (op_of Not) i a a ≡ le 256 (256 ^ i - 1 - num a)
+pub firsts_not : (i : ℕ) (a : List ℕ) → Raw a → i ≤ 256 → num a < 256 ^ i → firsts turned i a a ≡ le 256 (256 ^ i - 1 - num a)
 unfolding firsts
 firsts_not i a r h k =
     rw (first-le a i r h, le_not i (num a) (num a) k) (padded i (256 ^ i - 1 - num a) h (omega arith))
-
--- One byte more of the loop
-pub firsts-none : (f : ℕ → ℕ → ℕ) (a b : List ℕ) → replicate 256 0 ≡ firsts f 0 a b
-unfolding firsts zipped
-firsts-none f a b = refl

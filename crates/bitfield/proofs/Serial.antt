@@ -12,13 +12,10 @@ use Rattle.standard.specs.Types.{bit_list, bit_vector}
 use Rattle.standard.specs.Serialize.{serialize}
 use Rattle.standard.proofs.Bits.{bits_of, bits_of-bit_num, num-pack, marked-injective, length-bits_of}
 use Rattle.bitfield.specs.Body.{bit_list_body, bytes_for_lem}
-use Rattle.bitfield.specs.Held.{limited, raw_bytes_lem}
-use Rattle.bitfield.specs.declared.BitList.{BitList}
-use Rattle.bitfield.specs.declared.BitVector.{BitVector}
-use Rattle.bitfield.specs.Lists as Lists
-use Rattle.bitfield.specs.Lists.{list_answer, no_list, of_body, list_from_bytes, list_room, list_buffer}
-use Rattle.bitfield.specs.Vectors as Vectors
-use Rattle.bitfield.specs.Vectors.{vector_answer, no_vector, vector_from_bytes, vector_room, vector_buffer}
+use Rattle.bitfield.specs.Held.{held, limited, raw_bytes_lem}
+use Rattle.bitfield.specs.Bitfields.{bits}
+use Rattle.bitfield.specs.Lists.{BitList, of_body, list_from_bytes, list_room, list_buffer}
+use Rattle.bitfield.specs.Vectors.{BitVector, vector_from_bytes, vector_room, vector_buffer}
 use Rattle.bitfield.proofs.Standard.{list-sound, list-complete, vector-complete}
 use Rattle.std.specs.declared.result.Result.{Result}
 use Rattle.std.specs.declared.result.Result.TheVariants.{Ok, Err}
@@ -31,7 +28,7 @@ small n h = rw (le-leb n 2048 h)
 
 -- What into_bytes writes is the serialization, and the rest of the buffer is kept.
 pub list_written : (t limit : ℕ) (a : BitList) (out : List ℕ) → list_room a (length out) ≡ Ok tt
-    → list_buffer a out ≡ serialize (bit_list t limit) (Lists.bits a) ++ drop (length (serialize (bit_list t limit) (Lists.bits a))) out
+    → list_buffer a out ≡ serialize (bit_list t limit) (bits a) ++ drop (length (serialize (bit_list t limit) (bits a))) out
 unfolding list_buffer serialize
 list_written t limit a out e = rw e
 
@@ -39,13 +36,13 @@ pub raw-pack : (bs : List Bool) → 1 ≤ length bs → raw_bytes_lem bs ≡ pac
 unfolding raw_bytes_lem pack
 raw-pack bs h = let e : max 1 (bytes_for_lem (length bs)) ≡ bytes_for_lem (length bs) = omega arith in rw e
 
-pub vector-written : (t n : ℕ) (a : BitVector) (out : List ℕ) → 1 ≤ length (Vectors.bits a) → vector_room a (length out) ≡ Ok tt
-    → vector_buffer a out ≡ serialize (bit_vector t n) (Vectors.bits a) ++ drop (length (serialize (bit_vector t n) (Vectors.bits a))) out
+pub vector-written : (t n : ℕ) (a : BitVector) (out : List ℕ) → 1 ≤ length (bits a) → vector_room a (length out) ≡ Ok tt
+    → vector_buffer a out ≡ serialize (bit_vector t n) (bits a) ++ drop (length (serialize (bit_vector t n) (bits a))) out
 unfolding vector_buffer serialize
-vector-written t n a out h e = rw (e, raw-pack (Vectors.bits a) h)
+vector-written t n a out h e = rw (e, raw-pack (bits a) h)
 
 -- from_bytes reads every serialization of at most N bits, as those bits,
-pub list_read : (t : ℕ) (bs : List Bool) (n : ℕ) → n ≤ 2048 → length bs ≤ n → list_from_bytes (serialize (bit_list t n) bs) n ≡ list_answer (Ok tt) no_list bs n
+pub list_read : (t : ℕ) (bs : List Bool) (n : ℕ) → n ≤ 2048 → length bs ≤ n → list_from_bytes (serialize (bit_list t n) bs) n ≡ Ok (held bs n)
 unfolding list_from_bytes serialize
 list_read t bs n h k =
     let b = list-complete bs n k in
@@ -54,21 +51,21 @@ list_read t bs n h k =
     rw (small n h, b, same)
 
 -- and nothing else.
-from-body : (told : Result ⊤ Refusal) (body : Result ℕ Refusal) (l : List ℕ) (n : ℕ) → (of_body told body l n).told ≡ Ok tt → (k : ℕ) × (body ≡ Ok k)
-from-body (Err x) body l n e = let w : ◌≡◌ {A = ℕ} 0 1 = cc in absurd (omega arith)
-from-body (Ok tt) (Err x) l n e = let w : ◌≡◌ {A = ℕ} 0 1 = cc in absurd (omega arith)
-from-body (Ok tt) (Ok k) l n e = (k, refl)
+from-body : (told : Result ⊤ Refusal) (body : Result ℕ Refusal) (l : List ℕ) (n : ℕ) (a : BitList) → of_body told body l n ≡ Ok a → (k : ℕ) × (body ≡ Ok k)
+from-body (Err x) body l n a e = let w : ◌≡◌ {A = ℕ} 0 1 = cc in absurd (omega arith)
+from-body (Ok tt) (Err x) l n a e = let w : ◌≡◌ {A = ℕ} 0 1 = cc in absurd (omega arith)
+from-body (Ok tt) (Ok k) l n a e = (k, refl)
 
-pub list_read_only : (t : ℕ) (l : List ℕ) (n : ℕ) → Bytes l → (list_from_bytes l n).told ≡ Ok tt
+pub list_read_only : (t : ℕ) (l : List ℕ) (n : ℕ) (a : BitList) → Bytes l → list_from_bytes l n ≡ Ok a
     → (bs : List Bool) × (serialize (bit_list t n) bs ≡ l) × (length bs ≤ n)
 unfolding list_from_bytes serialize
-list_read_only t l n b e =
-    let k = from-body (limited n) (bit_list_body l n) l n e in
+list_read_only t l n a b e =
+    let k = from-body (limited n) (bit_list_body l n) l n a e in
     let s = list-sound l n k.0 b k.1 in
     (bits_of k.0 (num l), s.0, rw (length-bits_of k.0 (num l)) s.1)
 
 pub vector-read : (t : ℕ) (bs : List Bool) → 1 ≤ length bs → length bs ≤ 2048
-    → vector_from_bytes (serialize (bit_vector t (length bs)) bs) (length bs) ≡ vector_answer (Ok tt) no_vector bs (length bs)
+    → vector_from_bytes (serialize (bit_vector t (length bs)) bs) (length bs) ≡ Ok (held bs (length bs))
 unfolding vector_from_bytes serialize
 vector-read t bs h k =
     let same : bits_of (length bs) (num (pack bs)) ≡ bs = rw (num-pack bs) (bits_of-bit_num bs) in

@@ -1,11 +1,12 @@
 -- Bits and the bytes that hold them: one tie in both directions, and each operation as a law about bits and one about bytes. Assumes nothing.
 use mathlib.Core.Path.{◌≡◌, refl, sym, ap, ◌∙◌}
-use mathlib.Core.List.{List, [], ◌∷◌}
+use mathlib.Core.List.{List, [], ◌∷◌, ◌++◌}
 use mathlib.Core.Bool.{Bool, false}
-use Prim.Native.Nat.{ℕ, zero, suc, ◌+◌, ◌-◌, ◌*◌, ◌/◌, ◌%◌, ◌^◌, ◌<◌, ◌≤◌}
+use Prim.Native.Nat.{ℕ, zero, suc, ◌+◌, ◌-◌, ◌*◌, ◌/◌, ◌%◌, ◌^◌, ◌<◌, ◌≤◌, min, max}
 use native.Mathlib.Nat.{lt_of_lt_of_le, mod-eq_of_lt, mod-lt, pow-le-pow_right, pow-suc, one-le-pow, add-zero}
 use native.Mathlib.Omega.{arith}
 use lib.Arith.{digits_mod, mod-mul}
+use lib.Bits.{bit_and, bit_or}
 use lib.Count.{ones}
 use lib.Dec.{eqb}
 use lib.Pow.{pow_pos, pow_mono, pow-add}
@@ -15,14 +16,12 @@ use Rattle.standard.specs.Bytes.{Bytes, le, num}
 use Rattle.standard.specs.Bits.{bit, bit_num, packs}
 use Rattle.standard.proofs.Bytes.{length-le, bytes_le, num-le}
 use Rattle.standard.proofs.Bits.{bits_of, length-bits_of, bit_num-bits_of, bit_num-low, bits_of-bit_num, bit_num-bound, packs-le, pow_bytes, num-packs}
-use Rattle.bitfield.specs.declared.raw.Op.{Op}
-use Rattle.bitfield.specs.declared.raw.Op.TheVariants.{And, Or, AndNot, Not}
-use Rattle.bitfield.specs.declared.Field.{Field}
+use Rattle.bitfield.specs.declared.Bitfield.{Bitfield}
 use Rattle.bitfield.specs.Body.{bytes_for_lem, highest}
-use Rattle.bitfield.specs.Bools.{without, no_bits, moved, widened, count, none_set}
-use Rattle.bitfield.specs.Raw.{op_of, keep, zipped, firsts, Raw}
+use Rattle.bitfield.specs.Bools.{both, either, without, flipped, no_bits, moved, widened, count, none_set}
+use Rattle.bitfield.specs.Raw.{taken_out, turned, firsts, Raw}
 use Rattle.bitfield.specs.Facts.{Kept, Put, Used, TopOf}
-use Rattle.bitfield.specs.Held.{bits_in, held, op_bits, op_length, merged}
+use Rattle.bitfield.specs.Held.{bits_in, of_parts, held}
 use Rattle.bitfield.proofs.Bools as Bools
 use Rattle.bitfield.proofs.Bodies.{cut_below}
 use Rattle.bitfield.proofs.Tops.{highest-none, highest-at, top_number}
@@ -58,9 +57,9 @@ unfolding bits_in
 packs-bits bs h = rw (num-packs 256 bs h) (bits_of-bit_num bs)
 
 -- Bytes that say the number of some bits hold those bits.
-pub as_held : (bs : List Bool) (l : List ℕ) (len : ℕ) → l ≡ le 256 (bit_num bs) → len ≡ length bs → record { bytes = l; len = len } ≡ held bs
+pub as_held : {T : Type 0} (bs : List Bool) (l : List ℕ) (len n : ℕ) → l ≡ le 256 (bit_num bs) → len ≡ length bs → of_parts {T = T} l len n ≡ held bs n
 unfolding held
-as_held bs l len e h = rw (e, h, ← packs-le 256 bs)
+as_held bs l len n e h = rw (e, h, ← packs-le 256 bs)
 
 -- Numbers below the end fit the bytes in use.
 in_use : (len : ℕ) → 2 ^ len ≤ 256 ^ bytes_for_lem len
@@ -75,117 +74,29 @@ use-bound len h = omega arith
 all-bytes : (len z : ℕ) → len ≤ 2048 → z < 256 ^ bytes_for_lem len → num (le 256 z) ≡ z
 all-bytes len z h b = num-le 256 z (lt_of_lt_of_le b (pow-le-pow_right {n = 256} (omega arith) (use-bound len h)))
 
--- Two fields put together by bytes: before the last byte is cut, and after
-pub record Merged (op : Op) (a : List ℕ) (la : ℕ) (b : List ℕ) (lb z : ℕ) : Type 0 where
-  pub bytes : firsts (op_of op) (bytes_for_lem (op_length op la lb)) a b ≡ le 256 z
-  pub small : z < 256 ^ bytes_for_lem (op_length op la lb)
-  pub number : z % 2 ^ op_length op la lb ≡ bit_num (op_bits op (bits_in a la) (bits_in b lb))
-  pub count : length (op_bits op (bits_in a la) (bits_in b lb)) ≡ op_length op la lb
+-- Two bitfields put together by all of their bytes, by an operation that works on each byte by itself: the bits' law and the bytes' law
+module _ (f : ℕ → ℕ → ℕ) (w : Bytewise f) (op : List Bool → List Bool → List Bool) (many : ℕ → ℕ → ℕ)
+    (law : (xs ys : List Bool) → bit_num (op xs ys) ≡ f (bit_num xs) (bit_num ys))
+    (count : (xs ys : List Bool) → length (op xs ys) ≡ many (length xs) (length ys)) where
+  whole : {T : Type 0} (a : List ℕ) (la : ℕ) (b : List ℕ) (lb n : ℕ) → Kept a la → Kept b lb → many la lb ≤ 2048
+      → of_parts {T = T} (firsts f 256 a b) (many la lb) n ≡ held (op (bits_in a la) (bits_in b lb)) n
+  whole a la b lb n ka kb h =
+      let number : bit_num (op (bits_in a la) (bits_in b lb)) ≡ f (num a) (num b) =
+      rw (law (bits_in a la) (bits_in b lb), bits-number a la ka, bits-number b lb kb) in
+      let long : length (op (bits_in a la) (bits_in b lb)) ≡ many la lb = rw (count (bits_in a la) (bits_in b lb), bits-length a la, bits-length b lb) in
+      let small = rw (number, long) at (bit_num-bound (op (bits_in a la) (bits_in b lb))) in
+      let fits = fits_in 256 _ _ h small in
+      as_held _ _ _ n (firsts-le f w 256 a b ka.raw kb.raw (omega arith) fits ∙ ap (le 256) (sym number)) (sym long)
 
-module _ (op : Op) (w : Bytewise (op_of op))
-    (law : (xs ys : List Bool) → bit_num (op_bits op xs ys) ≡ op_of op (bit_num xs) (bit_num ys))
-    (count : (xs ys : List Bool) → length (op_bits op xs ys) ≡ op_length op (length xs) (length ys)) where
-  -- the bits' law and the bytes' law, over any operation that works on each byte by itself
-  module _ (a : List ℕ) (la : ℕ) (b : List ℕ) (lb : ℕ) (ka : Kept a la) (kb : Kept b lb) where
-    op_number : bit_num (op_bits op (bits_in a la) (bits_in b lb)) ≡ op_of op (num a) (num b)
-    op_number = rw (law (bits_in a la) (bits_in b lb), bits-number a la ka, bits-number b lb kb)
+module _ {T : Type 0} (a : List ℕ) (la : ℕ) (b : List ℕ) (lb n : ℕ) (ka : Kept a la) (kb : Kept b lb) where
+  pub both-held : of_parts {T = T} (firsts bit_and 256 a b) (min la lb) n ≡ held (both (bits_in a la) (bits_in b lb)) n
+  both-held = whole bit_and and_bytewise both min Bools.bit_num-both Bools.length_both a la b lb n ka kb (omega (arith, ka.few, kb.few))
 
-    op_count : length (op_bits op (bits_in a la) (bits_in b lb)) ≡ op_length op la lb
-    op_count = rw (count (bits_in a la) (bits_in b lb), bits-length a la, bits-length b lb)
+  pub either-held : of_parts {T = T} (firsts bit_or 256 a b) (max la lb) n ≡ held (either (bits_in a la) (bits_in b lb)) n
+  either-held = whole bit_or or_bytewise either max Bools.bit_num-either Bools.length-either a la b lb n ka kb (omega (arith, ka.few, kb.few))
 
-    op_small : op_of op (num a) (num b) < 2 ^ op_length op la lb
-    op_small = rw (op_number, op_count) at (bit_num-bound (op_bits op (bits_in a la) (bits_in b lb)))
-
-    by_bytes : op_length op la lb ≤ 2048 → Merged op a la b lb (op_of op (num a) (num b))
-    by_bytes h =
-        let small = op_small in
-        let m = in_use (op_length op la lb) in
-        let fits : op_of op (num a) (num b) < 256 ^ bytes_for_lem (op_length op la lb) = omega arith in
-        record {
-          bytes = firsts-le (op_of op) w (bytes_for_lem (op_length op la lb)) a b ka.raw kb.raw (use-bound _ h) fits;
-          small = fits;
-          number = mod-eq_of_lt small ∙ sym op_number;
-          count = op_count;
-        }
-
-    -- all 256 bytes put together need no cut
-    all-bytes-held : op_length op la lb ≤ 2048 → merged op a la b lb ≡ held (op_bits op (bits_in a la) (bits_in b lb))
-    all-bytes-held h =
-        let fits = fits_in 256 _ _ h op_small in
-        as_held _ _ _ (firsts-le (op_of op) w 256 a b ka.raw kb.raw (omega arith) fits ∙ ap (le 256) (sym op_number)) (sym op_count)
-
-not_merged : (a : List ℕ) (la : ℕ) (b : List ℕ) (lb : ℕ) → Kept a la → firsts (op_of Not) (bytes_for_lem la) a b ≡ firsts (op_of Not) (bytes_for_lem la) a a
-    → Merged Not a la b lb (256 ^ bytes_for_lem la - 1 - num a)
-unfolding op_length op_bits
-not_merged a la b lb ka same =
-    let xs = bits_in a la in
-    let f = Bools.bit_num-flipped xs in
-    let g = rw (bits-number a la ka, bits-length a la) at f in
-    let s = ka.small in
-    let m = in_use la in
-    let p = pow_pos la in
-    let e : 256 ^ bytes_for_lem la ≡ 2 ^ (8 * bytes_for_lem la - la) * 2 ^ la =
-    rw (pow_bytes (bytes_for_lem la), ← pow-add 2 (8 * bytes_for_lem la - la) la) (ap (λ (n : ℕ). 2 ^ n) (omega arith)) in
-    record {
-      bytes = same ∙ firsts_not (bytes_for_lem la) a ka.raw (use-bound la ka.few) (omega arith);
-      small = omega arith;
-      number = rest (2 ^ (8 * bytes_for_lem la - la)) (2 ^ la) (num a) _ (256 ^ bytes_for_lem la) (pow_pos (8 * bytes_for_lem la - la)) e g;
-      count = Bools.length-flipped xs ∙ bits-length a la;
-    }
-  where
-    rest : (q p x y u : ℕ) → 0 < q → u ≡ q * p → y + x + 1 ≡ p → (u - 1 - x) % p ≡ y
-    rest zero p x y u h e f = absurd (omega arith)
-    rest (suc q) p x y u h e f =
-        let d : u - 1 - x ≡ q * p + y = omega arith in
-        rw d (digits_mod q (omega arith))
-
--- The complement does not look at the second field.
-alone : (xs ys : List ℕ) → length xs ≡ length ys → zipped (op_of Not) xs ys ≡ zipped (op_of Not) xs xs
-unfolding zipped op_of
-alone [] ys h = refl
-alone (x ∷ xs) [] h = absurd (omega arith)
-alone (x ∷ xs) (y ∷ ys) h = ap (λ (l : List ℕ). (255 - x) ∷ l) (alone xs ys (omega arith))
-
-not_alone : (i : ℕ) (a b : List ℕ) → length a ≡ length b → firsts (op_of Not) i a b ≡ firsts (op_of Not) i a a
-unfolding firsts
-not_alone i a b h =
-    let e : length (take i a) ≡ length (take i b) = rw (length-take i a, length-take i b, h) in
-    rw (alone (take i a) (take i b) e)
-
-merged-all : (op : Op) (a : List ℕ) (la : ℕ) (b : List ℕ) (lb : ℕ) → Kept a la → Kept b lb → (z : ℕ) × Merged op a la b lb z
-unfolding op_bits op_length op_of
-merged-all And a la b lb ka kb =
-    (_, by_bytes And and_bytewise Bools.bit_num-both Bools.length_both a la b lb ka kb (omega (arith, ka.few, kb.few)))
-merged-all Or a la b lb ka kb =
-    (_, by_bytes Or or_bytewise Bools.bit_num-either Bools.length-either a la b lb ka kb (omega (arith, ka.few, kb.few)))
-merged-all AndNot a la b lb ka kb =
-    (_, by_bytes AndNot and_not_bytewise Bools.bit_num-without Bools.length_without a la b lb ka kb ka.few)
-merged-all Not a la b lb ka kb =
-    (_, not_merged a la b lb ka (not_alone (bytes_for_lem la) a b (ka.raw.long ∙ sym kb.raw.long)))
-
-pub few-merged : (op : Op) (la lb : ℕ) → la ≤ 2048 → lb ≤ 2048 → op_length op la lb ≤ 2048
-unfolding op_length
-few-merged And la lb h k = omega arith
-few-merged Or la lb h k = omega arith
-few-merged AndNot la lb h k = h
-few-merged Not la lb h k = h
-
--- An operation on all 256 bytes of two well formed fields is the operation on their bits.
-abbrev pub Whole : Op → Type 0
-Whole op = (a : List ℕ) (la : ℕ) (b : List ℕ) (lb : ℕ) → Kept a la → Kept b lb → merged op a la b lb ≡ held (op_bits op (bits_in a la) (bits_in b lb))
-
-pub and_whole : Whole And
-unfolding op_bits op_length op_of
-and_whole a la b lb ka kb = all-bytes-held And and_bytewise Bools.bit_num-both Bools.length_both a la b lb ka kb (few-merged And la lb ka.few kb.few)
-
-pub or_whole : Whole Or
-unfolding op_bits op_length op_of
-or_whole a la b lb ka kb = all-bytes-held Or or_bytewise Bools.bit_num-either Bools.length-either a la b lb ka kb (few-merged Or la lb ka.few kb.few)
-
-pub and_not_whole : Whole AndNot
-unfolding op_bits op_length op_of
-and_not_whole a la b lb ka kb =
-    all-bytes-held AndNot and_not_bytewise Bools.bit_num-without Bools.length_without a la b lb ka kb (few-merged AndNot la lb ka.few kb.few)
+  pub without-held : of_parts {T = T} (firsts taken_out 256 a b) la n ≡ held (without (bits_in a la) (bits_in b lb)) n
+  without-held = whole taken_out and_not_bytewise without (λ n m. n) Bools.bit_num-without Bools.length_without a la b lb n ka kb ka.few
 
 -- What the last byte's cut asks of a number in bytes, and what it gives
 pub record Cuttable (l : List ℕ) (len : ℕ) : Type 0 where
@@ -200,29 +111,48 @@ cuttable l len z h e b =
 cut-number : (l : List ℕ) (len z : ℕ) → len ≤ 2048 → l ≡ le 256 z → z < 256 ^ bytes_for_lem len → num l ≡ z
 cut-number l len z h e b = ap num e ∙ all-bytes len z h b
 
-module _ (op : Op) (a : List ℕ) (la : ℕ) (b : List ℕ) (lb : ℕ) (ka : Kept a la) (kb : Kept b lb) where
-  pub merged-cuttable : Cuttable (firsts (op_of op) (bytes_for_lem (op_length op la lb)) a b) (op_length op la lb)
-  merged-cuttable =
-      let m = merged-all op a la b lb ka kb in
-      cuttable _ (op_length op la lb) m.0 (few-merged op la lb ka.few kb.few) m.1.bytes m.1.small
+-- The complement of the bytes in use, and of the bits: what the last byte has behind the end is cut.
+turned_small : (a : List ℕ) (len : ℕ) → Kept a len → 256 ^ bytes_for_lem len - 1 - num a < 256 ^ bytes_for_lem len
+turned_small a len k = let p = one-le-pow (bytes_for_lem len) 256 (omega arith) in omega arith
 
-  pub merged-held : (l : List ℕ) → l ≡ le 256 (num (firsts (op_of op) (bytes_for_lem (op_length op la lb)) a b) % 2 ^ op_length op la lb)
-      → record { bytes = l; len = op_length op la lb } ≡ held (op_bits op (bits_in a la) (bits_in b lb))
-  merged-held l e =
-      let m = merged-all op a la b lb ka kb in
-      let n = cut-number _ (op_length op la lb) m.0 (few-merged op la lb ka.few kb.few) m.1.bytes m.1.small in
-      as_held _ l _ (e ∙ ap (λ (z : ℕ). le 256 (z % 2 ^ op_length op la lb)) n ∙ ap (le 256) m.1.number) (sym m.1.count)
+turned-bytes : (a : List ℕ) (len : ℕ) → Kept a len → firsts turned (bytes_for_lem len) a a ≡ le 256 (256 ^ bytes_for_lem len - 1 - num a)
+turned-bytes a len k =
+    let s = k.small in
+    let m = in_use len in
+    firsts_not (bytes_for_lem len) a k.raw (use-bound len k.few) (omega arith)
+
+pub turned-cuttable : (a : List ℕ) (len : ℕ) → Kept a len → Cuttable (firsts turned (bytes_for_lem len) a a) len
+turned-cuttable a len k = cuttable _ len _ k.few (turned-bytes a len k) (turned_small a len k)
+
+pub turned-held : {T : Type 0} (a l : List ℕ) (len n : ℕ) → Kept a len → l ≡ le 256 (num (firsts turned (bytes_for_lem len) a a) % 2 ^ len)
+    → of_parts {T = T} l len n ≡ held (flipped (bits_in a len)) n
+turned-held a l len n k e =
+    let xs = bits_in a len in
+    let f = Bools.bit_num-flipped xs in
+    let g = rw (bits-number a len k, bits-length a len) at f in
+    let m = cut-number _ len _ k.few (turned-bytes a len k) (turned_small a len k) in
+    let p : 256 ^ bytes_for_lem len ≡ 2 ^ (8 * bytes_for_lem len - len) * 2 ^ len =
+    rw (pow_bytes (bytes_for_lem len), ← pow-add 2 (8 * bytes_for_lem len - len) len) (ap (λ (n : ℕ). 2 ^ n) (omega arith)) in
+    let q : (256 ^ bytes_for_lem len - 1 - num a) % 2 ^ len ≡ bit_num (flipped xs) =
+    rest (2 ^ (8 * bytes_for_lem len - len)) (2 ^ len) (num a) _ (256 ^ bytes_for_lem len) (pow_pos (8 * bytes_for_lem len - len)) p g in
+    as_held _ l len n (e ∙ ap (λ (z : ℕ). le 256 (z % 2 ^ len)) m ∙ ap (le 256) q) (sym (Bools.length-flipped xs ∙ bits-length a len))
+  where
+    rest : (q p x y u : ℕ) → 0 < q → u ≡ q * p → y + x + 1 ≡ p → (u - 1 - x) % p ≡ y
+    rest zero p x y u h e f = absurd (omega arith)
+    rest (suc q) p x y u h e f =
+        let d : u - 1 - x ≡ q * p + y = omega arith in
+        rw d (digits_mod q (omega arith))
 
 -- No bits
-pub zeros-held : (len : ℕ) → record { bytes = replicate 256 0; len = len } ≡ held (no_bits len)
-zeros-held len =
-    as_held (no_bits len) (replicate 256 0) len (sym (le-zero 256) ∙ ap (le 256) (sym (Bools.bit_num-no_bits len))) (sym (length-replicate len false))
+pub zeros-held : {T : Type 0} (len n : ℕ) → of_parts {T = T} (replicate 256 0) len n ≡ held (no_bits len) n
+zeros-held len n =
+    as_held (no_bits len) (replicate 256 0) len n (sym (le-zero 256) ∙ ap (le 256) (sym (Bools.bit_num-no_bits len))) (sym (length-replicate len false))
 
-pub wider_held : (a : List ℕ) (len m : ℕ) → Kept a len → len ≤ m → record { bytes = a; len = m } ≡ held (widened m (bits_in a len))
+pub wider_held : {T : Type 0} (a : List ℕ) (len m : ℕ) → Kept a len → len ≤ m → of_parts {T = T} a m m ≡ held (widened m (bits_in a len)) m
 wider_held a len m k h =
     let e : bit_num (widened m (bits_in a len)) ≡ num a = Bools.bit_num-widened m (bits_in a len) ∙ bits-number a len k in
     let l : length (bits_in a len) ≤ m = rw (bits-length a len) h in
-    as_held _ a m (raw-le a k.raw ∙ ap (le 256) (sym e)) (sym (Bools.length-widened m (bits_in a len) l))
+    as_held _ a m m (raw-le a k.raw ∙ ap (le 256) (sym e)) (sym (Bools.length-widened m (bits_in a len) l))
 
 -- Cut twice is cut once.
 cut_twice : (x len : ℕ) → x % 256 ^ bytes_for_lem len % 2 ^ len ≡ x % 2 ^ len
@@ -241,12 +171,12 @@ part_cut l m len x h e c =
     let n = cut-number l len (x % 256 ^ bytes_for_lem len) h e (cut-bound x len) in
     c ∙ ap (λ (z : ℕ). le 256 (z % 2 ^ len)) n ∙ ap (le 256) (cut_twice x len)
 
-pub moved-held : (a l m : List ℕ) (len n : ℕ) → Kept a len → l ≡ le 256 ((num a * 2 ^ n) % 256 ^ bytes_for_lem len) → m ≡ le 256 (num l % 2 ^ len)
-    → record { bytes = m; len = len } ≡ held (moved n (bits_in a len))
-moved-held a l m len n k e c =
-    let b : bit_num (moved n (bits_in a len)) ≡ (num a * 2 ^ n) % 2 ^ len =
-    Bools.bit_num-moved n (bits_in a len) ∙ rw (bits-number a len k, bits-length a len) in
-    as_held _ m len (part_cut l m len (num a * 2 ^ n) k.few e c ∙ ap (le 256) (sym b)) (sym (Bools.length_moved n (bits_in a len) ∙ bits-length a len))
+pub moved-held : {T : Type 0} (a l m : List ℕ) (len i n : ℕ) → Kept a len → l ≡ le 256 ((num a * 2 ^ i) % 256 ^ bytes_for_lem len)
+    → m ≡ le 256 (num l % 2 ^ len) → of_parts {T = T} m len n ≡ held (moved i (bits_in a len)) n
+moved-held a l m len i n k e c =
+    let b : bit_num (moved i (bits_in a len)) ≡ (num a * 2 ^ i) % 2 ^ len =
+    Bools.bit_num-moved i (bits_in a len) ∙ rw (bits-number a len k, bits-length a len) in
+    as_held _ m len n (part_cut l m len (num a * 2 ^ i) k.few e c ∙ ap (le 256) (sym b)) (sym (Bools.length_moved i (bits_in a len) ∙ bits-length a len))
 
 -- The first bytes of a slice
 pub take-number : (i : ℕ) (l : List ℕ) → Bytes l → i ≤ length l → take i l ≡ le i (num l)
@@ -257,11 +187,6 @@ take-number (suc i) (x ∷ xs) b h =
     let lo : (x + 256 * num xs) % 256 ≡ x = omega (arith, b.0) in
     let hi : (x + 256 * num xs) / 256 ≡ num xs = omega (arith, b.0) in
     rw (lo, hi, take-number i xs b.1 (omega arith))
-
-zipped-keep : (l : List ℕ) → zipped keep l l ≡ l
-unfolding zipped
-zipped-keep [] = refl
-zipped-keep (x ∷ xs) = ap (λ (t : List ℕ). x ∷ t) (zipped-keep xs)
 
 pub le-cut : (i z : ℕ) → le i (z % 256 ^ i) ≡ le i z
 unfolding le
@@ -274,18 +199,18 @@ le-cut (suc i) z =
     let hi : ((z / 256 % 256 ^ i) * 256 + z % 256) / 256 ≡ z / 256 % 256 ^ i = omega arith in
     rw (e, lo, hi, le-cut i (z / 256))
 
-pub copy_number : (i : ℕ) (l : List ℕ) → Bytes l → i ≤ 256 → i ≤ length l → firsts keep i l l ≡ le 256 (num l % 256 ^ i)
-unfolding firsts
+pub copy_number : (i : ℕ) (l : List ℕ) → Bytes l → i ≤ 256 → i ≤ length l → take i l ++ replicate (256 - i) 0 ≡ le 256 (num l % 256 ^ i)
 copy_number i l b h k =
     let e : i + (256 - i) ≡ 256 = omega arith in
     let s = le-short i (256 - i) (num l % 256 ^ i) (mod-lt (num l) (one-le-pow i 256 (omega arith))) in
-    rw (zipped-keep (take i l), take-number i l b k, ← le-cut i (num l)) (sym s ∙ ap (λ (n : ℕ). le n (num l % 256 ^ i)) e)
+    rw (take-number i l b k, ← le-cut i (num l)) (sym s ∙ ap (λ (n : ℕ). le n (num l % 256 ^ i)) e)
 
-pub read_held : (l c m : List ℕ) (k : ℕ) → Bytes l → k ≤ 2048 → bytes_for_lem k ≤ length l → c ≡ firsts keep (bytes_for_lem k) l l → m ≡ le 256 (num c % 2 ^ k)
-    → record { bytes = m; len = k } ≡ held (bits_of k (num l))
-read_held l c m k b h u e d =
+pub read_held : {T : Type 0} (l c m : List ℕ) (k n : ℕ) → Bytes l → k ≤ 2048 → bytes_for_lem k ≤ length l
+    → c ≡ take (bytes_for_lem k) l ++ replicate (256 - bytes_for_lem k) 0 → m ≡ le 256 (num c % 2 ^ k)
+    → of_parts {T = T} m k n ≡ held (bits_of k (num l)) n
+read_held l c m k n b h u e d =
     let f = e ∙ copy_number (bytes_for_lem k) l b (use-bound k h) u in
-    as_held _ m k (part_cut c m k (num l) h f d ∙ ap (le 256) (sym (bit_num-low k (num l)))) (sym (length-bits_of k (num l)))
+    as_held _ m k n (part_cut c m k (num l) h f d ∙ ap (le 256) (sym (bit_num-low k (num l)))) (sym (length-bits_of k (num l)))
 
 -- One bit of a number
 pub bits-get : (len x i : ℕ) → i < len → get_or (bits_of len x) i false ≡ eqb (x / 2 ^ i % 2) 1
@@ -301,17 +226,17 @@ bit-of-odd zero h = refl
 bit-of-odd (suc zero) h = refl
 bit-of-odd (suc (suc m)) h = absurd (omega arith)
 
-pub put-held : (a l : List ℕ) (len i : ℕ) (v : Bool) → Kept a len → i < len → Put a i v l
-    → record { bytes = l; len = len } ≡ held (set (bits_in a len) i v)
+pub put-held : {T : Type 0} (a l : List ℕ) (len i limit : ℕ) (v : Bool) → Kept a len → i < len → Put a i v l
+    → of_parts {T = T} l len limit ≡ held (set (bits_in a len) i v) limit
 unfolding bits_in
-put-held a l len i v k h p =
+put-held a l len i limit v k h p =
     let bs = bits_of len (num a) in
     let s = Bools.bit_num-set bs i v (rw (length-bits_of len (num a)) h) in
     let g : bit (get_or bs i false) ≡ num a / 2 ^ i % 2 = rw (bits-get len (num a) i h) (bit-of-odd (num a / 2 ^ i % 2) (omega arith)) in
     let t = rw (g, bit_num-bits_of len (num a) k.small) at s in
     let n = p.number in
     let e : num l ≡ bit_num (set bs i v) = omega arith in
-    as_held _ l len (raw-le l p.raw ∙ ap (le 256) e) (sym (length-set bs i v ∙ length-bits_of len (num a)))
+    as_held _ l len limit (raw-le l p.raw ∙ ap (le 256) e) (sym (length-set bs i v ∙ length-bits_of len (num a)))
 
 -- What lies behind the bytes in use
 pub behind : (a : List ℕ) (len : ℕ) → Kept a len → num (drop (bytes_for_lem len) a) ≡ 0
@@ -355,15 +280,11 @@ highest-held a len i h k b z t =
     let no : len ≤ 8 * i + h → ⊥ = λ (n : len ≤ 8 * i + h). let p = pow_mono n in omega (arith, q.0) in
     sym (highest-at len (num a) (8 * i + h) (omega arith) q.0 q.1)
 
--- What is made is well formed.
-pub held-raw : (f : Field) (bs : List Bool) → f ≡ held bs → Raw f.bytes
+-- What the other one has not is well formed.
+pub without-kept : {T : Type 0} (r a b : Bitfield T) (n : ℕ) → Kept a.bytes a.len → r ≡ held (without (bits_in a.bytes a.len) (bits_in b.bytes b.len)) n
+    → Kept r.bytes r.len × (bits_in r.bytes r.len ≡ without (bits_in a.bytes a.len) (bits_in b.bytes b.len))
 unfolding held
-held-raw f bs e = rw (ap (λ (g : Field). g.bytes) e, packs-le 256 bs) (raw_of-le (bit_num bs))
-
-pub none_left : (f : Field) (a b : List ℕ) (la lb : ℕ) → Kept a la → Kept b lb → f ≡ held (op_bits AndNot (bits_in a la) (bits_in b lb))
-    → eqb (num (drop 0 f.bytes)) 0 ≡ none_set (without (bits_in a la) (bits_in b lb))
-unfolding held op_bits
-none_left f a b la lb ka kb e =
-    let bs = without (bits_in a la) (bits_in b lb) in
-    let l : length bs ≤ 2048 = rw (Bools.length_without (bits_in a la) (bits_in b lb), bits-length a la) ka.few in
-    rw (ap (λ (g : Field). g.bytes) e, num-packs 256 bs l) (sym (Bools.none_number bs))
+without-kept r a b n k e =
+    let bs = without (bits_in a.bytes a.len) (bits_in b.bytes b.len) in
+    let l : length bs ≤ 2048 = rw (Bools.length_without (bits_in a.bytes a.len) (bits_in b.bytes b.len), bits-length a.bytes a.len) k.few in
+    rw (ap (λ (g : Bitfield _). g.bytes) e, ap (λ (g : Bitfield _). g.len) e) (packs-kept bs l, packs-bits bs l)

@@ -10,7 +10,9 @@ use Rattle.standard.specs.Choice.{pick, and_also}
 use Rattle.standard.specs.declared.Refusal.{Refusal}
 use Rattle.bitfield.specs.Raw.{Raw, clean}
 use Rattle.bitfield.specs.Facts.{Kept}
-use Rattle.bitfield.specs.Held.{limited, one_told_lem, two_told_lem, list_good, vector_good, inside, up_to, not_below, room_for, and_then}
+use Rattle.bitfield.specs.Held.{limited, one_told_lem, two_told_lem, inside, up_to, not_below, room_for, and_then}
+use Rattle.bitfield.specs.Bitfields.{good, field_told, fields_told, WellFormed}
+use Rattle.bitfield.specs.declared.Bitfield.{Bitfield}
 use Rattle.bitfield.proofs.Clean.{clean-says}
 use Rattle.std.specs.declared.result.Result.{Result}
 use Rattle.std.specs.declared.result.Result.TheVariants.{Ok, Err}
@@ -51,41 +53,19 @@ room_fine need room e = leb-true _ _ (picked (leb need room) _ _ e).0
 kept : (l : List ℕ) (len : ℕ) → Raw l → clean l len ≡ true → Kept l len
 kept l len r e = let s = clean-says l len e in record { raw = r; few = s.0; small = s.1 }
 
--- A list or a vector that the first tests leave is well formed.
-pub list-kept : (l : List ℕ) (len n : ℕ) → Raw l → one_told_lem (list_good l len n) n ≡ Ok tt → Kept l len × (len ≤ n) × (n ≤ 2048)
-unfolding one_told_lem
-list-kept l len n r e =
-    let p = picked (list_good l len n) _ _ e in
-    let g = both_true (leb len n) (clean l len) p.0 in
-    (kept l len r g.1, leb-true _ _ g.0, limited_fine n p.1)
+-- A bitfield that the first tests leave is well formed.
+module _ {T : Type 0} (fits : ℕ → ℕ → Bool) (law : (len n : ℕ) → fits len n ≡ true → len ≤ n) where
+  pub field-kept : (a : Bitfield T) → Raw a.bytes → field_told fits a ≡ Ok tt → WellFormed a × (a.len ≤ a.n) × (a.n ≤ 2048)
+  unfolding field_told one_told_lem
+  field-kept a r e =
+      let p = picked (good fits a) _ _ e in
+      let g = both_true (fits a.len a.n) (clean a.bytes a.len) p.0 in
+      (kept a.bytes a.len r g.1, law _ _ g.0, limited_fine a.n p.1)
 
-pub vector-kept : (l : List ℕ) (len n : ℕ) → Raw l → one_told_lem (vector_good l len n) n ≡ Ok tt → Kept l len
-unfolding one_told_lem
-vector-kept l len n r e =
-    let p = picked (vector_good l len n) _ _ e in
-    kept l len r (both_true (eqb len n) (clean l len) p.0).1
-
-both_good : (a b : Bool) (n m : ℕ) → two_told_lem (and_also a b) n m ≡ Ok tt → (a ≡ true) × (b ≡ true)
-unfolding two_told_lem
-both_good a b n m e = both_true a b (picked (and_also a b) _ _ e).0
-
-pub lists-kept : (a b : List ℕ) (la na lb nb : ℕ) → Raw a → Raw b → two_told_lem (and_also (list_good a la na) (list_good b lb nb)) na nb ≡ Ok tt →
-    Kept a la × Kept b lb
-lists-kept a b la na lb nb r s e =
-    let g = both_good (list_good a la na) (list_good b lb nb) na nb e in
-    (kept a la r (both_true (leb la na) (clean a la) g.0).1, kept b lb s (both_true (leb lb nb) (clean b lb) g.1).1)
-
-pub vectors-kept : (a b : List ℕ) (la na lb nb : ℕ) → Raw a → Raw b → two_told_lem (and_also (vector_good a la na) (vector_good b lb nb)) na nb ≡ Ok tt →
-    Kept a la × Kept b lb
-vectors-kept a b la na lb nb r s e =
-    let g = both_good (vector_good a la na) (vector_good b lb nb) na nb e in
-    (kept a la r (both_true (eqb la na) (clean a la) g.0).1, kept b lb s (both_true (eqb lb nb) (clean b lb) g.1).1)
-
--- Three tests: refused by one of the first two, or left to the last
-pub then_both : (a b d : Result ⊤ Refusal) (x : Refusal) → and_then a b ≡ Err x → and_then a (and_then b d) ≡ Err x
-then_both (Ok tt) b d x e = rw e
-then_both (Err y) b d x e = e
-
-pub then_last : (a b d : Result ⊤ Refusal) → and_then a b ≡ Ok tt → and_then a (and_then b d) ≡ d
-then_last (Ok tt) b d e = rw e
-then_last (Err y) b d e = let w : ◌≡◌ {A = ℕ} 0 1 = cc in absurd (omega arith)
+pub fields-kept : {T : Type 0} (fits : ℕ → ℕ → Bool) (a b : Bitfield T) → Raw a.bytes → Raw b.bytes → fields_told fits a b ≡ Ok tt
+    → WellFormed a × WellFormed b
+unfolding fields_told two_told_lem
+fields-kept fits a b r s e =
+    let g = both_true (good fits a) (good fits b) (picked (and_also (good fits a) (good fits b)) _ _ e).0 in
+    (kept a.bytes a.len r (both_true (fits a.len a.n) (clean a.bytes a.len) g.0).1,
+     kept b.bytes b.len s (both_true (fits b.len b.n) (clean b.bytes b.len) g.1).1)

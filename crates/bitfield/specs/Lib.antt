@@ -1,7 +1,9 @@
+pub mod Fits
 pub mod Body
 pub mod Bools
 pub mod Raw
 pub mod Facts
 pub mod Held
+pub mod Bitfields
 pub mod Lists
 pub mod Vectors

@@ -1,21 +1,15 @@
 -- Raw bytes: what the loops make of them. Assumes nothing: these are definitions.
 use Rattle.std.specs.Prelude.{◌≡◌, List, [], ◌∷◌, ◌++◌, Bool, ℕ, zero, suc, ◌+◌, ◌-◌, ◌%◌, ◌^◌, leb, ltb, length, take, replicate}
-use Rattle.std.specs.Int.Bits.{bit_and, bit_or}
+use Rattle.std.specs.Int.Bits.{bit_and}
 use Rattle.standard.specs.Bytes.{Bytes, num}
 use Rattle.standard.specs.Choice.{and_also}
-use Rattle.bitfield.specs.declared.raw.Op.{Op}
-use Rattle.bitfield.specs.declared.raw.Op.TheVariants.{And, Or, AndNot, Not}
 
--- What is done with two bytes
-unfoldable pub op_of : Op → ℕ → ℕ → ℕ
-op_of And x y = bit_and x y
-op_of Or x y = bit_or x y
-op_of AndNot x y = x - bit_and x y
-op_of Not x y = 255 - x
+-- What is done with two bytes, beside "and" and "or": what the second one has is taken out; the complement of the first
+abbrev pub taken_out : ℕ → ℕ → ℕ
+taken_out x y = x - bit_and x y
 
--- The first of two
-abbrev pub keep : ℕ → ℕ → ℕ
-keep x y = x
+abbrev pub turned : ℕ → ℕ → ℕ
+turned x y = 255 - x
 
 unfoldable pub zipped : (ℕ → ℕ → ℕ) → List ℕ → List ℕ → List ℕ
 zipped f [] ys = []

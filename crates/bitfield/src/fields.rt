@@ -1,128 +1,173 @@
-// Bits in 256 bytes with their number, well formed: what is made of them, by what is done with their raw bytes.
-ghost use Rattle.std.specs.Prelude.{◌≡◌, ◌++◌, ◌+◌, ◌/◌, ◌%◌, ◌^◌, ◌<◌, ◌≤◌, length, set, drop};
-ghost use Rattle.standard.specs.Bits.{marked};
+// What is done with well formed bitfields, by what is done with their raw bytes.
+ghost use Rattle.std.specs.Prelude.{◌≡◌, ◌++◌, ◌+◌, ◌/◌, ◌%◌, ◌^◌, ◌<◌, ◌≤◌, length, eqb, get_or, set, drop};
+ghost use Rattle.standard.specs.Bits.{marked, bits_of};
 ghost use Rattle.standard.specs.Bytes.{Bytes, num};
-ghost use Rattle.standard.specs.Bits.{bits_of};
 ghost use Rattle.bitfield.specs.Body.{bytes_for_lem, highest};
-ghost use Rattle.bitfield.specs.Bools.{no_bits, moved, widened, count};
-ghost use Rattle.bitfield.specs.Facts.{Kept};
-ghost use Rattle.bitfield.specs.Held.{bits_in, held, op_bits, op_length};
+ghost use Rattle.bitfield.specs.Bools.{both, either, without, flipped, no_bits, moved, widened, count, none_set, subset};
+ghost use Rattle.bitfield.specs.Held.{held};
+ghost use Rattle.bitfield.specs.Bitfields.{bits, WellFormed};
 
-use super::Field;
 use super::body::{bytes_for, top_bit, used_bytes};
-use super::raw::{Op, combine, copy_of, cut, ones_in, put_bit, put_raw, shifted};
+use super::raw::{combine, copy_of, cut, none_from, ones_in, put_bit, put_raw, shifted};
+use super::Bitfield;
+use std::marker::PhantomData;
 
-// How many bits come out.
-#[tactic(auto, unfolding(crate::specs::Held::op_length))]
-pub(crate) fn op_len(op: Op, la: usize, lb: usize) -> usize
-    ensures { result ≡ op_length op la lb }
-{
-    match op {
-        Op::And => { if la <= lb { la } else { lb } }
-        Op::Or => { if la <= lb { lb } else { la } }
-        Op::AndNot => la,
-        Op::Not => la,
+impl<T> Bitfield<T> {
+    // No bit set.
+    pub(crate) fn zeros(len: usize, n: usize) -> Self
+        requires { len ≤ 2048 }
+        ensures { result ≡ held (no_bits len) n }
+    {
+        Bitfield {
+            bytes: [0u8; 256],
+            len,
+            n,
+            behaviour: PhantomData,
+        }
     }
-}
 
-// Two fields put together, byte by byte.
-pub(crate) fn merged<'a>(op: Op, a: &'a [u8; 256], la: usize, b: &'a [u8; 256], lb: usize) -> Field
-    requires { Kept a.now la × Kept b.now lb }
-    ensures { result ≡ held (op_bits op (bits_in a.now la) (bits_in b.now lb)) }
-{
-    let len = op_len(op, la, lb);
-    let mut bytes = combine(op, a, b, bytes_for(len));
-    cut(&mut bytes, len);
-    Field { bytes, len }
-}
-
-// No bit set.
-pub(crate) fn zeros(len: usize) -> Field
-    requires { len ≤ 2048 }
-    ensures { result ≡ held (no_bits len) }
-{
-    Field {
-        bytes: [0u8; 256],
-        len,
+    // The first len bits of some bytes.
+    pub(crate) fn read(bytes: &[u8], len: usize, n: usize) -> Self
+        requires few { len ≤ 2048 }
+        requires there { bytes_for_lem len ≤ length bytes.now }
+        ensures { result ≡ held (bits_of len (num bytes.now)) n }
+    {
+        let mut first = copy_of(bytes, bytes_for(len));
+        cut(&mut first, len);
+        Bitfield {
+            bytes: first,
+            len,
+            n,
+            behaviour: PhantomData,
+        }
     }
-}
 
-// The same bits, m in all.
-pub(crate) fn wider(a: &[u8; 256], len: usize, m: usize) -> Field
-    requires { Kept a.now len × (len ≤ m) × (m ≤ 2048) }
-    ensures { result ≡ held (widened m (bits_in a.now len)) }
-{
-    let bytes = *a;
-    Field { bytes, len: m }
-}
-
-// Every bit n places up.
-pub(crate) fn upward(a: &[u8; 256], len: usize, n: usize) -> Field
-    requires { Kept a.now len × (n ≤ len) }
-    ensures { result ≡ held (moved n (bits_in a.now len)) }
-{
-    let mut bytes = shifted(a, n, bytes_for(len));
-    cut(&mut bytes, len);
-    Field { bytes, len }
-}
-
-// Bit i made v.
-pub(crate) fn changed(a: &[u8; 256], len: usize, i: usize, v: bool) -> Field
-    requires { Kept a.now len × (i < len) }
-    ensures { result ≡ held (set (bits_in a.now len) i v) }
-{
-    let mut bytes = *a;
-    put_bit(&mut bytes, i, v);
-    Field { bytes, len }
-}
-
-// The first k bits of some bytes.
-pub(crate) fn read(bytes: &[u8], k: usize) -> Field
-    requires { (k ≤ 2048) × (bytes_for_lem k ≤ length bytes.now) × Bytes bytes.now }
-    ensures { result ≡ held (bits_of k (num bytes.now)) }
-{
-    let mut out = copy_of(bytes, bytes_for(k));
-    cut(&mut out, k);
-    Field { bytes: out, len: k }
-}
-
-// The highest set bit.
-pub(crate) fn highest_of(a: &[u8; 256], len: usize) -> Option<usize>
-    requires { Kept a.now len }
-    ensures { result ≡ highest (bits_in a.now len) }
-{
-    let used = used_bytes(a, bytes_for(len));
-    if used == 0 {
-        return None;
+    // The bits that both have.
+    pub(crate) fn in_both(&self, other: &Self) -> Self
+        requires one { WellFormed self.now }
+        requires other { WellFormed other.now }
+        ensures { result ≡ held (both (bits self.now) (bits other.now)) self.now.n }
+    {
+        let len = self.len.min(other.len);
+        let bytes = combine(&self.bytes, &other.bytes, 256, |x, y| x & y);
+        Bitfield { bytes, len, ..*self }
     }
-    let last = used - 1;
-    Some(8 * last + top_bit(a[last]))
-}
 
-// How many bits are set.
-pub(crate) fn count_of(a: &[u8; 256], len: usize) -> usize
-    requires { Kept a.now len }
-    ensures { result ≡ count (bits_in a.now len) }
-{
-    ones_in(a, (len + 63) / 64)
-}
+    // The bits that either has.
+    pub(crate) fn in_either(&self, other: &Self) -> Self
+        requires one { WellFormed self.now }
+        requires other { WellFormed other.now }
+        ensures { result ≡ held (either (bits self.now) (bits other.now)) self.now.n }
+    {
+        let len = self.len.max(other.len);
+        let bytes = combine(&self.bytes, &other.bytes, 256, |x, y| x | y);
+        Bitfield { bytes, len, ..*self }
+    }
 
-// The byte that holds the end, with the mark in it.
-fn mark_byte(a: &[u8; 256], len: usize) -> u8
-    requires { Kept a.now len }
-    ensures { result ≡ num a.now / 256 ^ (len / 8) + 2 ^ (len % 8) }
-{
-    let q = len / 8;
-    let m = 1u8 << (len % 8);
-    if q < 256 { a[q] | m } else { m }
-}
+    // The bits that the other one has not.
+    pub(crate) fn taken_from(&self, other: &Self) -> Self
+        requires one { WellFormed self.now }
+        requires other { WellFormed other.now }
+        ensures { result ≡ held (without (bits self.now) (bits other.now)) self.now.n }
+    {
+        let bytes = combine(&self.bytes, &other.bytes, 256, |x, y| x & !y);
+        Bitfield { bytes, ..*self }
+    }
 
-// Puts the bits and the mark behind them into a buffer, which keeps the rest.
-pub(crate) fn put_marked(out: &mut [u8], a: &[u8; 256], len: usize)
-    requires { Kept a.now len × (len / 8 + 1 ≤ length out.old) }
-    ensures { out.new ≡ marked (bits_in a.now len) ++ drop (len / 8 + 1) out.old }
-{
-    let q = len / 8;
-    put_raw(out, a, q);
-    out[q] = mark_byte(a, len);
+    // The complement.
+    pub(crate) fn complement(&self) -> Self
+        requires { WellFormed self.now }
+        ensures { result ≡ held (flipped (bits self.now)) self.now.n }
+    {
+        let used = bytes_for(self.len);
+        let mut bytes = combine(&self.bytes, &self.bytes, used, |x, _| !x);
+        cut(&mut bytes, self.len);
+        Bitfield { bytes, ..*self }
+    }
+
+    // Every bit k places up.
+    pub(crate) fn upward(&self, k: usize) -> Self
+        requires kept { WellFormed self.now }
+        requires few { k ≤ self.now.len }
+        ensures { result ≡ held (moved k (bits self.now)) self.now.n }
+    {
+        let mut bytes = shifted(&self.bytes, k, bytes_for(self.len));
+        cut(&mut bytes, self.len);
+        Bitfield { bytes, ..*self }
+    }
+
+    // Bit i made v.
+    pub(crate) fn changed(&self, i: usize, v: bool) -> Self
+        requires kept { WellFormed self.now }
+        requires inside { i < self.now.len }
+        ensures { result ≡ held (set (bits self.now) i v) self.now.n }
+    {
+        let mut bytes = self.bytes;
+        put_bit(&mut bytes, i, v);
+        Bitfield { bytes, ..*self }
+    }
+
+    // The same bits under the limit m, m in all.
+    pub(crate) fn wider(&self, m: usize) -> Self
+        requires kept { WellFormed self.now }
+        requires more { self.now.len ≤ m }
+        requires few { m ≤ 2048 }
+        ensures { result ≡ held (widened m (bits self.now)) m }
+    {
+        Bitfield {
+            len: m,
+            n: m,
+            ..*self
+        }
+    }
+
+    // The highest set bit.
+    pub(crate) fn highest(&self) -> Option<usize>
+        requires { WellFormed self.now }
+        ensures { result ≡ highest (bits self.now) }
+    {
+        let used = used_bytes(&self.bytes, bytes_for(self.len));
+        if used == 0 {
+            return None;
+        }
+        let last = used - 1;
+        Some(8 * last + top_bit(self.bytes[last]))
+    }
+
+    // Whether no bit is set.
+    pub(crate) fn has_none(&self) -> bool
+        requires { WellFormed self.now }
+        ensures { result ≡ none_set (bits self.now) }
+    {
+        none_from(&self.bytes, 0)
+    }
+
+    // How many bits are set.
+    pub(crate) fn ones(&self) -> usize
+        requires { WellFormed self.now }
+        ensures { result ≡ count (bits self.now) }
+    {
+        ones_in(&self.bytes, (self.len + 63) / 64)
+    }
+
+    // The byte that holds the end, with the mark in it.
+    fn mark_byte(&self) -> u8
+        requires { WellFormed self.now }
+        ensures { result ≡ num self.now.bytes / 256 ^ (self.now.len / 8) + 2 ^ (self.now.len % 8) }
+    {
+        let q = self.len / 8;
+        let m = 1u8 << (self.len % 8);
+        if q < 256 { self.bytes[q] | m } else { m }
+    }
+
+    // Puts the bits and the mark behind them into a buffer, which keeps the rest.
+    pub(crate) fn put_marked(&self, out: &mut [u8])
+        requires kept { WellFormed self.now }
+        requires room { self.now.len / 8 + 1 ≤ length out.old }
+        ensures { out.new ≡ marked (bits self.now) ++ drop (self.now.len / 8 + 1) out.old }
+    {
+        let q = self.len / 8;
+        put_raw(out, &self.bytes, q);
+        out[q] = self.mark_byte();
+    }
 }

@@ -2,62 +2,65 @@
 #![tactic(auto)]
 
 pub mod body;
-mod calls;
 mod fields;
+mod held;
 mod list;
 mod raw;
 mod tests;
 mod vector;
 
-use standard::Refusal;
+ghost use Rattle.std.specs.Prelude.{◌≡◌, ℕ, ◌≤◌, Bool, true, leb, eqb};
+ghost use Rattle.bitfield.specs.Fits.{leb-within, eqb-within};
 
-// A bit list of at most n bits: the first len of its bytes' bits. Any state can be handed in: every call tests it first.
-#[derive(Clone, Copy)]
-pub struct BitList {
+use std::marker::PhantomData;
+
+// How a bitfield's length goes by its limit.
+pub trait BitfieldBehaviour {
+    // Whether a bitfield of so many bits goes with the limit n.
+    ghost fits: { ℕ → ℕ → Bool };
+
+    fn fits(len: usize, n: usize) -> bool
+        ensures { result ≡ fits len n };
+
+    // None has more bits than its limit.
+    ghost within: { (len n : ℕ) → fits len n ≡ true → len ≤ n };
+}
+
+// At most as many bits as the limit: a list's.
+pub struct Variable;
+
+// As many bits as the limit: a vector's.
+pub struct Fixed;
+
+impl BitfieldBehaviour for Variable {
+    ghost fits = { leb };
+
+    ghost within = { leb-within };
+
+    fn fits(len: usize, n: usize) -> bool {
+        len <= n
+    }
+}
+
+impl BitfieldBehaviour for Fixed {
+    ghost fits = { eqb };
+
+    ghost within = { eqb-within };
+
+    fn fits(len: usize, n: usize) -> bool {
+        len == n
+    }
+}
+
+// A bitfield with the limit n: the first len of its bytes' bits. Any state can be handed in: every call tests it first.
+#[derive_where(Clone, Copy)]
+pub struct Bitfield<T> {
     pub bytes: [u8; 256],
     pub len: usize,
     pub n: usize,
+    pub behaviour: PhantomData<T>,
 }
 
-// A bit vector of n bits. Any state can be handed in: every call tests it first.
-#[derive(Clone, Copy)]
-pub struct BitVector {
-    pub bytes: [u8; 256],
-    pub len: usize,
-    pub n: usize,
-}
+pub type BitList = Bitfield<Variable>;
 
-// A field beside what is said of it: the new one, or on a refusal the old one, or an empty one where there is no old one.
-#[derive(Clone, Copy)]
-pub struct ListResult {
-    pub field: BitList,
-    pub told: Result<(), Refusal>,
-}
-
-#[derive(Clone, Copy)]
-pub struct VectorResult {
-    pub field: BitVector,
-    pub told: Result<(), Refusal>,
-}
-
-// Where the highest set bit is, if any is set.
-#[derive(Clone, Copy)]
-pub enum HighestBit {
-    At(usize),
-    Nothing,
-    Refused(Refusal),
-}
-
-// Bits in 256 bytes, and how many they are: a list's or a vector's.
-#[derive(Clone, Copy)]
-pub(crate) struct Field {
-    pub(crate) bytes: [u8; 256],
-    pub(crate) len: usize,
-}
-
-// What a call made, beside what is said of it; no bits on a refusal.
-#[derive(Clone, Copy)]
-pub(crate) struct Outcome {
-    pub(crate) field: Field,
-    pub(crate) told: Result<(), Refusal>,
-}
+pub type BitVector = Bitfield<Fixed>;

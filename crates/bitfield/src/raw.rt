@@ -1,86 +1,57 @@
 // Raw bytes of a held bitfield: 256 of them, of which the first ones are in use. Loops that make bytes go byte by byte; those that only
 // look at bits go by words of eight bytes, 32 in all, or by two halves of the bytes at once.
-ghost use Rattle.std.specs.Prelude.{◌≡◌, ◌++◌, ◌+◌, ◌*◌, ◌/◌, ◌%◌, ◌^◌, ◌<◌, ◌≤◌, eqb, length, take, drop};
+ghost use Rattle.std.specs.Prelude.{◌≡◌, ◌++◌, ℕ, ◌+◌, ◌-◌, ◌*◌, ◌/◌, ◌%◌, ◌^◌, ◌<◌, ◌≤◌, eqb, length, take, drop, replicate, slice_index};
 ghost use Rattle.std.specs.Int.Count.{ones};
-ghost use Rattle.standard.specs.Bytes.{Bytes, num, le, four};
+ghost use Rattle.standard.specs.Bytes.{num, le};
 ghost use Rattle.standard.specs.Bits.{bit};
 ghost use Rattle.bitfield.specs.Body.{bytes_for_lem};
-ghost use Rattle.bitfield.specs.Raw.{Raw, op_of, keep, firsts, clean, mask_of};
+ghost use Rattle.bitfield.specs.Raw.{Raw, clean, mask_of};
 ghost use Rattle.bitfield.specs.Facts.{Put, Word};
 
 use super::body::bytes_for;
 
-// What is done with two bytes; the last one looks at the first byte alone.
-#[derive(Clone, Copy)]
-pub(crate) enum Op {
-    And,
-    Or,
-    AndNot,
-    Not,
-}
-
-fn byte_op(op: Op, x: u8, y: u8) -> u8
-    ensures { result ≡ op_of op x y }
-{
-    match op {
-        Op::And => x & y,
-        Op::Or => x | y,
-        Op::AndNot => x & !y,
-        Op::Not => !x,
-    }
-}
-
-// The first bytes of a and b, put together one by one; zero behind them.
-pub(crate) fn combine(op: Op, a: &[u8; 256], b: &[u8; 256], used: usize) -> [u8; 256]
-    requires { (used ≤ 256) × Raw a.now × Raw b.now }
-    ensures { result ≡ firsts (op_of op) used a.now b.now }
+// The bytes of a and b put together one by one, as far as they are in use; zero behind them.
+pub(crate) fn combine<F: Fn(u8, u8) -> u8>(a: &[u8; 256], b: &[u8; 256], used: usize, op: F) -> [u8; 256]
+    requires few { used ≤ 256 }
+    requires callable { F.IsAlwaysCallable op }
+    ensures in_use { (k : ℕ) → k < used → F.post op (slice_index a.now k) (slice_index b.now k) (slice_index result k) }
+    ensures behind { (k : ℕ) → used ≤ k → slice_index result k ≡ 0 }
 {
     let mut out = [0u8; 256];
-    let mut i = 0;
-    while i < used {
-        out[i] = byte_op(op, a[i], b[i]);
-        i += 1;
+    for i in 0..used {
+        out[i] = op(a[i], b[i]);
     }
     out
 }
 
 // The first bytes of a slice, zero behind them.
 pub(crate) fn copy_of(bytes: &[u8], used: usize) -> [u8; 256]
-    requires { (used ≤ 256) × (used ≤ length bytes.now) }
-    ensures { result ≡ firsts keep used bytes.now bytes.now }
+    requires few { used ≤ 256 }
+    requires there { used ≤ length bytes.now }
+    ensures { result ≡ take used bytes.now ++ replicate (256 - used) 0 }
 {
     let mut out = [0u8; 256];
-    let mut i = 0;
-    while i < used {
-        out[i] = bytes[i];
-        i += 1;
-    }
+    out[..used].copy_from_slice(&bytes[..used]);
     out
-}
-
-fn wide(x: u8) -> usize
-    ensures { (result ≡ x) × (result < 256) }
-{
-    x as usize
-}
-
-// The four bytes from p on.
-fn four_of(bytes: &[u8; 256], p: usize) -> usize
-    requires { p + 4 ≤ 256 }
-    ensures { (result ≡ four bytes.now p) × (result < 2 ^ 32) }
-{
-    wide(bytes[p])
-        + 256 * wide(bytes[p + 1])
-        + 65536 * wide(bytes[p + 2])
-        + 16777216 * wide(bytes[p + 3])
 }
 
 // The w-th word: one load, with no test of where it ends.
 fn word_of(bytes: &[u8; 256], w: usize) -> u64
-    requires { (w < 32) × Raw bytes.now }
+    requires few { w < 32 }
+    requires raw { Raw bytes.now }
     ensures { Word bytes.now (8 * w) result }
 {
-    (four_of(bytes, 8 * w) + 4294967296 * four_of(bytes, 8 * w + 4)) as u64
+    let p = 8 * w;
+    u64::from_le_bytes([
+        bytes[p],
+        bytes[p + 1],
+        bytes[p + 2],
+        bytes[p + 3],
+        bytes[p + 4],
+        bytes[p + 5],
+        bytes[p + 6],
+        bytes[p + 7],
+    ])
 }
 
 // Whether the words from one on are all zero.
@@ -89,10 +60,8 @@ pub(crate) fn none_from(bytes: &[u8; 256], from: usize) -> bool
     ensures { result ≡ eqb (num (drop (8 * from) bytes.now)) 0 }
 {
     let mut acc = 0u64;
-    let mut w = from;
-    while w < 32 {
+    for w in from..32 {
         acc |= word_of(bytes, w);
-        w += 1;
     }
     acc == 0
 }
@@ -104,10 +73,8 @@ fn none_in_halves(bytes: &[u8; 256], from: usize) -> bool
     ensures { result ≡ eqb (num (drop from bytes.now)) 0 }
 {
     let mut acc = 0u8;
-    let mut k = 0;
-    while k < 128 {
+    for k in 0..128 {
         acc |= bytes[from + k] | bytes[128 + k];
-        k += 1;
     }
     acc == 0
 }
@@ -195,12 +162,10 @@ pub(crate) fn shifted(a: &[u8; 256], n: usize, used: usize) -> [u8; 256]
     let places = n % 8;
     let mut out = [0u8; 256];
     let mut carry = 0usize;
-    let mut i = s;
-    while i < used {
+    for i in s..used {
         let t = spread(a[i - s], places) + carry;
         out[i] = low_byte(t);
         carry = t / 256;
-        i += 1;
     }
     out
 }
@@ -220,10 +185,8 @@ pub(crate) fn ones_in(bytes: &[u8; 256], words: usize) -> usize
         return ones_of(word_of(bytes, 0));
     }
     let mut sum = 0usize;
-    let mut w = 0;
-    while w < words {
+    for w in 0..words {
         sum += ones_of(word_of(bytes, w));
-        w += 1;
     }
     sum
 }
@@ -261,9 +224,5 @@ pub(crate) fn put_raw(out: &mut [u8], bytes: &[u8; 256], used: usize)
     requires { (used ≤ 256) × (used ≤ length out.old) × Raw bytes.now }
     ensures { out.new ≡ take used bytes.now ++ drop used out.old }
 {
-    let mut i = 0;
-    while i < used {
-        out[i] = bytes[i];
-        i += 1;
-    }
+    out[..used].copy_from_slice(&bytes[..used]);
 }

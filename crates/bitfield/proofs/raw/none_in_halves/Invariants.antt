@@ -6,5 +6,3 @@ use Rattle.bitfield.proofs.raw.none_in_halves.Given as goal
 abbrev pub invariant-loop-k : goal.invariant-loop-k
 invariant-loop-k l = (l.k ≤ 128) × Halved l.bytes l.from l.acc l.k
 
-abbrev pub decreases-loop-k : goal.decreases-loop-k
-decreases-loop-k l = 128 - l.k

@@ -7,5 +7,3 @@ use Rattle.bitfield.proofs.raw.ones_in.Given as goal
 abbrev pub invariant-loop-w : goal.invariant-loop-w
 invariant-loop-w l = (l.w ≤ l.words) × (l.sum ≤ 64 * l.w) × (l.sum + ones (num (drop (8 * l.w) l.bytes)) ≡ ones (num l.bytes))
 
-abbrev pub decreases-loop-w : goal.decreases-loop-w
-decreases-loop-w l = l.words - l.w

@@ -1,6 +1,7 @@
--- Two halves of four bytes. Assumes nothing.
-use Rattle.bitfield.proofs.Loops.{word-halves}
+-- Eight bytes, one by one. Assumes nothing.
+use Rattle.std.proofs.Common.{arith}
+use Rattle.bitfield.proofs.Loops.{word-bytes}
 use Rattle.bitfield.proofs.raw.word_of.Goals as goal
 
 pub returns : goal.returns
-returns c = word-halves _ c.args.w _ _ c.told-bytes c.requires.0 c.four_of.ensures c.four_of-2.ensures
+returns c = let e = c.from_le_bytes.ensures in word-bytes _ _ _ c.requires.raw.bytes (omega arith) (omega arith)

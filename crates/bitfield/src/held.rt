@@ -1,0 +1,122 @@
+// Held bitfields, lists and vectors alike. Each call tests its fields first: 23, 24, 14, then the crate's own tests.
+ghost use Rattle.std.specs.Prelude.{◌≡◌};
+ghost use Rattle.bitfield.specs.Held.{of_parts};
+ghost use Rattle.bitfield.specs.Bitfields.{field_intersection, field_union, field_difference, field_is_subset, field_set, field_get};
+ghost use Rattle.bitfield.specs.Bitfields.{field_highest_set_bit, field_is_zero, field_num_set_bits, field_not, field_shift_up};
+
+use super::raw::bit_at;
+use super::tests::{inside_told, up_to_told};
+use super::{Bitfield, BitfieldBehaviour};
+use standard::{Refusal, Refused};
+use std::marker::PhantomData;
+
+impl<T: BitfieldBehaviour> Bitfield<T> {
+    // A bitfield by its parts: any state, as a host may hand it in.
+    pub fn from_parts(bytes: [u8; 256], len: usize, n: usize) -> Self
+        ensures { result ≡ of_parts bytes len n }
+    {
+        Bitfield {
+            bytes,
+            len,
+            n,
+            behaviour: PhantomData,
+        }
+    }
+
+    // The bits that both have.
+    pub fn intersection(self, other: Self) -> Result<Self, Refused<Self>>
+        ensures { result ≡ field_intersection T.fits self other }
+    {
+        let refused = |refusal| Refused { state: self, refusal };
+        self.both_tested(&other).map_err(refused)?;
+        Ok(self.in_both(&other))
+    }
+
+    // The bits that either has.
+    pub fn union(self, other: Self) -> Result<Self, Refused<Self>>
+        ensures { result ≡ field_union T.fits self other }
+    {
+        let refused = |refusal| Refused { state: self, refusal };
+        self.both_tested(&other).map_err(refused)?;
+        Ok(self.in_either(&other))
+    }
+
+    // The bits that the other one has not.
+    pub fn difference(self, other: Self) -> Result<Self, Refused<Self>>
+        ensures { result ≡ field_difference T.fits self other }
+    {
+        let refused = |refusal| Refused { state: self, refusal };
+        self.both_tested(&other).map_err(refused)?;
+        Ok(self.taken_from(&other))
+    }
+
+    // Whether every set bit is set in the other one.
+    pub fn is_subset(self, other: Self) -> Result<bool, Refusal>
+        ensures { result ≡ field_is_subset T.fits self other }
+    {
+        self.both_tested(&other)?;
+        Ok(self.taken_from(&other).has_none())
+    }
+
+    // Bit i made the value.
+    pub fn set(self, i: usize, value: bool) -> Result<Self, Refused<Self>>
+        ensures { result ≡ field_set T.fits self i value }
+    {
+        let refused = |refusal| Refused { state: self, refusal };
+        self.tested().map_err(refused)?;
+        inside_told(i, self.len).map_err(refused)?;
+        Ok(self.changed(i, value))
+    }
+
+    // Bit i.
+    pub fn get(self, i: usize) -> Result<bool, Refusal>
+        ensures { result ≡ field_get T.fits self i }
+    {
+        self.tested()?;
+        inside_told(i, self.len)?;
+        Ok(bit_at(&self.bytes, i))
+    }
+
+    // The highest set bit.
+    pub fn highest_set_bit(self) -> Result<Option<usize>, Refusal>
+        ensures { result ≡ field_highest_set_bit T.fits self }
+    {
+        self.tested()?;
+        Ok(self.highest())
+    }
+
+    // Whether no bit is set.
+    pub fn is_zero(self) -> Result<bool, Refusal>
+        ensures { result ≡ field_is_zero T.fits self }
+    {
+        self.tested()?;
+        Ok(self.has_none())
+    }
+
+    // How many bits are set.
+    pub fn num_set_bits(self) -> Result<usize, Refusal>
+        ensures { result ≡ field_num_set_bits T.fits self }
+    {
+        self.tested()?;
+        Ok(self.ones())
+    }
+
+    // The complement.
+    pub fn not(self) -> Result<Self, Refused<Self>>
+        ensures { result ≡ field_not T.fits self }
+    {
+        let refused = |refusal| Refused { state: self, refusal };
+        self.tested().map_err(refused)?;
+        Ok(self.complement())
+    }
+
+    // Every bit k places up; what passes the end is lost.
+    pub fn shift_up(self, k: usize) -> Result<Self, Refused<Self>>
+        ensures { result ≡ field_shift_up T.fits self k }
+    {
+        let refused = |refusal| Refused { state: self, refusal };
+        self.tested().map_err(refused)?;
+        up_to_told(k, self.len).map_err(refused)?;
+        Ok(self.upward(k))
+    }
+}
