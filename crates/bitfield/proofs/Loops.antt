@@ -1,6 +1,6 @@
 -- One turn of each loop over raw bytes, and what is there after the last. Assumes nothing.
 use mathlib.Core.Path.{◌≡◌, refl, sym, ap, ◌∙◌}
-use mathlib.Core.List.{List, [], ◌∷◌, ◌++◌, append_assoc}
+use mathlib.Core.List.{List, [], ◌∷◌, ◌++◌}
 use Prim.Native.Nat.{ℕ, zero, suc, ◌+◌, ◌-◌, ◌*◌, ◌/◌, ◌%◌, ◌^◌, ◌<◌, ◌≤◌}
 use native.Mathlib.Nat.{add_assoc, pow-succ', mul-le-mul_left, mul-le-mul_right, one-le-pow}
 use native.Mathlib.Numerals.{add-one}
@@ -11,9 +11,9 @@ use lib.Bits.{bit_or, and_le_l, and_le_r, or_add_and}
 use lib.Count.{ones, ones_in, ones_cat}
 use lib.Dec.{eqb}
 use lib.Pow.{pow_pos, pow-add}
-use lib.ListN.{length, get_or, set, take, drop, replicate, take-append-drop, length-drop}
-use lib.Seq.{take-suc, drop-cons, set_at, length-take-le, drop-length, drop-drop}
-use Rattle.standard.specs.Bytes.{Bytes, le, num, num_at, four}
+use lib.ListN.{length, get_or, set, take, drop, replicate, take-append-drop}
+use lib.Seq.{take-suc, drop-cons, length-take-le, drop-length, drop-drop}
+use Rattle.standard.specs.Bytes.{Bytes, le, num}
 use Rattle.standard.proofs.Bits.{pow_bytes, num-append}
 use Rattle.bitfield.specs.Raw.{zipped, firsts, Raw}
 use Rattle.bitfield.specs.Facts.{Word}

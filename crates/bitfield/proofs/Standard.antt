@@ -39,9 +39,15 @@ topped false None given n k e = let w : ◌≡◌ {A = ℕ} 0 1 = cc in absurd (
 topped false (Some j) given n k e = let p = placed j given n k _ _ _ _ refl refl e in (ap Some p.0, rw p.0 at p.1, rw p.0 at p.2)
 
 -- What an accepted body has
-pub list-says : (l : List ℕ) (n k : ℕ) → bit_list_body l n ≡ Ok k → (length l ≡ k / 8 + 1) × (k ≤ n)
+pub list_says : (l : List ℕ) (n k : ℕ) → bit_list_body l n ≡ Ok k → (length l ≡ k / 8 + 1) × (k ≤ n)
 unfolding bit_list_body
-list-says l n k e = let t = topped (eqb (length l) 0) (highest (all_bits l)) (length l) n k e in (t.1, t.2)
+list_says l n k e = let t = topped (eqb (length l) 0) (highest (all_bits l)) (length l) n k e in (t.1, t.2)
+
+pub list_few : (l : List ℕ) (n k : ℕ) → bit_list_body l n ≡ Ok k → k ≤ n
+list_few l n k e = (list_says l n k e).1
+
+pub list_there : (l : List ℕ) (n k : ℕ) → bit_list_body l n ≡ Ok k → bytes_for_lem k ≤ length l
+list_there l n k e = let s = list_says l n k e in omega (arith, s.0)
 
 -- A bit list's body: sound, complete, and one
 pub list-sound : (l : List ℕ) (n k : ℕ) → Bytes l → bit_list_body l n ≡ Ok k → (marked (bits_of k (num l)) ≡ l) × (k ≤ n)
@@ -89,9 +95,9 @@ kept true false x e = let w : ◌≡◌ {A = ℕ} 0 1 = cc in absurd (omega arit
 kept false t x e = let w : ◌≡◌ {A = ℕ} 0 1 = cc in absurd (omega arith)
 
 -- Where n bits are accepted there are bytes for them; for none there is one.
-pub vector-says : (l : List ℕ) (n : ℕ) → bit_vector_body l n ≡ Ok tt → bytes_for_lem n ≤ length l
+pub vector_says : (l : List ℕ) (n : ℕ) → bit_vector_body l n ≡ Ok tt → bytes_for_lem n ≤ length l
 unfolding bit_vector_body
-vector-says l n e = ⊎_elim none some (eq-zero-or-pos n)
+vector_says l n e = ⊎_elim none some (eq-zero-or-pos n)
   where
     none : n ≡ 0 → bytes_for_lem n ≤ length l
     none z = rw z (omega arith)

@@ -3,7 +3,7 @@ use mathlib.Core.Path.{◌≡◌, refl, sym, ap, ◌∙◌}
 use mathlib.Core.List.{List, [], ◌∷◌, ◌++◌}
 use mathlib.Core.Bool.{Bool, false}
 use Prim.Native.Nat.{ℕ, zero, suc, ◌+◌, ◌-◌, ◌*◌, ◌/◌, ◌%◌, ◌^◌, ◌<◌, ◌≤◌, min, max}
-use native.Mathlib.Nat.{lt_of_lt_of_le, mod-eq_of_lt, mod-lt, pow-le-pow_right, pow-suc, one-le-pow, add-zero}
+use native.Mathlib.Nat.{lt_of_lt_of_le, mod-lt, pow-le-pow_right, pow-suc, one-le-pow, add-zero}
 use native.Mathlib.Omega.{arith}
 use lib.Arith.{digits_mod, mod-mul}
 use lib.Bits.{bit_and, bit_or}
@@ -11,7 +11,7 @@ use lib.Count.{ones}
 use lib.Dec.{eqb}
 use lib.Pow.{pow_pos, pow_mono, pow-add}
 use lib.Pow as Pow
-use lib.ListN.{length, get_or, set, take, drop, replicate, length-replicate, length-set, length-take}
+use lib.ListN.{length, get_or, set, take, drop, replicate, length-replicate, length-set}
 use Rattle.standard.specs.Bytes.{Bytes, le, num}
 use Rattle.standard.specs.Bits.{bit, bit_num, packs}
 use Rattle.standard.proofs.Bytes.{length-le, bytes_le, num-le}

@@ -5,14 +5,12 @@ use mathlib.Core.Bool.{Bool, true, false}
 use Prim.Native.Nat.{ℕ, ◌<◌, ◌≤◌}
 use native.Mathlib.Omega.{arith}
 use borrow.Author.Tests.{leb-true, ltb-true}
-use lib.Dec.{eqb, leb, ltb}
+use lib.Dec.{leb, ltb}
 use Rattle.standard.specs.Choice.{pick, and_also}
 use Rattle.standard.specs.declared.Refusal.{Refusal}
 use Rattle.bitfield.specs.Raw.{Raw, clean}
 use Rattle.bitfield.specs.Facts.{Kept}
-use Rattle.bitfield.specs.Held.{limited, one_told_lem, two_told_lem, inside, up_to, not_below, room_for, and_then}
-use Rattle.bitfield.specs.Bitfields.{good, field_told, fields_told, WellFormed}
-use Rattle.bitfield.specs.declared.Bitfield.{Bitfield}
+use Rattle.bitfield.specs.Held.{limited, inside, up_to, not_below, room_for, and_then}
 use Rattle.bitfield.proofs.Clean.{clean-says}
 use Rattle.std.specs.declared.result.Result.{Result}
 use Rattle.std.specs.declared.result.Result.TheVariants.{Ok, Err}
@@ -50,22 +48,5 @@ pub room_fine : (need room : ℕ) → room_for need room ≡ Ok tt → need ≤ 
 unfolding room_for
 room_fine need room e = leb-true _ _ (picked (leb need room) _ _ e).0
 
-kept : (l : List ℕ) (len : ℕ) → Raw l → clean l len ≡ true → Kept l len
-kept l len r e = let s = clean-says l len e in record { raw = r; few = s.0; small = s.1 }
-
--- A bitfield that the first tests leave is well formed.
-module _ {T : Type 0} (fits : ℕ → ℕ → Bool) (law : (len n : ℕ) → fits len n ≡ true → len ≤ n) where
-  pub field-kept : (a : Bitfield T) → Raw a.bytes → field_told fits a ≡ Ok tt → WellFormed a × (a.len ≤ a.n) × (a.n ≤ 2048)
-  unfolding field_told one_told_lem
-  field-kept a r e =
-      let p = picked (good fits a) _ _ e in
-      let g = both_true (fits a.len a.n) (clean a.bytes a.len) p.0 in
-      (kept a.bytes a.len r g.1, law _ _ g.0, limited_fine a.n p.1)
-
-pub fields-kept : {T : Type 0} (fits : ℕ → ℕ → Bool) (a b : Bitfield T) → Raw a.bytes → Raw b.bytes → fields_told fits a b ≡ Ok tt
-    → WellFormed a × WellFormed b
-unfolding fields_told two_told_lem
-fields-kept fits a b r s e =
-    let g = both_true (good fits a) (good fits b) (picked (and_also (good fits a) (good fits b)) _ _ e).0 in
-    (kept a.bytes a.len r (both_true (fits a.len a.n) (clean a.bytes a.len) g.0).1,
-     kept b.bytes b.len s (both_true (fits b.len b.n) (clean b.bytes b.len) g.1).1)
+pub clean-kept : (l : List ℕ) (len : ℕ) → Raw l → clean l len ≡ true → Kept l len
+clean-kept l len r e = let s = clean-says l len e in record { raw = r; few = s.0; small = s.1 }

@@ -1,5 +1,5 @@
 // What is done with well formed bitfields, by what is done with their raw bytes.
-ghost use Rattle.std.specs.Prelude.{◌≡◌, ◌++◌, ◌+◌, ◌/◌, ◌%◌, ◌^◌, ◌<◌, ◌≤◌, length, eqb, get_or, set, drop};
+ghost use Rattle.std.specs.Prelude.{◌≡◌, ◌++◌, ◌+◌, ◌/◌, ◌%◌, ◌^◌, ◌<◌, ◌≤◌, false, length, get_or, set, drop};
 ghost use Rattle.standard.specs.Bits.{marked, bits_of};
 ghost use Rattle.standard.specs.Bytes.{Bytes, num};
 ghost use Rattle.bitfield.specs.Body.{bytes_for_lem, highest};
@@ -8,7 +8,7 @@ ghost use Rattle.bitfield.specs.Held.{held};
 ghost use Rattle.bitfield.specs.Bitfields.{bits, WellFormed};
 
 use super::body::{bytes_for, top_bit, used_bytes};
-use super::raw::{combine, copy_of, cut, none_from, ones_in, put_bit, put_raw, shifted};
+use super::raw::{bit_at, combine, copy_of, cut, none_from, ones_in, put_bit, put_raw, shifted};
 use super::Bitfield;
 use std::marker::PhantomData;
 
@@ -121,6 +121,15 @@ impl<T> Bitfield<T> {
         }
     }
 
+    // Bit i.
+    pub(crate) fn bit(&self, i: usize) -> bool
+        requires kept { WellFormed self.now }
+        requires inside { i < self.now.len }
+        ensures { result ≡ get_or (bits self.now) i false }
+    {
+        bit_at(&self.bytes, i)
+    }
+
     // The highest set bit.
     pub(crate) fn highest(&self) -> Option<usize>
         requires { WellFormed self.now }
@@ -140,6 +149,15 @@ impl<T> Bitfield<T> {
         ensures { result ≡ none_set (bits self.now) }
     {
         none_from(&self.bytes, 0)
+    }
+
+    // Whether every set bit is set in the other one.
+    pub(crate) fn is_within(&self, other: &Self) -> bool
+        requires one { WellFormed self.now }
+        requires other { WellFormed other.now }
+        ensures { result ≡ subset (bits self.now) (bits other.now) }
+    {
+        self.taken_from(other).has_none()
     }
 
     // How many bits are set.

@@ -4,7 +4,6 @@ ghost use Rattle.bitfield.specs.Held.{of_parts};
 ghost use Rattle.bitfield.specs.Bitfields.{field_intersection, field_union, field_difference, field_is_subset, field_set, field_get};
 ghost use Rattle.bitfield.specs.Bitfields.{field_highest_set_bit, field_is_zero, field_num_set_bits, field_not, field_shift_up};
 
-use super::raw::bit_at;
 use super::tests::{inside_told, up_to_told};
 use super::{Bitfield, BitfieldBehaviour};
 use standard::{Refusal, Refused};
@@ -24,6 +23,7 @@ impl<T: BitfieldBehaviour> Bitfield<T> {
     }
 
     // The bits that both have.
+    #[tactic(auto, unfolding(crate::specs::Bitfields::field_intersection))]
     pub fn intersection(self, other: Self) -> Result<Self, Refused<Self>>
         ensures { result ≡ field_intersection T.fits self other }
     {
@@ -33,6 +33,7 @@ impl<T: BitfieldBehaviour> Bitfield<T> {
     }
 
     // The bits that either has.
+    #[tactic(auto, unfolding(crate::specs::Bitfields::field_union))]
     pub fn union(self, other: Self) -> Result<Self, Refused<Self>>
         ensures { result ≡ field_union T.fits self other }
     {
@@ -42,6 +43,7 @@ impl<T: BitfieldBehaviour> Bitfield<T> {
     }
 
     // The bits that the other one has not.
+    #[tactic(auto, unfolding(crate::specs::Bitfields::field_difference))]
     pub fn difference(self, other: Self) -> Result<Self, Refused<Self>>
         ensures { result ≡ field_difference T.fits self other }
     {
@@ -51,14 +53,16 @@ impl<T: BitfieldBehaviour> Bitfield<T> {
     }
 
     // Whether every set bit is set in the other one.
+    #[tactic(auto, unfolding(crate::specs::Bitfields::field_is_subset))]
     pub fn is_subset(self, other: Self) -> Result<bool, Refusal>
         ensures { result ≡ field_is_subset T.fits self other }
     {
         self.both_tested(&other)?;
-        Ok(self.taken_from(&other).has_none())
+        Ok(self.is_within(&other))
     }
 
     // Bit i made the value.
+    #[tactic(auto, using(crate::proofs::Tolds::inside_fine), unfolding(crate::specs::Bitfields::field_set))]
     pub fn set(self, i: usize, value: bool) -> Result<Self, Refused<Self>>
         ensures { result ≡ field_set T.fits self i value }
     {
@@ -69,15 +73,17 @@ impl<T: BitfieldBehaviour> Bitfield<T> {
     }
 
     // Bit i.
+    #[tactic(auto, using(crate::proofs::Tolds::inside_fine), unfolding(crate::specs::Bitfields::field_get))]
     pub fn get(self, i: usize) -> Result<bool, Refusal>
         ensures { result ≡ field_get T.fits self i }
     {
         self.tested()?;
         inside_told(i, self.len)?;
-        Ok(bit_at(&self.bytes, i))
+        Ok(self.bit(i))
     }
 
     // The highest set bit.
+    #[tactic(auto, unfolding(crate::specs::Bitfields::field_highest_set_bit))]
     pub fn highest_set_bit(self) -> Result<Option<usize>, Refusal>
         ensures { result ≡ field_highest_set_bit T.fits self }
     {
@@ -86,6 +92,7 @@ impl<T: BitfieldBehaviour> Bitfield<T> {
     }
 
     // Whether no bit is set.
+    #[tactic(auto, unfolding(crate::specs::Bitfields::field_is_zero))]
     pub fn is_zero(self) -> Result<bool, Refusal>
         ensures { result ≡ field_is_zero T.fits self }
     {
@@ -94,6 +101,7 @@ impl<T: BitfieldBehaviour> Bitfield<T> {
     }
 
     // How many bits are set.
+    #[tactic(auto, unfolding(crate::specs::Bitfields::field_num_set_bits))]
     pub fn num_set_bits(self) -> Result<usize, Refusal>
         ensures { result ≡ field_num_set_bits T.fits self }
     {
@@ -102,6 +110,7 @@ impl<T: BitfieldBehaviour> Bitfield<T> {
     }
 
     // The complement.
+    #[tactic(auto, unfolding(crate::specs::Bitfields::field_not))]
     pub fn not(self) -> Result<Self, Refused<Self>>
         ensures { result ≡ field_not T.fits self }
     {
@@ -111,6 +120,7 @@ impl<T: BitfieldBehaviour> Bitfield<T> {
     }
 
     // Every bit k places up; what passes the end is lost.
+    #[tactic(auto, using(crate::proofs::Tolds::up_to_fine), unfolding(crate::specs::Bitfields::field_shift_up))]
     pub fn shift_up(self, k: usize) -> Result<Self, Refused<Self>>
         ensures { result ≡ field_shift_up T.fits self k }
     {

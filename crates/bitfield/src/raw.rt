@@ -1,12 +1,12 @@
 // Raw bytes of a held bitfield: 256 of them, of which the first ones are in use. Loops that make bytes go byte by byte; those that only
 // look at bits go by words of eight bytes, 32 in all, or by two halves of the bytes at once.
-ghost use Rattle.std.specs.Prelude.{◌≡◌, ◌++◌, ℕ, ◌+◌, ◌-◌, ◌*◌, ◌/◌, ◌%◌, ◌^◌, ◌<◌, ◌≤◌, eqb, length, take, drop, replicate, slice_index};
+ghost use Rattle.std.specs.Prelude.{◌≡◌, ◌++◌, ℕ, ◌+◌, ◌-◌, ◌*◌, ◌/◌, ◌%◌, ◌^◌, ◌<◌, ◌≤◌, true, eqb, length, take, drop, replicate, slice_index};
 ghost use Rattle.std.specs.Int.Count.{ones};
 ghost use Rattle.standard.specs.Bytes.{num, le};
 ghost use Rattle.standard.specs.Bits.{bit};
 ghost use Rattle.bitfield.specs.Body.{bytes_for_lem};
 ghost use Rattle.bitfield.specs.Raw.{Raw, clean, mask_of};
-ghost use Rattle.bitfield.specs.Facts.{Put, Word};
+ghost use Rattle.bitfield.specs.Facts.{Kept, Put, Word};
 
 use super::body::bytes_for;
 
@@ -93,14 +93,11 @@ fn is_clean_low(bytes: &[u8; 256], len: usize) -> bool
     none_in_halves(bytes, 8 * q + 8)
 }
 
-// At most 2,048 bits, and nothing set behind them.
-pub(crate) fn is_clean(bytes: &[u8; 256], len: usize) -> bool
-    requires { Raw bytes.now }
+// The same of an end in the second half.
+fn is_clean_high(bytes: &[u8; 256], len: usize) -> bool
+    requires { (1024 ≤ len) × Raw bytes.now }
     ensures { result ≡ clean bytes.now len }
 {
-    if len < 1024 {
-        return is_clean_low(bytes, len);
-    }
     if len > 2048 {
         return false;
     }
@@ -113,6 +110,18 @@ pub(crate) fn is_clean(bytes: &[u8; 256], len: usize) -> bool
         return false;
     }
     none_from(bytes, q + 1)
+}
+
+// At most 2,048 bits, and nothing set behind them.
+pub(crate) fn is_clean(bytes: &[u8; 256], len: usize) -> bool
+    ensures told { result ≡ clean bytes.now len }
+    ensures kept { result ≡ true → Kept bytes.now len }
+{
+    if len < 1024 {
+        is_clean_low(bytes, len)
+    } else {
+        is_clean_high(bytes, len)
+    }
 }
 
 // The bits of the last byte that len bits use: all eight at lengths 8, 16 and so on, none at length 0.

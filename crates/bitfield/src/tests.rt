@@ -1,5 +1,5 @@
 // The tests that come before a call's work, each with its refusal.
-ghost use Rattle.std.specs.Prelude.{◌≡◌, ◌≤◌};
+ghost use Rattle.std.specs.Prelude.{◌≡◌, ◌≤◌, true};
 ghost use Rattle.bitfield.specs.Held.{limited, inside, up_to, not_below, room_for};
 ghost use Rattle.bitfield.specs.Bitfields.{good, field_told, fields_told, WellFormed};
 
@@ -71,12 +71,14 @@ pub(crate) fn room_told(need: usize, room: usize) -> Result<(), Refusal>
 impl<T: BitfieldBehaviour> Bitfield<T> {
     // As many bits as the limit allows, at most 2,048, and nothing set behind them.
     fn is_good(&self) -> bool
-        ensures { result ≡ good T.fits self.now }
+        ensures told { result ≡ good T.fits self.now }
+        ensures kept { result ≡ true → WellFormed self.now × (self.now.len ≤ self.now.n) }
     {
         T::fits(self.len, self.n) && is_clean(&self.bytes, self.len)
     }
 
     // 23, 14. What they leave is well formed.
+    #[tactic(auto, using(crate::proofs::Tolds::limited_fine), unfolding(crate::specs::Held::one_told_lem, crate::specs::Bitfields::field_told))]
     pub(crate) fn tested(&self) -> Result<(), Refusal>
         ensures told { result ≡ field_told T.fits self.now }
         ensures kept { result ≡ (Ok tt) → WellFormed self.now × (self.now.len ≤ self.now.n) × (self.now.n ≤ 2048) }
@@ -88,6 +90,7 @@ impl<T: BitfieldBehaviour> Bitfield<T> {
     }
 
     // 23, 24, 14. What they leave is well formed.
+    #[tactic(auto, unfolding(crate::specs::Held::two_told_lem, crate::specs::Bitfields::fields_told))]
     pub(crate) fn both_tested(&self, other: &Self) -> Result<(), Refusal>
         ensures told { result ≡ fields_told T.fits self.now other.now }
         ensures kept { result ≡ (Ok tt) → WellFormed self.now × WellFormed other.now }

@@ -1,22 +1,19 @@
--- A low end by itself, else the word that holds the end, and then those behind it. Assumes nothing.
-use Rattle.std.proofs.Common.{◌∙◌}
-use Rattle.std.proofs.lemmas.Bool.{lt-leb}
-use Rattle.bitfield.specs.Raw.{clean}
-use Rattle.bitfield.proofs.Clean.{clean_full, clean_not, clean-rest}
+-- The array is the raw bytes, and what is clean is kept. Assumes nothing.
+use Rattle.std.proofs.Common.{ℕ, sym, ◌∙◌, rules}
+use Rattle.bitfield.proofs.Results.{raw-known}
+use Rattle.bitfield.proofs.Tolds.{clean-kept}
 use Rattle.bitfield.proofs.raw.is_clean.Goals as goal
 
-pub returns-then-len-gt2048 : goal.returns-then-len-gt2048
-unfolding clean
-returns-then-len-gt2048 c = rw (lt-leb _ 2048 c.if-len-gt2048.true)
+pub is_clean_low-requires : goal.is_clean_low-requires
+is_clean_low-requires c = (c.if-len-lt1024.true, raw-known _ (search rules) (λ (i : ℕ). search rules))
 
-pub returns-then-q-eq32 : goal.returns-then-q-eq32
-returns-then-q-eq32 c = clean_full _ c.args.len c.requires c.if-len-gt2048.false c.if-q-eq32.true
+pub is_clean_high-requires : goal.is_clean_high-requires
+is_clean_high-requires c = (c.if-len-lt1024.false, raw-known _ (search rules) (λ (i : ℕ). search rules))
 
-pub returns-then-x-len-ne0 : goal.returns-then-x-len-ne0
-returns-then-x-len-ne0 c =
-    clean_not _ c.args.len _ c.requires c.if-len-gt2048.false c.if-q-eq32.false c.word_of-x.ensures c.if-x-len-ne0.true
+pub returns-then-len-lt1024-clause-kept : goal.returns-then-len-lt1024-clause-kept
+returns-then-len-lt1024-clause-kept c =
+    λ e. clean-kept _ _ (raw-known _ (search rules) (λ (i : ℕ). search rules)) (sym c.is_clean_low.ensures ∙ e)
 
-pub returns : goal.returns
-returns c =
-    c.none_from.ensures
-    ∙ clean-rest _ c.args.len _ c.requires c.if-len-gt2048.false c.if-q-eq32.false c.word_of-x.ensures c.if-x-len-ne0.false
+pub returns-else-len-lt1024-clause-kept : goal.returns-else-len-lt1024-clause-kept
+returns-else-len-lt1024-clause-kept c =
+    λ e. clean-kept _ _ (raw-known _ (search rules) (λ (i : ℕ). search rules)) (sym c.is_clean_high.ensures ∙ e)

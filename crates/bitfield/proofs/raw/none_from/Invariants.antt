@@ -1,5 +1,5 @@
 -- Nothing was set exactly if nothing is set from there on. Assumes nothing.
-use Rattle.std.proofs.Common.{◌-◌, ◌*◌, ◌≤◌}
+use Rattle.std.proofs.Common.{◌*◌, ◌≤◌}
 use Rattle.bitfield.proofs.Loops.{Gathered}
 use Rattle.bitfield.proofs.raw.none_from.Given as goal
 

@@ -1,5 +1,5 @@
 -- What the first `k` bytes of both halves gathered is zero if they are. Assumes nothing.
-use Rattle.std.proofs.Common.{◌-◌, ◌≤◌}
+use Rattle.std.proofs.Common.{◌≤◌}
 use Rattle.bitfield.proofs.Loops.{Halved}
 use Rattle.bitfield.proofs.raw.none_in_halves.Given as goal
 

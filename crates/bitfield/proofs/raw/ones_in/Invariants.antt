@@ -1,5 +1,5 @@
 -- What is counted and what is left are all. Assumes nothing.
-use Rattle.std.proofs.Common.{◌≡◌, ◌+◌, ◌-◌, ◌*◌, ◌≤◌, drop}
+use Rattle.std.proofs.Common.{◌≡◌, ◌+◌, ◌*◌, ◌≤◌, drop}
 use Rattle.std.specs.Int.Count.{ones}
 use Rattle.standard.specs.Bytes.{num}
 use Rattle.bitfield.proofs.raw.ones_in.Given as goal

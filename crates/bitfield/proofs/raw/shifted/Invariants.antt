@@ -1,5 +1,5 @@
 -- The bytes before `i` and the carry are the number moved up. Assumes nothing.
-use Rattle.std.proofs.Common.{◌-◌, ◌≤◌}
+use Rattle.std.proofs.Common.{◌≤◌}
 use Rattle.bitfield.proofs.Loops.{Shifting}
 use Rattle.bitfield.proofs.raw.shifted.Given as goal
 
