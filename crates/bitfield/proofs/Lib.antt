@@ -13,3 +13,4 @@ pub mod Tolds
 pub mod Results
 pub mod Serial
 pub mod Kept
+pub mod Only

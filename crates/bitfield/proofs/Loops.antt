@@ -49,9 +49,9 @@ firsts-known f i a b o h la lb lo p q = rw (← lo) (all a b o i (rw (la, lo)) (
         let m : suc (length o) - suc i ≡ length o - i = omega arith in
         rw (e, m)
         (ap (λ (l : List ℕ). f x y ∷ l)
-            (all a b o i (omega arith) (omega arith) (omega arith)
-            (λ (k : ℕ) (l : k < i). p (suc k) (omega arith))
-            (λ (k : ℕ) (l : i ≤ k). q (suc k) (omega arith))))
+        (all a b o i (omega arith) (omega arith) (omega arith)
+        (λ (k : ℕ) (l : k < i). p (suc k) (omega arith))
+        (λ (k : ℕ) (l : i ≤ k). q (suc k) (omega arith))))
 
 -- "Or" of two numbers is zero exactly if both are.
 or_none : (a b : ℕ) → bit_or a b ≡ 0 → (a ≡ 0) × (b ≡ 0)
@@ -299,7 +299,7 @@ ones_none n e = rw e
 -- Eight bytes, and those behind them
 pub word-bytes : (l : List ℕ) (i x : ℕ) → Bytes l → i + 8 ≤ length l
     → x ≡ get_or l i 0 + 256 * (get_or l (i + 1) 0 + 256 * (get_or l (i + 2) 0 + 256 * (get_or l (i + 3) 0 + 256 * (get_or l (i + 4) 0
-        + 256 * (get_or l (i + 5) 0 + 256 * (get_or l (i + 6) 0 + 256 * get_or l (i + 7) 0))))))
+    + 256 * (get_or l (i + 5) 0 + 256 * (get_or l (i + 6) 0 + 256 * get_or l (i + 7) 0))))))
     → Word l i x
 word-bytes l i x b h e =
     let b0 = byte_at l i b in

@@ -57,20 +57,20 @@ room_for need room = pick (leb need room) (Ok tt) (Err (NoRoom need room))
 
 -- One test after another
 abbrev pub and_then : Result ⊤ Refusal → Result ⊤ Refusal → Result ⊤ Refusal
-and_then (Ok tt) next = next
+and_then (Ok _) next = next
 and_then (Err x) next = Err x
 
 -- Answers: what there is to say, unless a test refuses
 abbrev pub answer : {A : Type 0} → Result ⊤ Refusal → A → Result A Refusal
-answer (Ok tt) x = Ok x
+answer (Ok _) x = Ok x
 answer (Err y) x = Err y
 
 -- The new bitfield, or the old one beside a refusal
 abbrev pub made : {T : Type 0} → Result ⊤ Refusal → Bitfield T → Bitfield T → Result (Bitfield T) (Refused (Bitfield T))
-made (Ok tt) old new = Ok new
+made (Ok _) old new = Ok new
 made (Err x) old new = Err (record { state = old; refusal = x })
 
 -- A buffer afterwards: bytes at its front and the rest kept, or as it was
 abbrev pub written : Result ⊤ Refusal → List ℕ → List ℕ → List ℕ
-written (Ok tt) x out = x ++ drop (length x) out
+written (Ok _) x out = x ++ drop (length x) out
 written (Err y) x out = out

@@ -25,8 +25,8 @@ list_with_capacity k n = answer (and_then (limited n) (up_to k n)) (held (no_bit
 -- What a body's test says, as an answer
 abbrev pub of_body : Result ⊤ Refusal → Result ℕ Refusal → List ℕ → ℕ → Result BitList Refusal
 of_body (Err x) body l n = Err x
-of_body (Ok tt) (Err x) l n = Err x
-of_body (Ok tt) (Ok k) l n = Ok (held (bits_of k (num l)) n)
+of_body (Ok _) (Err x) l n = Err x
+of_body (Ok _) (Ok k) l n = Ok (held (bits_of k (num l)) n)
 
 unfoldable pub list_from_bytes : List ℕ → ℕ → Result BitList Refusal
 list_from_bytes l n = of_body (limited n) (bit_list_body l n) l n

@@ -7,9 +7,9 @@ ghost use Rattle.bitfield.specs.Bools.{both, either, without, flipped, no_bits, 
 ghost use Rattle.bitfield.specs.Held.{held};
 ghost use Rattle.bitfield.specs.Bitfields.{bits, WellFormed};
 
+use super::Bitfield;
 use super::body::{bytes_for, top_bit, used_bytes};
 use super::raw::{bit_at, combine, copy_of, cut, none_from, ones_in, put_bit, put_raw, shifted};
-use super::Bitfield;
 use std::marker::PhantomData;
 
 impl<T> Bitfield<T> {
@@ -50,7 +50,11 @@ impl<T> Bitfield<T> {
     {
         let len = self.len.min(other.len);
         let bytes = combine(&self.bytes, &other.bytes, 256, |x, y| x & y);
-        Bitfield { bytes, len, ..*self }
+        Bitfield {
+            bytes,
+            len,
+            ..*self
+        }
     }
 
     // The bits that either has.
@@ -61,7 +65,11 @@ impl<T> Bitfield<T> {
     {
         let len = self.len.max(other.len);
         let bytes = combine(&self.bytes, &other.bytes, 256, |x, y| x | y);
-        Bitfield { bytes, len, ..*self }
+        Bitfield {
+            bytes,
+            len,
+            ..*self
+        }
     }
 
     // The bits that the other one has not.

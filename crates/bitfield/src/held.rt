@@ -27,7 +27,10 @@ impl<T: BitfieldBehaviour> Bitfield<T> {
     pub fn intersection(self, other: Self) -> Result<Self, Refused<Self>>
         ensures { result ≡ field_intersection T.fits self other }
     {
-        let refused = |refusal| Refused { state: self, refusal };
+        let refused = |refusal| Refused {
+            state: self,
+            refusal,
+        };
         self.both_tested(&other).map_err(refused)?;
         Ok(self.in_both(&other))
     }
@@ -37,7 +40,10 @@ impl<T: BitfieldBehaviour> Bitfield<T> {
     pub fn union(self, other: Self) -> Result<Self, Refused<Self>>
         ensures { result ≡ field_union T.fits self other }
     {
-        let refused = |refusal| Refused { state: self, refusal };
+        let refused = |refusal| Refused {
+            state: self,
+            refusal,
+        };
         self.both_tested(&other).map_err(refused)?;
         Ok(self.in_either(&other))
     }
@@ -47,7 +53,10 @@ impl<T: BitfieldBehaviour> Bitfield<T> {
     pub fn difference(self, other: Self) -> Result<Self, Refused<Self>>
         ensures { result ≡ field_difference T.fits self other }
     {
-        let refused = |refusal| Refused { state: self, refusal };
+        let refused = |refusal| Refused {
+            state: self,
+            refusal,
+        };
         self.both_tested(&other).map_err(refused)?;
         Ok(self.taken_from(&other))
     }
@@ -66,7 +75,10 @@ impl<T: BitfieldBehaviour> Bitfield<T> {
     pub fn set(self, i: usize, value: bool) -> Result<Self, Refused<Self>>
         ensures { result ≡ field_set T.fits self i value }
     {
-        let refused = |refusal| Refused { state: self, refusal };
+        let refused = |refusal| Refused {
+            state: self,
+            refusal,
+        };
         self.tested().map_err(refused)?;
         inside_told(i, self.len).map_err(refused)?;
         Ok(self.changed(i, value))
@@ -114,7 +126,10 @@ impl<T: BitfieldBehaviour> Bitfield<T> {
     pub fn not(self) -> Result<Self, Refused<Self>>
         ensures { result ≡ field_not T.fits self }
     {
-        let refused = |refusal| Refused { state: self, refusal };
+        let refused = |refusal| Refused {
+            state: self,
+            refusal,
+        };
         self.tested().map_err(refused)?;
         Ok(self.complement())
     }
@@ -124,7 +139,10 @@ impl<T: BitfieldBehaviour> Bitfield<T> {
     pub fn shift_up(self, k: usize) -> Result<Self, Refused<Self>>
         ensures { result ≡ field_shift_up T.fits self k }
     {
-        let refused = |refusal| Refused { state: self, refusal };
+        let refused = |refusal| Refused {
+            state: self,
+            refusal,
+        };
         self.tested().map_err(refused)?;
         up_to_told(k, self.len).map_err(refused)?;
         Ok(self.upward(k))

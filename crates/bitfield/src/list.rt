@@ -46,7 +46,10 @@ impl Bitfield<Variable> {
     pub fn resize(self, m: usize) -> Result<Self, Refused<Self>>
         ensures { result ≡ list_resize self m }
     {
-        let refused = |refusal| Refused { state: self, refusal };
+        let refused = |refusal| Refused {
+            state: self,
+            refusal,
+        };
         self.tested().map_err(refused)?;
         limit_told(m).map_err(refused)?;
         not_below_told(m, self.n).map_err(refused)?;
@@ -58,7 +61,10 @@ impl Bitfield<Variable> {
     pub fn clone_zeroed(self) -> Result<Self, Refused<Self>>
         ensures { result ≡ list_clone_zeroed self }
     {
-        let refused = |refusal| Refused { state: self, refusal };
+        let refused = |refusal| Refused {
+            state: self,
+            refusal,
+        };
         self.tested().map_err(refused)?;
         Ok(Self::zeros(self.len, self.n))
     }

@@ -11,7 +11,12 @@ ghost use Rattle.bitfield.specs.Facts.{Kept, Put, Word};
 use super::body::bytes_for;
 
 // The bytes of a and b put together one by one, as far as they are in use; zero behind them.
-pub(crate) fn combine<F: Fn(u8, u8) -> u8>(a: &[u8; 256], b: &[u8; 256], used: usize, op: F) -> [u8; 256]
+pub(crate) fn combine<F: Fn(u8, u8) -> u8>(
+    a: &[u8; 256],
+    b: &[u8; 256],
+    used: usize,
+    op: F,
+) -> [u8; 256]
     requires few { used ≤ 256 }
     requires callable { F.IsAlwaysCallable op }
     ensures in_use { (k : ℕ) → k < used → F.post op (slice_index a.now k) (slice_index b.now k) (slice_index result k) }

@@ -1,53 +1,49 @@
--- The contract of each public function has one answer only, and leaves one bitfield behind the reference. Of the functions on plain parameters it is
--- said of the postconditions themselves, for the same arguments at entry; of those over a reference, of the equation that they promise: d is what
--- the method by value answers. Assumes nothing.
-use mathlib.Core.Path.{◌≡◌, ap}
-use Rattle.standard.proofs.Only.{Only, only_answer}
-use Rattle.bitfield.specs.declared.BitList.{BitList}
-use Rattle.bitfield.specs.declared.BitVector.{BitVector}
-use Rattle.bitfield.specs.declared.ListResult.{ListResult}
-use Rattle.bitfield.specs.declared.VectorResult.{VectorResult}
-use Rattle.lent.specs.Left.{list_left, vector_left}
-use Rattle.lent.proofs.list.after_set.Kinds as list_after_set_kinds
-use Rattle.lent.proofs.list.after_set.Reads as list_after_set_reads
-use Rattle.lent.proofs.list.after_not.Kinds as list_after_not_kinds
-use Rattle.lent.proofs.list.after_not.Reads as list_after_not_reads
-use Rattle.lent.proofs.list.after_difference.Kinds as list_after_difference_kinds
-use Rattle.lent.proofs.list.after_difference.Reads as list_after_difference_reads
-use Rattle.lent.proofs.vector.after_set.Kinds as vector_after_set_kinds
-use Rattle.lent.proofs.vector.after_set.Reads as vector_after_set_reads
-use Rattle.lent.proofs.vector.after_not.Kinds as vector_after_not_kinds
-use Rattle.lent.proofs.vector.after_not.Reads as vector_after_not_reads
-use Rattle.lent.proofs.vector.after_difference.Kinds as vector_after_difference_kinds
-use Rattle.lent.proofs.vector.after_difference.Reads as vector_after_difference_reads
-use Rattle.std.specs.declared.result.Result.{Result}
+-- The contract of each public function has one answer only, and leaves one bitfield behind the reference, whatever the behaviour. Of the functions
+-- on plain parameters it is said of the postconditions themselves, for the same arguments at entry; of those over a reference, of the equation
+-- that they promise: d is what the method by value answers. Assumes nothing.
+use mathlib.Core.Path.{◌≡◌, refl, ap}
+use Prim.Native.Nat.{ℕ}
+use native.Mathlib.Omega.{arith}
+use denote.Param.Laws.{Laws}
+use denote.RattleType.{RattleType}
+use mir.Syntax.{Dict}
 use Rattle.std.specs.Prelude.{⊤}
+use Rattle.std.specs.declared.result.Result.{Result}
+use Rattle.std.specs.declared.result.Result.TheVariants.{Ok, Err}
 use Rattle.standard.specs.declared.Refusal.{Refusal}
+use Rattle.standard.specs.declared.Refused.{Refused}
+use Rattle.standard.proofs.Only.{Only, only_answer}
+use Rattle.bitfield.specs.Bitfields.{Made}
+use Rattle.bitfield.specs.declared.Bitfield.{Bitfield}
+use Rattle.bitfield.specs.declared.BitfieldBehaviour.{Ghosts}
+use Rattle.lent.specs.Left.{left}
+use Rattle.lent.proofs.after_set.Kinds as after_set_kinds
+use Rattle.lent.proofs.after_set.Reads as after_set_reads
+use Rattle.lent.proofs.after_not.Kinds as after_not_kinds
+use Rattle.lent.proofs.after_not.Reads as after_not_reads
+use Rattle.lent.proofs.after_difference.Kinds as after_difference_kinds
+use Rattle.lent.proofs.after_difference.Reads as after_difference_reads
 
-pub list_left_only : (d : ListResult) (b c : BitList) (t u : Result ⊤ Refusal) → list_left b t ≡ d → list_left c u ≡ d → (b ≡ c) × (t ≡ u)
-list_left_only d b c t u p q =
-    let s = only_answer d (list_left b t) (list_left c u) p q in
-    (ap (λ (r : ListResult). r.field) s, ap (λ (r : ListResult). r.told) s)
+-- What is left and what is told are two parts of one answer.
+parts : {T : Type 0} (b c : Bitfield T) (t u : Result ⊤ Refusal) → left b t ≡ left c u → (b ≡ c) × (t ≡ u)
+parts b c (Ok one) (Ok two) e = (cc, refl)
+parts b c (Ok one) (Err y) e = let z : ◌≡◌ {A = ℕ} 0 1 = cc in absurd (omega arith)
+parts b c (Err x) (Ok two) e = let z : ◌≡◌ {A = ℕ} 0 1 = cc in absurd (omega arith)
+parts {T} b c (Err x) (Err y) e =
+    let one : Refused (Bitfield T) = record { state = b; refusal = x } in
+    let two : Refused (Bitfield T) = record { state = c; refusal = y } in
+    let q : one ≡ two = cc in
+    (ap (λ (r : Refused (Bitfield T)). r.state) q, ap (λ (r : Refused (Bitfield T)). Err r.refusal) q)
 
-pub vector_left_only : (d : VectorResult) (b c : BitVector) (t u : Result ⊤ Refusal) → vector_left b t ≡ d → vector_left c u ≡ d → (b ≡ c) × (t ≡ u)
-vector_left_only d b c t u p q =
-    let s = only_answer d (vector_left b t) (vector_left c u) p q in
-    (ap (λ (r : VectorResult). r.field) s, ap (λ (r : VectorResult). r.told) s)
+pub left_only : {T : Type 0} (d : Made T) (b c : Bitfield T) (t u : Result ⊤ Refusal) → left b t ≡ d → left c u ≡ d → (b ≡ c) × (t ≡ u)
+left_only d b c t u p q = parts b c t u (only_answer d (left b t) (left c u) p q)
 
-pub list_after_set_only : Only list_after_set_kinds.ps list_after_set_kinds.r list_after_set_reads.Post
-list_after_set_only κs a x y e f p q = only_answer _ x y p q
+module _ (T : RattleType) (L : Laws T) (behaviour : Ghosts T.Denot) (dict : Dict) where
+  pub after_set_only : Only (after_set_kinds.ps T L) (after_set_kinds.r T L) (after_set_reads.Post T L behaviour dict)
+  after_set_only κs a x y e f p q = only_answer _ x y p q
 
-pub list_after_not_only : Only list_after_not_kinds.ps list_after_not_kinds.r list_after_not_reads.Post
-list_after_not_only κs a x y e f p q = only_answer _ x y p q
+  pub after_not_only : Only (after_not_kinds.ps T L) (after_not_kinds.r T L) (after_not_reads.Post T L behaviour dict)
+  after_not_only κs a x y e f p q = only_answer _ x y p q
 
-pub list_after_difference_only : Only list_after_difference_kinds.ps list_after_difference_kinds.r list_after_difference_reads.Post
-list_after_difference_only κs a x y e f p q = only_answer _ x y p q
-
-pub vector_after_set_only : Only vector_after_set_kinds.ps vector_after_set_kinds.r vector_after_set_reads.Post
-vector_after_set_only κs a x y e f p q = only_answer _ x y p q
-
-pub vector_after_not_only : Only vector_after_not_kinds.ps vector_after_not_kinds.r vector_after_not_reads.Post
-vector_after_not_only κs a x y e f p q = only_answer _ x y p q
-
-pub vector_after_difference_only : Only vector_after_difference_kinds.ps vector_after_difference_kinds.r vector_after_difference_reads.Post
-vector_after_difference_only κs a x y e f p q = only_answer _ x y p q
+  pub after_difference_only : Only (after_difference_kinds.ps T L) (after_difference_kinds.r T L) (after_difference_reads.Post T L behaviour dict)
+  after_difference_only κs a x y e f p q = only_answer _ x y p q

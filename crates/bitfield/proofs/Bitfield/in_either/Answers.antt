@@ -12,5 +12,5 @@ returns g c =
     let one = c.requires.one.raw in
     let other = c.requires.other.raw in
     let e = firsts-known bit_or 256 a.bytes b.bytes _ (omega arith) one.long other.long (search rules)
-            (λ (k : ℕ) (h : k < 256). let p = c.combine-bytes.ensures.in_use k h in search rules) c.combine-bytes.ensures.behind in
+    (λ (k : ℕ) (h : k < 256). let p = c.combine-bytes.ensures.in_use k h in search rules) c.combine-bytes.ensures.behind in
     rw (e, c.max-len.ensures) (either-held a.bytes a.len b.bytes b.len a.n c.requires.one c.requires.other)

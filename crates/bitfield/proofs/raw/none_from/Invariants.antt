@@ -5,4 +5,3 @@ use Rattle.bitfield.proofs.raw.none_from.Given as goal
 
 abbrev pub invariant-loop-w : goal.invariant-loop-w
 invariant-loop-w l = (l.w ≤ 32) × Gathered l.bytes (8 * l.from) l.acc (8 * l.w)
-

@@ -5,4 +5,3 @@ use Rattle.bitfield.proofs.raw.none_in_halves.Given as goal
 
 abbrev pub invariant-loop-k : goal.invariant-loop-k
 invariant-loop-k l = (l.k ≤ 128) × Halved l.bytes l.from l.acc l.k
-

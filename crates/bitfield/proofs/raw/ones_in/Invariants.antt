@@ -6,4 +6,3 @@ use Rattle.bitfield.proofs.raw.ones_in.Given as goal
 
 abbrev pub invariant-loop-w : goal.invariant-loop-w
 invariant-loop-w l = (l.w ≤ l.words) × (l.sum ≤ 64 * l.w) × (l.sum + ones (num (drop (8 * l.w) l.bytes)) ≡ ones (num l.bytes))
-

@@ -5,4 +5,3 @@ use Rattle.bitfield.proofs.raw.shifted.Given as goal
 
 abbrev pub invariant-loop-i : goal.invariant-loop-i
 invariant-loop-i l = (l.i ≤ l.used) × Shifting l.a l.s l.places l.out l.carry l.i
-
