@@ -2,8 +2,8 @@
 use mathlib.Core.Path.{◌≡◌, refl, ◌∙◌}
 use mathlib.Core.List.{List}
 use mathlib.Core.Bool.{Bool, true, false}
-use Prim.Native.Nat.{ℕ, zero, suc, ◌+◌, ◌-◌, ◌*◌, ◌≤◌, ◌<◌, ◌^◌}
-use native.Mathlib.Nat.{add-zero, zero-add, mul-le-mul_left}
+use Prim.Native.Nat.{ℕ, zero, suc, ◌+◌, ◌-◌, ◌*◌, ◌≤◌, ◌<◌}
+use native.Mathlib.Nat.{add-zero, zero-add}
 use native.Mathlib.Omega.{arith}
 use borrow.Author.Tests.{le-leb, lt-leb, leb-true, leb-false}
 use lib.ListN.{length, get_or}
@@ -24,11 +24,6 @@ use Rattle.std.specs.declared.result.Result.{Result}
 use Rattle.standard.specs.declared.Refusal.{Refusal}
 
 -- Fewer than 2^32 elements, each of fewer bytes
-pub product_small : (m k : ℕ) → m < 2 ^ 32 → k < 2 ^ 32 → m * k < 2 ^ 64
-product_small m k h q =
-    let d : k ≤ 2 ^ 32 = omega arith in
-    omega (arith, mul-le-mul_left m d)
-
 -- The m elements that share the word at a, each k bytes of the bodies, are m * k bytes of them.
 module _ (lens l : List ℕ) (t a m : ℕ) (c b : List ℕ) (i j f : ℕ) (e : f ≡ word_at l a) (k : ℕ) (q : k ≡ get_or lens f 0) (p : Plain (tree_of l f) k) where
   -- what is measured of all of them

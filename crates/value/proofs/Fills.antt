@@ -24,9 +24,10 @@ use Rattle.layout.proofs.Trees.{legal_tree}
 use Rattle.message.specs.Read.{raw_bytes_lem}
 use Rattle.message.specs.Steps.{Under, Row, row_of, heads_of}
 use Rattle.message.proofs.Rows.{len_head, row_under, row_next, row-head, row-heads, row-fixed, row_variable, heads-none}
-use Rattle.value.specs.Walk.{Walked, upto, last_bits, walk_item, walk_fields}
+use Rattle.value.specs.Walk.{Walked, upto, walk_item, walk_fields}
 use Rattle.value.specs.Write.{word_after, byte_after, bytes_at, with_mark, write_item_lem, parts_from}
-use Rattle.value.specs.Steps.{IsUpto}
+use Rattle.value.specs.Steps.{types_in, heads_in, IsUpto}
+use Rattle.value.specs.declared.table.Members.{Members}
 use Rattle.value.specs.Stores.{Put, Fields}
 use Rattle.value.specs.declared.store.Stop.{Stop}
 use Rattle.value.proofs.Walks.{length-bytes_at}
@@ -36,20 +37,10 @@ use Rattle.value.proofs.Rows.{fields-walk, fields-parts, none_walk, none-parts}
 use Rattle.value.proofs.Fixed.{onward-first, item-part, row-portion}
 
 -- n bytes of the bodies.
-pub part-stored : (o : List ℕ) (at : ℕ) (b : List ℕ) (i j n : ℕ) (o' : List ℕ) → j + n ≤ length b → o' ≡ sets o at (take (j + n - j) (drop j b)) →
-    Put o at (bytes_at b j n) (upto i (j + n)) (record { word = i; byte = j + n; to = at + n }) o'
-part-stored o at b i j n o' h e =
-    let q : j + n - j ≡ n = omega arith in
-    record {
-      stored = record { list = rw q at e; ends = ap (λ (k : ℕ). at + k) (sym (length-bytes_at b j n h)) };
-      word = refl;
-      byte = refl;
-    }
-
 -- A bit list: its full bytes, then the byte with the mark.
 pub list-stored : (o : List ℕ) (at : ℕ) (b : List ℕ) (i j k x : ℕ) (o₁ : List ℕ) (raw : ℕ) → j + raw_bytes_lem k ≤ length b →
     o₁ ≡ sets o at (take (j + k / 8 - j) (drop j b)) → x ≡ pick (eqb (k % 8) 0) 1 (get_or b (j + k / 8) 0 + 2 ^ (k % 8)) → raw ≡ raw_bytes_lem k →
-    Put o at (with_mark b j k) (upto i (j + raw_bytes_lem k)) (record { word = i; byte = j + raw; to = at + k / 8 + 1 }) (set o₁ (at + k / 8) x)
+    Put o at (with_mark b j k) (upto i (j + raw_bytes_lem k)) (record { end = record { word = i; byte = j + raw }; to = at + k / 8 + 1 }) (set o₁ (at + k / 8) x)
 list-stored o at b i j k x o₁ raw h e y f =
     let m : bytes_at b j (k / 8) ++ (x ∷ []) ≡ with_mark b j k = ap (λ (v : ℕ). bytes_at b j (k / 8) ++ (v ∷ [])) y in
     let q : j + k / 8 - j ≡ k / 8 = omega arith in
@@ -61,16 +52,6 @@ list-stored o at b i j k x o₁ raw h e y f =
       word = refl;
       byte = ap (λ (v : ℕ). j + v) f;
     }
-
-pub mark_need : (b : List ℕ) (j k : ℕ) → j + raw_bytes_lem k ≤ length b → get_or b (j + raw_bytes_lem k - 1) 0 < 2 ^ last_bits k →
-    (k % 8 < 8) × ((k % 8 ≡ 0 → ⊥) → (j + k / 8 < length b) × (get_or b (j + k / 8) 0 < 2 ^ (k % 8)))
-mark_need b j k h l = (
-  omega arith,
-  λ z.
-      let e : j + raw_bytes_lem k - 1 ≡ j + k / 8 = omega arith in
-      let f : last_bits k ≡ k % 8 = omega arith in
-      (omega arith, rw (e, f) at l),
-)
 
 -- The mark set in a byte that has no bit there or above.
 pub mark_set : (x r : ℕ) → x < 2 ^ r → r < 8 → bit_or x ((1 * 2 ^ r) % 256) ≡ x + 2 ^ r
@@ -143,10 +124,6 @@ module _ (x : List ℕ) (ys : List Part) (o : List ℕ) (p q start own e : ℕ) 
   unfolding fixed_lengths backs
   room-fixed m g l = record { room = omega (arith, g.heads, g.tails, g.apart) }
 
-  pub room_offset : Two (piece Variable x ∷ ys) o p q start own e z → e ≤ length o → p + 4 ≤ length o
-  unfolding fixed_lengths
-  room_offset g l = omega (arith, g.heads, g.tails, g.apart)
-
   pub room_variable : Two (piece Variable x ∷ ys) o p q start own e z → e ≤ length o → (o₁ : List ℕ) → length o₁ ≡ length o → Room o₁ q x
   unfolding backs
   room_variable g l o₁ d = record { room = rw d (omega (arith, simp length-append at g.tails)) }
@@ -194,7 +171,7 @@ module _ {lens l : List ℕ} {t step : ℕ} {c b : List ℕ} {start own e : ℕ}
   writing-behind : (r : Stop) (o₁ : List ℕ) (at : ℕ) (o₂ : List ℕ) → length o₁ ≡ length o →
       Put o₁ at (write_item_lem (tree_of l f) c b i j) (walk_item (tree_of l f) c b i j) r o₂ → (p₂ q₂ : ℕ) →
       Two (parts_from (row_of l t (a + step) step (left - 1)) c b (word_after (walk_item (tree_of l f) c b i j)) (byte_after (walk_item (tree_of l f) c b i j)))
-      o₂ p₂ q₂ start own e z → Writing lens l t step c b start own e w z o₀ o₂ p₂ q₂ (a + step) (left - 1) r.word r.byte
+      o₂ p₂ q₂ start own e z → Writing lens l t step c b start own e w z o₀ o₂ p₂ q₂ (a + step) (left - 1) r.end.word r.end.byte
   writing-behind r o₁ at o₂ d x p₂ q₂ two =
       let s : length o₂ ≡ length o = put-length o₁ at _ _ r o₂ x ∙ d in
       record {
@@ -219,19 +196,16 @@ module _ {lens l : List ℕ} {t step : ℕ} {c b : List ℕ} {start own e : ℕ}
     writing-there = part_need fixed-part (room-fixed _ _ o p q start own e z k fixed-parts g.room)
 
     pub writing-fixed : {r : Stop} {o₂ : List ℕ} → Put o p (bytes_at b j k) (upto i (j + k)) r o₂ →
-        Writing lens l t step c b start own e w z o₀ o₂ r.to q (a + step) (left - 1) i r.byte
+        Writing lens l t step c b start own e w z o₀ o₂ r.to q (a + step) (left - 1) r.end.word r.end.byte
     writing-fixed {r} {o₂} d =
         let x = part-done fixed-part d in
-        rw d.word at (writing-behind r o p o₂ refl x r.to q (two-fixed _ _ o p q start own e z k fixed-parts o₂ r.to x.stored))
+        writing-behind r o p o₂ refl x r.to q (two-fixed _ _ o p q start own e z k fixed-parts o₂ r.to x.stored)
 
   -- A field of variable size: its offset where its head is, then the item at q.
   module _ {k : ℕ} (n : k ≡ get_or lens f 0) (s : k ≤ 0) where
     variable_parts_lem : Two (piece Variable (write_item_lem (tree_of l f) c b i j) ∷ parts_from (row_of l t (a + step) step (left - 1)) c b
         (word_after (walk_item (tree_of l f) c b i j)) (byte_after (walk_item (tree_of l f) c b i j))) o p q start own e z
     variable_parts_lem = rw (← row_variable lens l t a step left f g.row y v k n (omega arith)) at writing-parts
-
-    pub writing_offset : (start ≤ q) × (p + 4 ≤ length o)
-    writing_offset = (omega (arith, g.two.apart), room_offset _ _ o p q start own e z variable_parts_lem g.room)
 
     module _ {o₁ : List ℕ} (d : o₁ ≡ sets o p (le 4 (q - start))) where
       offset_long : length o₁ ≡ length o
@@ -241,35 +215,35 @@ module _ {lens l : List ℕ} {t step : ℕ} {c b : List ℕ} {start own e : ℕ}
       writing-room = room_variable _ _ o p q start own e z variable_parts_lem g.room o₁ offset_long
 
       pub writing-next : {r : Stop} {o₂ : List ℕ} → Put o₁ q (write_item_lem (tree_of l f) c b i j) (walk_item (tree_of l f) c b i j) r o₂ →
-          Writing lens l t step c b start own e w z o₀ o₂ (p + 4) r.to (a + step) (left - 1) r.word r.byte
+          Writing lens l t step c b start own e w z o₀ o₂ (p + 4) r.to (a + step) (left - 1) r.end.word r.end.byte
       writing-next {r} {o₂} x =
           writing-behind r o₁ q o₂ offset_long x (p + 4) r.to
           (two_variable _ _ o p q start own e z variable_parts_lem o₂ r.to (rw d at x.stored))
 
-pub writing-none : {lens l : List ℕ} {t a step n : ℕ} {c b : List ℕ} {i j : ℕ} {o : List ℕ} {start own : ℕ} → Fields lens l t a step n c b i j o start →
-    own ≡ portion (heads_of l t a step n) → Writing lens l t step c b start own (start + length (join (parts_from (row_of l t a step n) c b i j)))
-    (walk_fields (row_of l t a step n) c b i j) (sets o start (join (parts_from (row_of l t a step n) c b i j))) o o start (start + own) a n i j
-writing-none {lens} {l} {t} {a} {step} {n} {c} {b} {i} {j} {o} {start} {own} g e =
-    record {
-      well = g.walk;
-      long = refl;
-      row = g.row;
-      walk = refl;
-      room = g.room.room;
-      two =
-          two-start (parts_from (row_of l t a step n) c b i j) o start own
-          (e ∙ sym (row-portion lens l t a step n c b i j g.row g.walk));
-    }
+module _ {lens l : List ℕ} {m : Members} {c b : List ℕ} {i j : ℕ} {o : List ℕ} {start own : ℕ} (g : Fields lens l m c b i j o start)
+    (e : own ≡ portion (heads_in l m)) where
+  pub writing-none : Writing lens l m.of m.step c b start own (start + length (join (parts_from (types_in l m) c b i j)))
+      (walk_fields (types_in l m) c b i j) (sets o start (join (parts_from (types_in l m) c b i j))) o o start (start + own) m.first m.many i j
+  writing-none =
+      record {
+        well = g.walk;
+        long = refl;
+        row = g.row;
+        walk = refl;
+        room = g.room.room;
+        two =
+            two-start (parts_from (types_in l m) c b i j) o start own
+            (e ∙ sym (row-portion lens l m.of m.first m.step m.many c b i j g.row g.walk));
+      }
 
-pub fields_fit : {lens l : List ℕ} {t a step n : ℕ} {c b : List ℕ} {i j : ℕ} {o : List ℕ} {start own : ℕ} → Fields lens l t a step n c b i j o start →
-    own ≡ portion (heads_of l t a step n) → start + own ≤ length o
-fields_fit {lens} {l} {t} {a} {step} {n} {c} {b} {i} {j} {o} {start} {own} g e =
-    let p = row-portion lens l t a step n c b i j g.row g.walk in
-    omega (arith, g.room.room, p, length-join (parts_from (row_of l t a step n) c b i j))
+  pub fields_fit : start + own ≤ length o
+  fields_fit =
+      let p = row-portion lens l m.of m.first m.step m.many c b i j g.row g.walk in
+      omega (arith, g.room.room, p, length-join (parts_from (types_in l m) c b i j))
 
 pub writing-end : {lens l : List ℕ} {t step : ℕ} {c b : List ℕ} {start own e : ℕ} {w : Walked} {x o₀ o : List ℕ} {p q a left i j : ℕ} →
     Writing lens l t step c b start own e w (sets o₀ start x) o₀ o p q a left i j → e ≡ start + length x → left ≤ 0 →
-    Put o₀ start x w (record { word = i; byte = j; to = q }) o
+    Put o₀ start x w (record { end = record { word = i; byte = j }; to = q }) o
 writing-end {lens} {l} {t} {step} {c} {b} {start} {own} {e} {w} {x} {o₀} {o} {p} {q} {a} {left} {i} {j} g n h =
     let d = sym (none_walk l t a step left c b i j h) ∙ g.walk in
     let y = two-end o p q start own e (sets o₀ start x) (rw (none-parts l t a step left c b i j h) at g.two) in

@@ -41,9 +41,6 @@ module _ (b : List ℕ) (j : ℕ) (x r : List ℕ) (e : drop j b ≡ x ++ r) (h 
   at-bytes : (n : ℕ) → length x ≡ n → bytes_at b j n ≡ x
   at-bytes n m = rw e (take_at x r n m)
 
-  at_rest : drop (j + length x) b ≡ r
-  at_rest = sym (drop-drop (length x) j b) ∙ rw e (drop_at x r (length x) refl)
-
   pub at_byte : (i : ℕ) → i < length x → get_or b (j + i) 0 ≡ get_or x i 0
   at_byte i k = sym (get_or-drop j b i 0) ∙ rw e (get_or-append x r 0 i k)
 

@@ -104,7 +104,7 @@ module _ (lens l : List ℕ) (t a₀ step n : ℕ) (c b : List ℕ) (i₀ j₀ :
       let y : length (write_item_lem (tree_of l f) c b i j) ≡ k = ap length (p.write c b i j) ∙ length-bytes_at b j k (leb-true _ _ h) in
       let w : walk_item (tree_of l f) c b i j ≡ upto i (j + k) = p.walk c b i j ∙ rw h in
       let d : head_of k ≡ Fixed k = ap head_of q ∙ row-head lens l t a step left f g.row z e ∙ p.head in
-      let x = measuring_next lens l t a₀ step n c b i₀ j₀ sum a left i j f g z e (record { word = i; byte = j + k; len = cap k }) (rw (w, y)) k q (cap k)
+      let x = measuring_next lens l t a₀ step n c b i₀ j₀ sum a left i j f g z e (record { end = record { word = i; byte = j + k }; len = cap k }) (rw (w, y)) k q (cap k)
       (rw d (omega arith)) in
       let v : cap (sum + cap k) ≡ cap (sum + k) = omega arith in
       rw v at x

@@ -2,16 +2,16 @@
 -- with a word each. Assumes nothing.
 use mathlib.Core.Path.{◌≡◌, refl, sym, ap, ◌∙◌}
 use mathlib.Core.List.{List}
+use mathlib.Core.Logic.{◌⊎◌, inl, inr}
 use Prim.Native.Nat.{ℕ, zero, suc, ◌+◌, ◌*◌, ◌<◌, ◌≤◌, ◌^◌}
 use native.Mathlib.Omega.{arith}
-use borrow.Author.Tests.{lt-ltb, le-ltb, le-leb, lt-leb}
+use borrow.Author.Tests.{lt-ltb, le-leb}
 use lib.ListN.{length, get_or}
 use lib.Dec.{leb}
 use Rattle.standard.specs.Bytes.{word_at}
 use Rattle.standard.specs.Types.{list, vector, head, head_all, width, portion}
 use Rattle.standard.specs.Parts.{join}
 use Rattle.standard.specs.declared.Head.{Head}
-use Rattle.standard.specs.declared.Refusal.TheVariants.{BadValue}
 use Rattle.standard.proofs.Elements.{portion-copies}
 use Rattle.layout.specs.Tree.{node_of, tree_of, filled}
 use Rattle.layout.specs.Legal.{Legal}
@@ -24,9 +24,11 @@ use Rattle.message.proofs.Repeats.{else_list, element-below, element-copies, ele
 use Rattle.std.specs.declared.result.Result.TheVariants.{Ok, Err}
 use Rattle.value.specs.Walk.{with_word, walk_item, walk_fields}
 use Rattle.value.specs.Write.{write_item_lem, parts_from}
-use Rattle.value.specs.Steps.{LaidAs}
+use Rattle.value.specs.Steps.{counted, LaidAs}
 use Rattle.value.specs.Stores.{Together}
 use Rattle.value.specs.declared.laid.Laid.{Laid}
+use Rattle.standard.specs.declared.Refusal.{Refusal}
+use Rattle.value.proofs.Walks.{counted-there, counted-wrong}
 use Rattle.value.proofs.Copies.{walk-copies, parts-copies}
 use Rattle.value.proofs.Fixed.{copies-fixed}
 use Rattle.value.proofs.Rows.{container-walk, container-write}
@@ -68,9 +70,10 @@ module _ (l : List ℕ) (t : ℕ) (g : Legal l (t + 1)) (f : t < 64) (n : Node) 
   under : Under (filled l (t + 1)) l (t + 1)
   under = record { legal = g; few = omega arith; room = length-filled l (t + 1) (omega arith); found = λ x h. filled-get l (t + 1) x h }
 
-  pub laid-container : n.kind ≡ 6 → LaidAs l t c i (Ok (Laid.Fields (n.at + 2) 1 n.second i))
+  pub laid-container : n.kind ≡ 6 → LaidAs l t c i (Ok (Laid.Row (record { of = t; first = n.at + 2; step = 1; many = n.second }) i))
   laid-container q =
       record {
+        own = refl;
         row = λ lens u. container-row lens l t n e u q;
         small = (legal_node l t n e g).small;
         walk = λ b j. container-walk l t n e q c b i j;
@@ -79,9 +82,10 @@ module _ (l : List ℕ) (t : ℕ) (g : Legal l (t + 1)) (f : t < 64) (n : Node) 
 
   module _ (k : 8 ≤ n.kind) where
     module _ (m : ℕ) (d : m ≡ word_at l (n.at + 2)) where
-      pub laid-vector : n.kind ≡ 9 → m < 2 ^ 32 → LaidAs l t c i (Ok (Laid.Fields (n.at + 1) 0 m i))
+      pub laid-vector : n.kind ≡ 9 → m < 2 ^ 32 → LaidAs l t c i (Ok (Laid.Row (record { of = t; first = n.at + 1; step = 0; many = m }) i))
       laid-vector q h =
           record {
+            own = refl;
             row = λ lens u. element-row lens l t n e u k m h;
             small = h;
             walk = λ b j. rw d (vector-walk (filled l (t + 1)) l t n e under k c b i j q);
@@ -92,24 +96,23 @@ module _ (l : List ℕ) (t : ℕ) (g : Legal l (t + 1)) (f : t < 64) (n : Node) 
         kind-list : n.kind ≡ 8
         kind-list = else_list (filled l (t + 1)) l t n e under k z
 
-        pub laid_missing : length c ≤ i → LaidAs l t c i (Err (BadValue 0 (length c)))
-        laid_missing h b j = rw (list-walk (filled l (t + 1)) l t n e under k c b i j kind-list, le-ltb i (length c) h)
+        pub laid-uncounted : (r : Refusal) → Err r ≡ counted c i m → LaidAs l t c i (Err r)
+        laid-uncounted r h b j =
+            list-walk (filled l (t + 1)) l t n e under k c b i j kind-list ∙ rw (← d) (counted-wrong c i m r h _)
 
-        module _ (h : i < length c) where
-          module _ (x : ℕ) (y : x ≡ get_or c i 0) where
-            pub laid-over : m < x → LaidAs l t c i (Err (BadValue 0 i))
-            laid-over o b j =
-                rw (list-walk (filled l (t + 1)) l t n e under k c b i j kind-list, lt-ltb i (length c) h, ← d, ← y, lt-leb x m o)
-
-            pub laid-list : x ≤ m → x < 2 ^ 32 → LaidAs l t c i (Ok (Laid.Fields (n.at + 1) 0 x (i + 1)))
-            laid-list o s =
-                record {
-                  row = λ lens u. element-row lens l t n e u k x s;
-                  small = s;
-                  walk = λ b j.
-                      rw (list-walk (filled l (t + 1)) l t n e under k c b i j kind-list, lt-ltb i (length c) h, ← d, ← y, le-leb x m o);
-                  write = λ b j. rw y (list-write (filled l (t + 1)) l t n e under k c b i j kind-list);
-                }
+        pub laid-list : (x : ℕ) → Ok x ≡ counted c i m → m < 2 ^ 32 →
+            LaidAs l t c i (Ok (Laid.Row (record { of = t; first = n.at + 1; step = 0; many = x }) (i + 1)))
+        laid-list x h g =
+            let q = counted-there c i m x h in
+            let s : x < 2 ^ 32 = omega arith in
+            record {
+              own = refl;
+              row = λ lens u. element-row lens l t n e u k x s;
+              small = s;
+              walk = λ b j.
+                  rw (list-walk (filled l (t + 1)) l t n e under k c b i j kind-list, lt-ltb i (length c) q.0, ← d, ← q.1, le-leb x m q.2);
+              write = λ b j. rw q.1 (list-write (filled l (t + 1)) l t n e under k c b i j kind-list);
+            }
 
 -- Elements of fixed size are of their length together, others have an offset each.
 some_factor : (n k : ℕ) → 0 < n * k → 0 < k
@@ -134,14 +137,12 @@ elements-together lens l t a n f k g z e q =
           ap portion (shared-heads l t a f e below n) ∙ portion-copies n (head (tree_of l f)) ∙ ap (λ (v : Head). n * width v) (sym x) ∙ omega arith;
     }
 
-pub no-elements : (l : List ℕ) (t a step n : ℕ) → n ≤ 0 → Together (row_of l t a step n) step n 0
+pub not-together : (l : List ℕ) (t a step n : ℕ) → (0 < step) ⊎ ((step ≤ 0) × (n ≡ 0)) → Together (row_of l t a step n) step n 0
 unfolding portion
-no-elements l t a step n h =
+not-together l t a step n (inl h) =
+    record { fixed = λ (s : 0 < 0). absurd (omega arith); offsets = λ (s : 0 ≤ 0) (d : step ≡ 0). absurd (omega arith) }
+not-together l t a step n (inr h) =
     record {
       fixed = λ (s : 0 < 0). absurd (omega arith);
-      offsets = λ s d. let e : 0 ≡ 4 * n = omega arith in rw (heads-none l t a step n h) e;
+      offsets = λ s d. let e : 0 ≡ 4 * n = omega arith in rw (heads-none l t a step n (omega arith)) e;
     }
-
-pub no_sharing : (l : List ℕ) (t a step n : ℕ) → 0 < step → Together (row_of l t a step n) step n 0
-no_sharing l t a step n h =
-    record { fixed = λ (s : 0 < 0). absurd (omega arith); offsets = λ (s : 0 ≤ 0) (d : step ≡ 0). absurd (omega arith) }

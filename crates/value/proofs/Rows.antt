@@ -70,10 +70,10 @@ module _ (lens l : List ℕ) (t a₀ step n : ℕ) (c b : List ℕ) (i₀ j₀ :
     (z : 0 < left) (e : f ≡ word_at l a) where
   pub measuring_next : (m : Mark) → Ok m ≡ measured (walk_item (tree_of l f) c b i j) (length (write_item_lem (tree_of l f) c b i j)) → (k : ℕ) →
       k ≡ get_or lens f 0 → (own : ℕ) → own ≡ cap (extra (head_of k) + m.len) →
-      Measuring lens l t a₀ step n c b i₀ j₀ (cap (sum + own)) (a + step) (left - 1) m.word m.byte
+      Measuring lens l t a₀ step n c b i₀ j₀ (cap (sum + own)) (a + step) (left - 1) m.end.word m.end.byte
   measuring_next m h k o own p =
       let q = measured-says (walk_item (tree_of l f) c b i j) (length (write_item_lem (tree_of l f) c b i j)) m h in
-      let x = parts_from (row_of l t (a + step) step (left - 1)) c b m.word m.byte in
+      let x = parts_from (row_of l t (a + step) step (left - 1)) c b m.end.word m.end.byte in
       let d : head_of k ≡ head (tree_of l f) = ap head_of o ∙ row-head lens l t a step left f g.row z e in
       let y = join_more (head (tree_of l f)) (write_item_lem (tree_of l f) c b i j) x in
       let v : cap (cap (sum + own) + length (join x)) ≡ cap (sum + length (join (piece (head (tree_of l f)) (write_item_lem (tree_of l f) c b i j) ∷ x))) =
@@ -83,7 +83,7 @@ module _ (lens l : List ℕ) (t a₀ step n : ℕ) (c b : List ℕ) (i₀ j₀ :
         some = omega (arith, g.some);
         small = omega arith;
         same =
-            measured-cap (walk_fields (row_of l t (a + step) step (left - 1)) c b m.word m.byte) _ _ v
+            measured-cap (walk_fields (row_of l t (a + step) step (left - 1)) c b m.end.word m.end.byte) _ _ v
             ∙ rw (fields-walk lens l t a step left f g.row z e c b i j, fields-parts lens l t a step left f g.row z e c b i j, q.0) at g.same;
       }
 
@@ -95,12 +95,12 @@ module _ (lens l : List ℕ) (t a₀ step n : ℕ) (c b : List ℕ) (i₀ j₀ :
 
 pub measuring_end : (lens l : List ℕ) (t a₀ step n : ℕ) (c b : List ℕ) (i₀ j₀ : ℕ) (sum a left i j : ℕ) →
     Measuring lens l t a₀ step n c b i₀ j₀ sum a left i j → left ≤ 0 →
-    Ok (record { word = i; byte = j; len = sum }) ≡
+    Ok (record { end = record { word = i; byte = j }; len = sum }) ≡
     measured (walk_fields (row_of l t a₀ step n) c b i₀ j₀) (length (join (parts_from (row_of l t a₀ step n) c b i₀ j₀)))
 unfolding join fronts backs fixed_lengths
 measuring_end lens l t a₀ step n c b i₀ j₀ sum a left i j g h =
     let v : sum ≡ cap (sum + length (join [])) = omega (arith, g.small) in
-    ap (λ (k : ℕ). Ok (record { word = i; byte = j; len = k })) v
+    ap (λ (k : ℕ). Ok (record { end = record { word = i; byte = j }; len = k })) v
     ∙ rw (none_walk l t a step left c b i j h, none-parts l t a step left c b i j h) at g.same
 
 -- A container.

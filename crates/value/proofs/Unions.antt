@@ -144,7 +144,7 @@ module _ (l : List ℕ) (a n : ℕ) (c : List ℕ) (i : ℕ) where
   wrong_of (Err x) y = y ≡ wrong x
   wrong_of (Ok Laid.Bare) y = Unit {0}
   wrong_of (Ok (Laid.Body o)) y = Unit {0}
-  wrong_of (Ok (Laid.Fields a b c d)) y = ⊥
+  wrong_of (Ok (Laid.Row m p)) y = ⊥
 
   chosen-wrong : (lower : List Ty) (b : List ℕ) (j : ℕ) → wrong_of (choose l a n c i)
       (pick (ltb i (length c)) (walk_found c b i j (pick (ltb (get_or c i 0) n) (found_at lower w) nothing)) (wrong (BadValue 0 (length c))))
@@ -186,7 +186,7 @@ module _ (l : List ℕ) (t : ℕ) (r : Node) (e : r ≡ node_of l t) (k : r.kind
 
   pub laid-union : (x : Result Laid Refusal) → x ≡ choose l (r.at + 2) r.second c i → LaidAs l t c i x
   unfolding w LowerOrBare
-  laid-union (Ok (Laid.Fields a b n p)) q = absurd (rw (← q) at (chosen-wrong l (r.at + 2) r.second c i (trees l t) [] 0))
+  laid-union (Ok (Laid.Row m p)) q = absurd (rw (← q) at (chosen-wrong l (r.at + 2) r.second c i (trees l t) [] 0))
   laid-union (Ok Laid.Bare) q =
       let p = chosen-bare l (r.at + 2) r.second c i q in
       record {

@@ -4,22 +4,17 @@ ghost use Rattle.layout.specs.Tree.{node_of};
 ghost use Rattle.layout.specs.Legal.{Legal};
 ghost use Rattle.value.specs.Steps.{choose, laid_of, laid_at, LaidAs};
 
-use crate::words::{content_at, word_in};
+use crate::form::Form;
+use crate::table::{Members, Table};
 use decode::union_selector::UnionSelector;
 use layout::{NO_BODY, Node};
 use standard::Refusal;
 use standard::words::word_at;
 
-// Of a row: the table's word that names the first, how many words apart they are named, how many they are, and the contents word that
-// theirs start with. Of a union: an option without body, the type of a body.
+// A row of fields or elements, whose forms start at the contents word `word`. Or of a union: an option without body, the type of a body.
 #[derive(Clone, Copy)]
 pub(crate) enum Laid {
-    Fields {
-        first: usize,
-        step: usize,
-        count: usize,
-        word: usize,
-    },
+    Row { members: Members, word: usize },
     Bare,
     Body(usize),
 }
@@ -54,62 +49,59 @@ fn option_of(
 }
 
 // What the contents word at i chooses among the n options that the words from a on name. No table has more than 128 options.
-fn select(layout: &[u8], a: usize, n: usize, contents: &[u32], i: usize) -> Result<Laid, Refusal>
+fn select(layout: &[u8], a: usize, n: usize, form: Form, i: usize) -> Result<Laid, Refusal>
     requires { (a < 2 ^ 34) × (n ≤ 128) }
-    ensures { result ≡ choose layout.now a n contents.now i }
+    ensures { result ≡ choose layout.now a n form.entry.contents.now i }
 {
-    let k = content_at(contents, i)?;
-    if k > 127 {
-        return Err(Refusal::BadValue(0, i));
-    }
+    let k = form.count_at(i, 127)?;
     let Ok(selector) = UnionSelector::new(k as u8) else {
         return Err(Refusal::BadValue(0, i));
     };
     option_of(layout, a, n, selector, i)
 }
 
-// What the item of the type t is made of, whose words are n: t only says whose. Fields are named by a word each, elements share one. A
-// vector's count is in the table, a list's is the contents word before its elements.
-pub(crate) fn lay(
-    layout: &[u8],
-    t: usize,
-    n: Node,
-    contents: &[u32],
-    i: usize,
-) -> Result<Laid, Refusal>
-    requires { Legal layout.now (t + 1) × (t < 64) × (n ≡ node_of layout.now t) × (6 ≤ n.kind) }
-    ensures { LaidAs layout.now t contents.now i result }
+// What the item of the type t is made of, whose words are n: t only says whose. A vector's count is in the table, a list's is the contents
+// word before its elements.
+pub(crate) fn lay(table: Table, t: usize, n: Node, form: Form, i: usize) -> Result<Laid, Refusal>
+    requires { Legal table.layout.now (t + 1) × (t < 64) × (n ≡ node_of table.layout.now t) × (6 ≤ n.kind) }
+    ensures { LaidAs table.entry.layout.now t form.entry.contents.now i result }
 {
     let third = n.at + 2;
     if n.kind == 6 {
-        return Ok(Laid::Fields {
-            first: third,
-            step: 1,
-            count: n.second,
+        return Ok(Laid::Row {
+            members: Members {
+                of: t,
+                first: third,
+                step: 1,
+                many: n.second,
+            },
             word: i,
         });
     }
     if n.kind == 7 {
-        return select(layout, third, n.second, contents, i);
+        return select(table.layout, third, n.second, form, i);
     }
-    let most = word_in(layout, third);
-    let element = n.at + 1;
+    let most = table.word(third);
+    let first = n.at + 1;
     if n.kind == 9 {
-        return Ok(Laid::Fields {
-            first: element,
-            step: 0,
-            count: most,
+        return Ok(Laid::Row {
+            members: Members {
+                of: t,
+                first,
+                step: 0,
+                many: most,
+            },
             word: i,
         });
     }
-    let count = content_at(contents, i)?;
-    if count > most {
-        return Err(Refusal::BadValue(0, i));
-    }
-    Ok(Laid::Fields {
-        first: element,
-        step: 0,
-        count,
+    let many = form.count_at(i, most)?;
+    Ok(Laid::Row {
+        members: Members {
+            of: t,
+            first,
+            step: 0,
+            many,
+        },
         word: i + 1,
     })
 }

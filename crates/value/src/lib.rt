@@ -1,40 +1,37 @@
 // The value writer: from the form of a value to the message.
 #![tactic(auto)]
 
+mod form;
 mod laid;
 mod measure;
 mod store;
-mod words;
+mod table;
 
 ghost use Rattle.std.specs.Prelude.{◌≡◌, ◌≤◌};
 ghost use Rattle.message.specs.Steps.{Under};
 ghost use Rattle.value.specs.Write.{written_under, stored_under, write_message, written_bytes};
 
+use form::{Form, Place};
 use layout::table_of;
 use measure::measure_item;
 use standard::Refusal;
 use store::write_item;
+use table::Table;
 
 // Writes under a legal table of n types.
-fn write_under(
-    out: &mut [u8],
-    lens: &[u32; 64],
-    layout: &[u8],
-    n: usize,
-    contents: &[u32],
-    bodies: &[u8],
-) -> Result<usize, Refusal>
-    requires { Under lens.now layout.now n × (1 ≤ n) }
-    ensures value { result ≡ written_under (Ok n) layout.now contents.now bodies.now out.old }
-    ensures out_after { out.new ≡ stored_under (Ok n) layout.now contents.now bodies.now out.old }
+fn write_under(out: &mut [u8], table: Table, n: usize, form: Form) -> Result<usize, Refusal>
+    requires { Under table.lens.now table.layout.now n × (1 ≤ n) }
+    ensures value { result ≡ written_under (Ok n) table.entry.layout.now form.entry.contents.now form.entry.bodies.now out.old }
+    ensures out_after { out.new ≡ stored_under (Ok n) table.entry.layout.now form.entry.contents.now form.entry.bodies.now out.old }
 {
     let last = n - 1;
-    let m = measure_item(lens, layout, last, contents, bodies, 0, 0)?;
-    if m.word < contents.len() {
-        return Err(Refusal::BadValue(0, m.word));
+    let start = Place { word: 0, byte: 0 };
+    let m = measure_item(table, last, form, start)?;
+    if m.end.word < form.contents.len() {
+        return Err(Refusal::BadValue(0, m.end.word));
     }
-    if m.byte < bodies.len() {
-        return Err(Refusal::BadValue(1, m.byte));
+    if m.end.byte < form.bodies.len() {
+        return Err(Refusal::BadValue(1, m.end.byte));
     }
     if m.len > 4294967295 {
         return Err(Refusal::TooLarge);
@@ -43,7 +40,7 @@ fn write_under(
     if m.len > room {
         return Err(Refusal::NoRoom(m.len, room));
     }
-    write_item(out, 0, lens, layout, last, contents, bodies, 0, 0);
+    write_item(out, 0, table, last, form, start);
     Ok(m.len)
 }
 
@@ -61,5 +58,9 @@ pub fn write(
 {
     let mut lens = [0u32; 64];
     let n = table_of(&mut lens, layout)?;
-    write_under(out, &lens, layout, n, contents, bodies)
+    let table = Table {
+        lens: &lens,
+        layout,
+    };
+    write_under(out, table, n, Form { contents, bodies })
 }

@@ -1,58 +1,41 @@
 // The form of a value measured: its first fault, or how far it goes and how long what it says is. Nothing is written.
-ghost use Rattle.std.specs.Prelude.{◌≡◌, ◌+◌, ◌/◌, ◌<◌, ◌^◌, length, get_or, ltb, leb};
+ghost use Rattle.std.specs.Prelude.{◌≡◌, ◌+◌, ◌/◌, ◌<◌, ◌^◌, length, get_or, ltb};
 ghost use Rattle.standard.specs.Choice.{pick};
 ghost use Rattle.standard.specs.Types.{free_bytes, bit_list};
-ghost use Rattle.standard.specs.Parts.{join};
 ghost use Rattle.standard.specs.declared.Refusal.TheVariants.{BadValue};
 ghost use Rattle.layout.specs.Tree.{leaf_of, tree_of, head_of};
 ghost use Rattle.message.specs.Read.{raw_bytes_lem};
-ghost use Rattle.message.specs.Steps.{Under, Row, row_of, is_plain};
-ghost use Rattle.value.specs.Walk.{upto, wrong, with_body, walk_bits, walk_item, walk_fields};
-ghost use Rattle.value.specs.Write.{write_item_lem, parts_from};
-ghost use Rattle.value.specs.Steps.{cap, measured, selected, extra, AllPlain};
-ghost use Rattle.value.specs.declared.measure.Mark.{Mark};
+ghost use Rattle.message.specs.Steps.{Under, is_plain};
+ghost use Rattle.value.specs.Walk.{upto, wrong, with_body, walk_bits, walk_item};
+ghost use Rattle.value.specs.Steps.{InRow, types_in, cap, measured, measured_item, measured_row, selected, extra, AllPlain};
 
+use crate::form::{Form, Place};
 use crate::laid::{Laid, lay};
-use crate::words::{content_at, look_in, word_in};
+use crate::table::{Members, Table};
 use layout::Node;
 use standard::Refusal;
 
-// How far the contents and the bodies are used, and the length of what they say, as far as 2^32.
+// From here on a length is too large, whatever it is.
+const TOO_LARGE: usize = 1 << 32;
+
+// How far a form is used, and the length of what it says, as far as 2^32.
 #[derive(Clone, Copy)]
 pub(crate) struct Mark {
-    pub word: usize,
-    pub byte: usize,
+    pub end: Place,
     pub len: usize,
-}
-
-// From 2^32 on a length is too large, whatever it is.
-fn capped(n: usize) -> usize
-    ensures { result ≡ cap n }
-{
-    if n < 4294967296 { n } else { 4294967296 }
 }
 
 fn add(a: usize, b: usize) -> usize
     ensures { result ≡ cap (a + b) }
 {
-    let x = capped(a);
-    let y = capped(b);
-    let sum = x + y;
-    capped(sum)
+    a.saturating_add(b).min(TOO_LARGE)
 }
 
 // The raw bytes of so many bits.
 pub(crate) fn raw_bytes(bits: usize) -> usize
     ensures { result ≡ raw_bytes_lem bits }
 {
-    let q = bits / 8;
-    if bits % 8 != 0 {
-        return q + 1;
-    }
-    if q == 0 {
-        return 1;
-    }
-    q
+    bits.div_ceil(8).max(1)
 }
 
 // A number or fixed bytes: as many body bytes as the type's length says, and no contents word.
@@ -60,145 +43,103 @@ pub(crate) fn raw_bytes(bits: usize) -> usize
 fn is_plain(kind: usize) -> bool
     ensures { result ≡ is_plain kind }
 {
-    if kind == 0 {
-        return true;
-    }
-    kind == 2
-}
-
-// Whether the bodies have n bytes from j on.
-fn has(bodies: &[u8], j: usize, n: usize) -> bool
-    ensures { result ≡ leb (j + n) (length bodies.now) }
-{
-    let len = bodies.len();
-    if j > len {
-        return false;
-    }
-    let left = len - j;
-    if n <= left { true } else { false }
+    kind == 0 || kind == 2
 }
 
 // A number or fixed bytes: n bytes.
-fn measure_exact(bodies: &[u8], i: usize, j: usize, n: usize) -> Result<Mark, Refusal>
-    ensures { result ≡ measured (with_body bodies.now j n (upto i (j + n))) n }
+fn measure_exact(form: Form, at: Place, n: usize) -> Result<Mark, Refusal>
+    ensures { result ≡ measured (with_body form.entry.bodies.now at.byte n (upto at.word (at.byte + n))) n }
 {
-    let there = has(bodies, j, n);
-    if there {
-        let byte = j + n;
-        let len = capped(n);
-        Ok(Mark { word: i, byte, len })
-    } else {
-        Err(Refusal::BadValue(1, bodies.len()))
+    if !form.has(at.byte, n) {
+        return Err(form.short());
     }
+    let end = Place {
+        byte: at.byte + n,
+        ..at
+    };
+    Ok(Mark {
+        end,
+        len: n.min(TOO_LARGE),
+    })
 }
 
 // A boolean: one byte, 0 or 1.
-fn measure_boolean(bodies: &[u8], i: usize, j: usize) -> Result<Mark, Refusal>
-    ensures { result ≡ measured (with_body bodies.now j 1 (pick (ltb (get_or bodies.now j 0) 2) (upto i (j + 1)) (wrong (BadValue 1 j)))) 1 }
+fn measure_boolean(form: Form, at: Place) -> Result<Mark, Refusal>
+    ensures { result ≡ measured (with_body form.entry.bodies.now at.byte 1 (pick (ltb (get_or form.entry.bodies.now at.byte 0) 2) (upto at.word (at.byte + 1)) (wrong (BadValue 1 at.byte)))) 1 }
 {
-    let len = bodies.len();
-    if j >= len {
-        return Err(Refusal::BadValue(1, len));
+    let Some(x) = form.bodies.get(at.byte) else {
+        return Err(form.short());
+    };
+    if *x > 1 {
+        return Err(Refusal::BadValue(1, at.byte));
     }
-    if bodies[j] < 2 {
-        let byte = j + 1;
-        return Ok(Mark {
-            word: i,
-            byte,
-            len: 1,
-        });
-    }
-    Err(Refusal::BadValue(1, j))
+    let end = Place {
+        byte: at.byte + 1,
+        ..at
+    };
+    Ok(Mark { end, len: 1 })
 }
 
 // Raw bytes of k bits, with zero above the last bit; n bytes are written of them.
-fn measure_bits(bodies: &[u8], k: usize, i: usize, j: usize, n: usize) -> Result<Mark, Refusal>
-    ensures { result ≡ measured (walk_bits bodies.now k i j) n }
+fn measure_bits(form: Form, k: usize, at: Place, n: usize) -> Result<Mark, Refusal>
+    ensures { result ≡ measured (walk_bits form.entry.bodies.now k at.word at.byte) n }
 {
     let raw = raw_bytes(k);
-    let there = has(bodies, j, raw);
-    if !there {
-        return Err(Refusal::BadValue(1, bodies.len()));
+    if !form.has(at.byte, raw) {
+        return Err(form.short());
     }
-    let byte = j + raw;
+    let byte = at.byte + raw;
     let last = byte - 1;
-    let before = raw - 1;
-    let bits = k - 8 * before;
-    let x = bodies[last] as usize;
-    if x >> bits == 0 {
-        let len = capped(n);
-        return Ok(Mark { word: i, byte, len });
+    let bits = k - 8 * (raw - 1);
+    if form.bodies[last] as usize >> bits != 0 {
+        return Err(Refusal::BadValue(1, last));
     }
-    Err(Refusal::BadValue(1, last))
+    Ok(Mark {
+        end: Place { byte, ..at },
+        len: n.min(TOO_LARGE),
+    })
 }
 
 // Free bytes up to their limit.
 #[tactic(auto, unfolding(crate::specs::Walk::walk_item))]
-fn measure_free(
-    contents: &[u32],
-    bodies: &[u8],
-    i: usize,
-    j: usize,
-    limit: usize,
-) -> Result<Mark, Refusal>
-    ensures { result ≡ measured (walk_item (free_bytes 0 limit) contents.now bodies.now i j) (get_or contents.now i 0) }
+fn measure_free(form: Form, at: Place, limit: usize) -> Result<Mark, Refusal>
+    ensures { result ≡ measured (walk_item (free_bytes 0 limit) form.entry.contents.now form.entry.bodies.now at.word at.byte) (get_or form.entry.contents.now at.word 0) }
 {
-    let n = content_at(contents, i)?;
-    if n > limit {
-        return Err(Refusal::BadValue(0, i));
-    }
-    measure_exact(bodies, i + 1, j, n)
+    let n = form.count_at(at.word, limit)?;
+    let body = Place {
+        word: at.word + 1,
+        ..at
+    };
+    measure_exact(form, body, n)
 }
 
 // A bit list of at most limit bits.
 #[tactic(auto, unfolding(crate::specs::Walk::walk_item))]
-fn measure_list(
-    contents: &[u32],
-    bodies: &[u8],
-    i: usize,
-    j: usize,
-    limit: usize,
-) -> Result<Mark, Refusal>
-    ensures { result ≡ measured (walk_item (bit_list 0 limit) contents.now bodies.now i j) (get_or contents.now i 0 / 8 + 1) }
+fn measure_list(form: Form, at: Place, limit: usize) -> Result<Mark, Refusal>
+    ensures { result ≡ measured (walk_item (bit_list 0 limit) form.entry.contents.now form.entry.bodies.now at.word at.byte) (get_or form.entry.contents.now at.word 0 / 8 + 1) }
 {
-    let k = content_at(contents, i)?;
-    if k > limit {
-        return Err(Refusal::BadValue(0, i));
-    }
+    let k = form.count_at(at.word, limit)?;
+    let body = Place {
+        word: at.word + 1,
+        ..at
+    };
     let n = k / 8 + 1;
-    measure_bits(bodies, k, i + 1, j, n)
+    measure_bits(form, k, body, n)
 }
 
 // An item of a type that has no lower types.
 #[tactic(auto, unfolding(crate::specs::Walk::walk_item, crate::specs::Write::write_item_lem, layout::specs::Tree::leaf_of))]
-fn measure_leaf(
-    n: Node,
-    contents: &[u32],
-    bodies: &[u8],
-    i: usize,
-    j: usize,
-) -> Result<Mark, Refusal>
-    ensures { result ≡ measured (walk_item (leaf_of 0 n) contents.now bodies.now i j) (length (write_item_lem (leaf_of 0 n) contents.now bodies.now i j)) }
+fn measure_leaf(n: Node, form: Form, at: Place) -> Result<Mark, Refusal>
+    ensures { result ≡ measured_item (leaf_of 0 n) form.entry.contents.now form.entry.bodies.now at.word at.byte }
 {
-    let kind = n.kind;
     let second = n.second;
-    if kind == 0 {
-        return measure_exact(bodies, i, j, second);
+    match n.kind {
+        0 | 2 => measure_exact(form, at, second),
+        1 => measure_boolean(form, at),
+        3 => measure_free(form, at, second),
+        4 => measure_bits(form, second, at, raw_bytes(second)),
+        _ => measure_list(form, at, second),
     }
-    if kind == 1 {
-        return measure_boolean(bodies, i, j);
-    }
-    if kind == 2 {
-        return measure_exact(bodies, i, j, second);
-    }
-    if kind == 3 {
-        return measure_free(contents, bodies, i, j, second);
-    }
-    if kind == 4 {
-        let raw = raw_bytes(second);
-        return measure_bits(bodies, second, i, j, raw);
-    }
-    measure_list(contents, bodies, i, j, second)
 }
 
 // A union's selector byte, with what its body has.
@@ -215,125 +156,95 @@ fn with_selector(m: Mark) -> Mark
 fn with_offset(k: usize, len: usize) -> usize
     ensures { result ≡ cap (extra (head_of k) + len) }
 {
-    if k == 0 { add(4, len) } else { capped(len) }
+    let offset = if k == 0 { 4 } else { 0 };
+    add(offset, len)
 }
 
-// How many bytes n elements are, if they are numbers or fixed bytes: those are measured at once. 0 stands for other elements, and for
+// How many bytes the elements are, if they are numbers or fixed bytes: those are measured at once. 0 stands for other elements, and for
 // fields.
-fn plain_bytes(lens: &[u32; 64], layout: &[u8], t: usize, a: usize, step: usize, n: usize) -> usize
-    requires { Row lens.now layout.now t a step n × (n < 2 ^ 32) }
-    ensures { 0 < result → AllPlain (row_of layout.now t a step n) result }
+fn plain_bytes(table: Table, row: Members) -> usize
+    requires { InRow table.lens.now table.layout.now row × (row.many < 2 ^ 32) }
+    ensures { 0 < result → AllPlain (types_in table.entry.layout.now row) result }
 {
-    if step > 0 {
+    if row.step > 0 || row.many == 0 {
         return 0;
     }
-    if n == 0 {
+    let f = table.word(row.first);
+    let e = table.look(f);
+    if !is_plain(e.kind) {
         return 0;
     }
-    let f = word_in(layout, a);
-    let e = look_in(layout, f);
-    if is_plain(e.kind) {
-        return n * (lens[f] as usize);
-    }
-    0
+    row.many * (table.lens[f] as usize)
 }
 
-// Measures the form of an item of the type t, from the contents word i and the body byte j on.
+// Measures the form of an item of the type t, which starts at the place `at`.
 #[cycle(measure_fields_measure_item)]
-pub(crate) fn measure_item(
-    lens: &[u32; 64],
-    layout: &[u8],
-    t: usize,
-    contents: &[u32],
-    bodies: &[u8],
-    i: usize,
-    j: usize,
-) -> Result<Mark, Refusal>
-    requires { Under lens.now layout.now (t + 1) }
-    ensures { result ≡ measured (walk_item (tree_of layout.now t) contents.now bodies.now i j) (length (write_item_lem (tree_of layout.now t) contents.now bodies.now i j)) }
+pub(crate) fn measure_item(table: Table, t: usize, form: Form, at: Place) -> Result<Mark, Refusal>
+    requires { Under table.lens.now table.layout.now (t + 1) }
+    ensures { result ≡ measured_item (tree_of table.entry.layout.now t) form.entry.contents.now form.entry.bodies.now at.word at.byte }
 {
-    let n = look_in(layout, t);
+    let n = table.look(t);
     if n.kind < 6 {
-        return measure_leaf(n, contents, bodies, i, j);
+        return measure_leaf(n, form, at);
     }
-    match lay(layout, t, n, contents, i)? {
-        Laid::Fields {
-            first,
-            step,
-            count,
-            word,
-        } => {
-            let all = plain_bytes(lens, layout, t, first, step, count);
+    match lay(table, t, n, form, at.word)? {
+        Laid::Row { members, word } => {
+            let first = Place { word, ..at };
+            let all = plain_bytes(table, members);
             if all > 0 {
-                return measure_exact(bodies, word, j, all);
+                return measure_exact(form, first, all);
             }
-            measure_fields(
-                lens, layout, t, first, step, count, contents, bodies, word, j,
-            )
+            measure_fields(table, members, form, first)
         }
-        Laid::Bare => Ok(Mark {
-            word: i + 1,
-            byte: j,
-            len: 1,
-        }),
+        Laid::Bare => {
+            let end = Place {
+                word: at.word + 1,
+                ..at
+            };
+            Ok(Mark { end, len: 1 })
+        }
         Laid::Body(o) => {
-            let m = measure_item(lens, &layout[..], o, contents, bodies, i + 1, j)?;
+            let body = Place {
+                word: at.word + 1,
+                ..at
+            };
+            let m = measure_item(table, o, form, body)?;
             Ok(with_selector(m))
         }
     }
 }
 
-// Measures the forms of the n fields of type t that the words from a0 on name, which stand step words apart: 1 for fields, 0 for elements,
-// which share one. Most are numbers or fixed bytes, which need no call, and another kind below 6 has no lower types: only what has lower
-// types is measured as an item.
+// Measures the forms of the fields or elements, from the place `start` on. Most are numbers or fixed bytes, which need no call, and another
+// kind below 6 has no lower types: only what has lower types is measured as an item.
 #[cycle(measure_fields_measure_item)]
-fn measure_fields(
-    lens: &[u32; 64],
-    layout: &[u8],
-    t: usize,
-    a0: usize,
-    step: usize,
-    n: usize,
-    contents: &[u32],
-    bodies: &[u8],
-    i0: usize,
-    j0: usize,
-) -> Result<Mark, Refusal>
-    requires { Row lens.now layout.now t a0 step n }
-    ensures { result ≡ measured (walk_fields (row_of layout.now t a0 step n) contents.now bodies.now i0 j0) (length (join (parts_from (row_of layout.now t a0 step n) contents.now bodies.now i0 j0))) }
+fn measure_fields(table: Table, row: Members, form: Form, start: Place) -> Result<Mark, Refusal>
+    requires { InRow table.lens.now table.layout.now row }
+    ensures { result ≡ measured_row (types_in table.entry.layout.now row) form.entry.contents.now form.entry.bodies.now start.word start.byte }
 {
-    let mut sum: usize = 0;
-    let mut a = a0;
-    let mut left = n;
-    let mut i = i0;
-    let mut j = j0;
-    while left > 0 {
-        let f = word_in(layout, a);
-        let n = look_in(layout, f);
-        let k = lens[f] as usize;
-        a += step;
-        left -= 1;
+    let mut len = 0;
+    let mut a = row.first;
+    let mut at = start;
+    for _ in 0..row.many {
+        let f = table.word(a);
+        let n = table.look(f);
+        let k = table.lens[f] as usize;
+        a += row.step;
         if is_plain(n.kind) {
-            if !has(bodies, j, k) {
-                return Err(Refusal::BadValue(1, bodies.len()));
+            if !form.has(at.byte, k) {
+                return Err(form.short());
             }
-            j += k;
-            sum = add(sum, k);
+            at.byte += k;
+            len = add(len, k);
             continue;
         }
         let r = if n.kind < 6 {
-            measure_leaf(n, contents, bodies, i, j)
+            measure_leaf(n, form, at)
         } else {
-            measure_item(lens, &layout[..], f, contents, bodies, i, j)
+            measure_item(table, f, form, at)
         };
         let m = r?;
-        sum = add(sum, with_offset(k, m.len));
-        i = m.word;
-        j = m.byte;
+        len = add(len, with_offset(k, m.len));
+        at = m.end;
     }
-    Ok(Mark {
-        word: i,
-        byte: j,
-        len: sum,
-    })
+    Ok(Mark { end: at, len })
 }

@@ -8,47 +8,46 @@ ghost use Rattle.standard.specs.Parts.{join};
 ghost use Rattle.standard.specs.declared.Head.TheVariants.{Variable};
 ghost use Rattle.layout.specs.Tree.{leaf_of, tree_of, head_of};
 ghost use Rattle.message.specs.Read.{raw_bytes_lem};
-ghost use Rattle.message.specs.Steps.{Under, Row, row_of, heads_of};
+ghost use Rattle.message.specs.Steps.{Under};
 ghost use Rattle.value.specs.Walk.{upto, last_bits, walk_item, walk_fields};
 ghost use Rattle.value.specs.Write.{bytes_at, with_mark, write_item_lem, parts_from};
-ghost use Rattle.value.specs.Steps.{IsUpto};
+ghost use Rattle.value.specs.Steps.{InRow, types_in, heads_in, IsUpto};
 ghost use Rattle.value.specs.Stores.{Put, Together, Fields};
 
+use crate::form::{Form, Place};
 use crate::laid::{Laid, lay};
 use crate::measure::raw_bytes;
-use crate::words::{look_in, word_in};
+use crate::table::{Members, Table};
 use layout::Node;
 use standard::words::put_four;
 
-// How far the contents and the bodies are used, and where what was written ends.
+// How far the form is used, and where what was written ends.
 #[derive(Clone, Copy)]
 pub(crate) struct Stop {
-    pub word: usize,
-    pub byte: usize,
+    pub end: Place,
     pub to: usize,
 }
 
-// Stores the bytes of src from at on.
-fn copy_into(out: &mut [u8], at: usize, src: &[u8])
-    requires { at + length src.now ≤ length out.old }
-    ensures { out.new ≡ sets out.old at src.now }
+// Stores the bytes of src from to on.
+#[tactic(auto, using(standard::proofs::Store::part_sets))]
+fn copy_into(out: &mut [u8], to: usize, src: &[u8])
+    requires { to + length src.now ≤ length out.old }
+    ensures { out.new ≡ sets out.old to src.now }
 {
-    let mut i = 0;
-    while i < src.len() {
-        out[at + i] = src[i];
-        i += 1;
-    }
+    out[to..to + src.len()].copy_from_slice(src);
 }
 
-// Stores n bytes of the bodies from j on.
-fn put_part(out: &mut [u8], at: usize, bodies: &[u8], i: usize, j: usize, n: usize) -> Stop
-    requires { (j + n ≤ length bodies.now) × (at + n ≤ length out.old) }
-    ensures { Put out.old at (bytes_at bodies.now j n) (upto i (j + n)) result out.new }
+// Stores n bytes of the bodies.
+fn put_part(out: &mut [u8], to: usize, form: Form, at: Place, n: usize) -> Stop
+    requires { (at.byte + n ≤ length form.bodies.now) × (to + n ≤ length out.old) }
+    ensures { Put out.old to (bytes_at form.entry.bodies.now at.byte n) (upto at.word (at.byte + n)) result out.new }
 {
-    let byte = j + n;
-    copy_into(out, at, &bodies[j..byte]);
-    let to = at + n;
-    Stop { word: i, byte, to }
+    let byte = at.byte + n;
+    copy_into(out, to, &form.bodies[at.byte..byte]);
+    Stop {
+        end: Place { byte, ..at },
+        to: to + n,
+    }
 }
 
 // The byte with the mark: a byte of its own where the bits before it fill theirs.
@@ -57,84 +56,55 @@ fn mark_byte(bodies: &[u8], place: usize, bits: usize) -> u8
     ensures { result ≡ pick (eqb bits 0) 1 (get_or bodies.now place 0 + 2 ^ bits) }
 {
     if bits == 0 {
-        return 1;
+        1
+    } else {
+        bodies[place] | 1u8 << bits
     }
-    let x = bodies[place];
-    let m = 1u8 << bits;
-    x | m
 }
 
 // Stores a bit list of k bits: its raw bytes with the mark.
-fn put_list(out: &mut [u8], at: usize, bodies: &[u8], i: usize, j: usize, k: usize) -> Stop
-    requires { (j + raw_bytes_lem k ≤ length bodies.now) × (get_or bodies.now (j + raw_bytes_lem k - 1) 0 < 2 ^ last_bits k) × (at + (k / 8 + 1) ≤ length out.old) }
-    ensures { Put out.old at (with_mark bodies.now j k) (upto i (j + raw_bytes_lem k)) result out.new }
+fn put_list(out: &mut [u8], to: usize, form: Form, at: Place, k: usize) -> Stop
+    requires { (at.byte + raw_bytes_lem k ≤ length form.bodies.now) × (get_or form.bodies.now (at.byte + raw_bytes_lem k - 1) 0 < 2 ^ last_bits k) × (to + (k / 8 + 1) ≤ length out.old) }
+    ensures { Put out.old to (with_mark form.entry.bodies.now at.byte k) (upto at.word (at.byte + raw_bytes_lem k)) result out.new }
 {
-    let q = k / 8;
-    let full = j + q;
-    copy_into(out, at, &bodies[j..full]);
-    let bits = k % 8;
-    let x = mark_byte(bodies, full, bits);
-    let place = at + q;
-    out[place] = x;
-    let raw = raw_bytes(k);
-    let byte = j + raw;
-    let to = place + 1;
-    Stop { word: i, byte, to }
+    let full = at.byte + k / 8;
+    copy_into(out, to, &form.bodies[at.byte..full]);
+    let last = to + k / 8;
+    out[last] = mark_byte(form.bodies, full, k % 8);
+    let end = Place {
+        byte: at.byte + raw_bytes(k),
+        ..at
+    };
+    Stop { end, to: last + 1 }
 }
 
 // Stores an item of variable size of a type that has no lower types: free bytes or a bit list.
-fn put_leaf(
-    out: &mut [u8],
-    at: usize,
-    n: Node,
-    contents: &[u32],
-    bodies: &[u8],
-    i: usize,
-    j: usize,
-) -> Stop
-    requires { (head (leaf_of 0 n) ≡ Variable) × IsUpto (walk_item (leaf_of 0 n) contents.now bodies.now i j) × Room out.old at (write_item_lem (leaf_of 0 n) contents.now bodies.now i j) }
-    ensures { Put out.old at (write_item_lem (leaf_of 0 n) contents.now bodies.now i j) (walk_item (leaf_of 0 n) contents.now bodies.now i j) result out.new }
+fn put_leaf(out: &mut [u8], to: usize, n: Node, form: Form, at: Place) -> Stop
+    requires { (head (leaf_of 0 n) ≡ Variable) × IsUpto (walk_item (leaf_of 0 n) form.contents.now form.bodies.now at.word at.byte) × Room out.old to (write_item_lem (leaf_of 0 n) form.contents.now form.bodies.now at.word at.byte) }
+    ensures { Put out.old to (write_item_lem (leaf_of 0 n) form.entry.contents.now form.entry.bodies.now at.word at.byte) (walk_item (leaf_of 0 n) form.entry.contents.now form.entry.bodies.now at.word at.byte) result out.new }
 {
-    let k = contents[i] as usize;
-    let next = i + 1;
+    let k = form.contents[at.word] as usize;
+    let body = Place {
+        word: at.word + 1,
+        ..at
+    };
     if n.kind == 3 {
-        return put_part(out, at, bodies, next, j, k);
+        return put_part(out, to, form, body, k);
     }
-    put_list(out, at, bodies, next, j, k)
+    put_list(out, to, form, body, k)
 }
 
-// Stores the selector of a union, whose body starts at the body byte j.
-fn put_selector(out: &mut [u8], at: usize, contents: &[u32], i: usize, j: usize) -> Stop
-    requires { (i < length contents.now) × (get_or contents.now i 0 < 256) × (at < length out.old) }
-    ensures { Put out.old at (get_or contents.now i 0 ∷ []) (upto (i + 1) j) result out.new }
+// Stores the selector of a union.
+fn put_selector(out: &mut [u8], to: usize, form: Form, at: Place) -> Stop
+    requires { (at.word < length form.contents.now) × (get_or form.contents.now at.word 0 < 256) × (to < length out.old) }
+    ensures { Put out.old to (get_or form.entry.contents.now at.word 0 ∷ []) (upto (at.word + 1) at.byte) result out.new }
 {
-    let k = contents[i];
-    out[at] = k as u8;
-    let word = i + 1;
-    let to = at + 1;
-    Stop { word, byte: j, to }
-}
-
-// The fixed portion of the n fields of type t that the words from a0 on name, step words apart. Elements have an offset each: there may be
-// very many, so they are not added up one by one.
-fn portion_of(lens: &[u32; 64], layout: &[u8], t: usize, a0: usize, step: usize, n: usize) -> usize
-    requires { Row lens.now layout.now t a0 step n × (portion (heads_of layout.now t a0 step n) < 2 ^ 64) × (step ≡ 0 → portion (heads_of layout.now t a0 step n) ≡ 4 * n) }
-    ensures { result ≡ portion (heads_of layout.now t a0 step n) }
-{
-    if step == 0 {
-        return 4 * n;
-    }
-    let mut a = a0;
-    let mut left = n;
-    let mut sum: usize = 0;
-    while left > 0 {
-        let f = word_in(layout, a);
-        let k = width_of(lens[f] as usize);
-        sum += k;
-        a += step;
-        left -= 1;
-    }
-    sum
+    out[to] = form.contents[at.word] as u8;
+    let end = Place {
+        word: at.word + 1,
+        ..at
+    };
+    Stop { end, to: to + 1 }
 }
 
 // How much of a fixed portion a type with this length takes.
@@ -145,136 +115,117 @@ fn width_of(len: usize) -> usize
     if len == 0 { 4 } else { len }
 }
 
-// How many bytes n elements are, if each is of fixed size: those are copied at once. 0 stands for other elements, and for fields.
-fn copied_bytes(lens: &[u32; 64], layout: &[u8], t: usize, a: usize, step: usize, n: usize) -> usize
-    requires { Row lens.now layout.now t a step n × (n < 2 ^ 32) }
-    ensures { Together (row_of layout.now t a step n) step n result }
+// The fixed portion of the fields or elements. Elements have an offset each: there may be very many, so they are not added up one by one.
+fn portion_of(table: Table, row: Members) -> usize
+    requires { InRow table.lens.now table.layout.now row × (portion (heads_in table.layout.now row) < 2 ^ 64) × (row.step ≡ 0 → portion (heads_in table.layout.now row) ≡ 4 * row.many) }
+    ensures { result ≡ portion (heads_in table.entry.layout.now row) }
 {
-    if step > 0 {
-        return 0;
+    if row.step == 0 {
+        return 4 * row.many;
     }
-    if n == 0 {
-        return 0;
+    let mut a = row.first;
+    let mut sum = 0;
+    for _ in 0..row.many {
+        let f = table.word(a);
+        sum += width_of(table.lens[f] as usize);
+        a += row.step;
     }
-    let f = word_in(layout, a);
-    n * (lens[f] as usize)
+    sum
 }
 
-// Stores the item of the type t from at on, whose form starts at the contents word i and the body byte j.
+// How many bytes the elements are, if each is of fixed size: those are copied at once. 0 stands for other elements, and for fields.
+fn copied_bytes(table: Table, row: Members) -> usize
+    requires { InRow table.lens.now table.layout.now row × (row.many < 2 ^ 32) }
+    ensures { Together (types_in table.entry.layout.now row) row.step row.many result }
+{
+    if row.step > 0 || row.many == 0 {
+        return 0;
+    }
+    let f = table.word(row.first);
+    row.many * (table.lens[f] as usize)
+}
+
+// Stores the item of the type t from `to` on, whose form starts at the place `at`.
 #[cycle(write_fields_write_item)]
 pub(crate) fn write_item(
     out: &mut [u8],
-    at: usize,
-    lens: &[u32; 64],
-    layout: &[u8],
+    to: usize,
+    table: Table,
     t: usize,
-    contents: &[u32],
-    bodies: &[u8],
-    i: usize,
-    j: usize,
+    form: Form,
+    at: Place,
 ) -> Stop
-    requires { Under lens.now layout.now (t + 1) × IsUpto (walk_item (tree_of layout.now t) contents.now bodies.now i j) × Room out.old at (write_item_lem (tree_of layout.now t) contents.now bodies.now i j) }
-    ensures { Put out.old at (write_item_lem (tree_of layout.now t) contents.now bodies.now i j) (walk_item (tree_of layout.now t) contents.now bodies.now i j) result out.new }
+    requires { Under table.lens.now table.layout.now (t + 1) × IsUpto (walk_item (tree_of table.layout.now t) form.contents.now form.bodies.now at.word at.byte) × Room out.old to (write_item_lem (tree_of table.layout.now t) form.contents.now form.bodies.now at.word at.byte) }
+    ensures { Put out.old to (write_item_lem (tree_of table.entry.layout.now t) form.entry.contents.now form.entry.bodies.now at.word at.byte) (walk_item (tree_of table.entry.layout.now t) form.entry.contents.now form.entry.bodies.now at.word at.byte) result out.new }
 {
-    let own = lens[t] as usize;
+    let own = table.lens[t] as usize;
     if own > 0 {
-        return put_part(out, at, bodies, i, j, own);
+        return put_part(out, to, form, at, own);
     }
-    let n = look_in(layout, t);
+    let n = table.look(t);
     if n.kind < 6 {
-        return put_leaf(out, at, n, contents, bodies, i, j);
+        return put_leaf(out, to, n, form, at);
     }
-    let Ok(made) = lay(layout, t, n, contents, i) else {
+    let Ok(made) = lay(table, t, n, form, at.word) else {
         unreachable!()
     };
     match made {
-        Laid::Fields {
-            first,
-            step,
-            count,
-            word,
-        } => {
-            let all = copied_bytes(lens, layout, t, first, step, count);
+        Laid::Row { members, word } => {
+            let first = Place { word, ..at };
+            let all = copied_bytes(table, members);
             if all > 0 {
-                return put_part(out, at, bodies, word, j, all);
+                return put_part(out, to, form, first, all);
             }
-            write_fields(
-                out, at, lens, layout, t, first, step, count, contents, bodies, word, j,
-            )
+            write_fields(out, to, table, members, form, first)
         }
-        Laid::Bare => put_selector(out, at, contents, i, j),
+        Laid::Bare => put_selector(out, to, form, at),
         Laid::Body(o) => {
-            let s = put_selector(out, at, contents, i, j);
-            write_item(
-                out,
-                s.to,
-                lens,
-                &layout[..],
-                o,
-                contents,
-                bodies,
-                s.word,
-                s.byte,
-            )
+            let s = put_selector(out, to, form, at);
+            write_item(out, s.to, table, o, form, s.end)
         }
     }
 }
 
-// Stores the n fields of type t that the words from a0 on name, step words apart: each head in the fixed portion, each body of variable
-// size behind it. A field of fixed size is copied without a look at its type, and a kind below 6 has no lower types: only what has
-// lower types is stored as an item.
+// Stores the fields or elements from `start` on, whose forms start at the place `from`: each head in the fixed portion, each body of variable
+// size behind it. A field of fixed size is copied without a look at its type, and a kind below 6 has no lower types: only what has lower
+// types is stored as an item.
 #[cycle(write_fields_write_item)]
 fn write_fields(
     out: &mut [u8],
     start: usize,
-    lens: &[u32; 64],
-    layout: &[u8],
-    t: usize,
-    a0: usize,
-    step: usize,
-    n: usize,
-    contents: &[u32],
-    bodies: &[u8],
-    i0: usize,
-    j0: usize,
+    table: Table,
+    row: Members,
+    form: Form,
+    from: Place,
 ) -> Stop
-    requires { Fields lens.now layout.now t a0 step n contents.now bodies.now i0 j0 out.old start }
-    ensures { Put out.old start (join (parts_from (row_of layout.now t a0 step n) contents.now bodies.now i0 j0)) (walk_fields (row_of layout.now t a0 step n) contents.now bodies.now i0 j0) result out.new }
+    requires { Fields table.lens.now table.layout.now row form.contents.now form.bodies.now from.word from.byte out.old start }
+    ensures { Put out.old start (join (parts_from (types_in table.entry.layout.now row) form.entry.contents.now form.entry.bodies.now from.word from.byte)) (walk_fields (types_in table.entry.layout.now row) form.entry.contents.now form.entry.bodies.now from.word from.byte) result out.new }
 {
-    let own = portion_of(lens, layout, t, a0, step, n);
+    let own = portion_of(table, row);
     let mut p = start;
     let mut q = start + own;
-    let mut a = a0;
-    let mut left = n;
-    let mut i = i0;
-    let mut j = j0;
-    while left > 0 {
-        let f = word_in(layout, a);
-        let k = lens[f] as usize;
-        a += step;
-        left -= 1;
+    let mut a = row.first;
+    let mut at = from;
+    for _ in 0..row.many {
+        let f = table.word(a);
+        let k = table.lens[f] as usize;
+        a += row.step;
         if k > 0 {
-            let s = put_part(out, p, bodies, i, j, k);
+            let s = put_part(out, p, form, at, k);
             p = s.to;
-            j = s.byte;
+            at = s.end;
             continue;
         }
-        let off = q - start;
-        put_four(out, p, off);
+        put_four(out, p, q - start);
         p += 4;
-        let n = look_in(layout, f);
+        let n = table.look(f);
         let s = if n.kind < 6 {
-            put_leaf(out, q, n, contents, bodies, i, j)
+            put_leaf(out, q, n, form, at)
         } else {
-            write_item(out, q, lens, &layout[..], f, contents, bodies, i, j)
+            write_item(out, q, table, f, form, at)
         };
         q = s.to;
-        i = s.word;
-        j = s.byte;
+        at = s.end;
     }
-    Stop {
-        word: i,
-        byte: j,
-        to: q,
-    }
+    Stop { end: at, to: q }
 }

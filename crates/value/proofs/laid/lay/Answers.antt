@@ -3,7 +3,7 @@ use Rattle.std.proofs.Common.{arith}
 use Rattle.std.proofs.lemmas.Result.{err_from_is_err_and}
 use Rattle.layout.proofs.Facts.{legal_node}
 use Rattle.value.proofs.Unions.{laid-union}
-use Rattle.value.proofs.Repeats.{laid-container, laid-vector, laid_missing, laid-over, laid-list}
+use Rattle.value.proofs.Repeats.{laid-container, laid-vector, laid-uncounted, laid-list}
 use Rattle.value.proofs.laid.lay.Goals as goal
 
 pub overflow_add-third : goal.overflow_add-third
@@ -20,28 +20,23 @@ select-requires c =
 pub returns-then-n-eq7 : goal.returns-then-n-eq7
 returns-then-n-eq7 c = laid-union _ _ _ c.requires.2 c.if-n-eq7.true c.requires.0 _ _ _ c.select.ensures
 
-pub word_in-most-requires : goal.word_in-most-requires
-word_in-most-requires c = (legal_node _ _ _ c.requires.2 c.requires.0).third (omega arith)
+pub word-most-requires : goal.word-most-requires
+word-most-requires c = (legal_node _ _ _ c.requires.2 c.requires.0).third (omega arith)
 
-pub overflow_add-element : goal.overflow_add-element
-overflow_add-element c = omega (arith, (legal_node _ _ _ c.requires.2 c.requires.0).near)
+pub overflow_add-first : goal.overflow_add-first
+overflow_add-first c = omega (arith, (legal_node _ _ _ c.requires.2 c.requires.0).near)
 
 pub returns-then-n-eq9 : goal.returns-then-n-eq9
 returns-then-n-eq9 c =
-    laid-vector _ _ c.requires.0 c.requires.1 _ c.requires.2 _ _ (omega arith) _ c.word_in-most.ensures.0 c.if-n-eq9.true c.word_in-most.ensures.1
+    laid-vector _ _ c.requires.0 c.requires.1 _ c.requires.2 _ _ (omega arith) _ c.word-most.ensures.0 c.if-n-eq9.true c.word-most.ensures.1
 
-pub returns-in_err-count : goal.returns-in_err-count
-returns-in_err-count c =
+pub returns-in_err-many : goal.returns-in_err-many
+returns-in_err-many c =
     let p = err_from_is_err_and c.from_residual.result c.from_residual.ensures.1 in
-    rw (p.1, p.2, c.in_err-count.ensures.1)
-    (laid_missing _ _ c.requires.0 c.requires.1 _ c.requires.2 _ _ (omega arith) _ c.word_in-most.ensures.0 c.if-n-eq9.false c.in_err-count.ensures.0)
-
-pub returns-then-count-most : goal.returns-then-count-most
-returns-then-count-most c =
-    laid-over _ _ c.requires.0 c.requires.1 _ c.requires.2 _ _ (omega arith) _ c.word_in-most.ensures.0 c.if-n-eq9.false c.in_ok-count.ensures.0
-    _ c.in_ok-count.ensures.1 c.if-count-most.true
+    rw (p.1, p.2)
+    (laid-uncounted _ _ c.requires.0 c.requires.1 _ c.requires.2 _ _ (omega arith) _ c.word-most.ensures.0 c.if-n-eq9.false _ c.in_err-many.ensures)
 
 pub returns : goal.returns
 returns c =
-    laid-list _ _ c.requires.0 c.requires.1 _ c.requires.2 _ _ (omega arith) _ c.word_in-most.ensures.0 c.if-n-eq9.false c.in_ok-count.ensures.0
-    _ c.in_ok-count.ensures.1 c.if-count-most.false (omega (arith, c.type_inv.contents c.args.i, c.in_ok-count.ensures.1))
+    laid-list _ _ c.requires.0 c.requires.1 _ c.requires.2 _ _ (omega arith) _ c.word-most.ensures.0 c.if-n-eq9.false _ c.in_ok-many.ensures
+    c.word-most.ensures.1

@@ -1,6 +1,7 @@
 -- Items and fields call each other; the type number falls. The loop over the fields keeps `Measuring`. Assumes nothing.
 use Rattle.std.proofs.Common.{◌∙◌, sym, refl, arith}
 use Rattle.std.proofs.lemmas.Result.{err_from_is_err_and}
+use Rattle.std.proofs.Math.Nat.{sub-add-eq}
 use Rattle.message.proofs.Rows.{row-there, row-legal, row_below, row_under, row-few, under-below}
 use Rattle.value.proofs.Rows.{measuring_next, measuring_stop, measuring_end}
 use Rattle.value.proofs.Plain.{below-measured, plain-field, measuring_plain, measuring_short}
@@ -8,44 +9,45 @@ use Rattle.value.proofs.Made.{laid-below, plain-measured}
 use Rattle.value.proofs.measure.+measure_fields_measure_item.Goals as goal
 use Rattle.value.proofs.measure.+measure_fields_measure_item.Goals.{measure_fields-then-n-lt6, measure_fields-else-n-lt6}
 
-pub measure_fields-word_in-f-requires : goal.measure_fields-word_in-f-requires
-measure_fields-word_in-f-requires t c = row-there _ _ _ _ _ _ c.loop-left.invariant.row c.loop-left-test.true
+pub measure_fields-word-f-requires : goal.measure_fields-word-f-requires
+measure_fields-word-f-requires t c = row-there _ _ _ _ _ _ c.loop.invariant.row (omega arith)
 
-pub measure_fields-look_in-n-requires : goal.measure_fields-look_in-n-requires
-measure_fields-look_in-n-requires t c = row-legal _ _ _ _ _ _ _ c.loop-left.invariant.row c.loop-left-test.true c.word_in-f.ensures.0
+pub measure_fields-look-n-requires : goal.measure_fields-look-n-requires
+measure_fields-look-n-requires t c = row-legal _ _ _ _ _ _ _ c.loop.invariant.row (omega arith) c.word-f.ensures.0
 
-pub measure_fields-bounds-lens-f : goal.measure_fields-bounds-lens-f
-measure_fields-bounds-lens-f t c = row-few _ _ _ _ _ _ _ c.loop-left.invariant.row c.loop-left-test.true c.word_in-f.ensures.0
+pub measure_fields-bounds-table-f : goal.measure_fields-bounds-table-f
+measure_fields-bounds-table-f t c = row-few _ _ _ _ _ _ _ c.loop.invariant.row (omega arith) c.word-f.ensures.0
 
 pub measure_fields-returns-then-not-has : goal.measure_fields-returns-then-not-has
 measure_fields-returns-then-not-has t c =
-    measuring_short _ _ _ _ _ _ _ _ _ _ _ _ _ _ _ _ c.loop-left.invariant c.loop-left-test.true c.word_in-f.ensures.0 _ refl
-    (plain-field _ _ _ _ _ _ _ c.loop-left.invariant.row c.loop-left-test.true c.word_in-f.ensures.0 _ refl _ c.look_in-n.ensures
-    (sym c.is_plain.ensures ∙ c.if-is_plain.true)) (sym c.has.ensures ∙ c.if-not-has.true)
+    rw c.short.ensures
+    (measuring_short _ _ _ _ _ _ _ _ _ _ _ _ _ _ _ _ c.loop.invariant (omega arith) c.word-f.ensures.0 _ refl
+    (plain-field _ _ _ _ _ _ _ c.loop.invariant.row (omega arith) c.word-f.ensures.0 _ refl _ c.look-n.ensures
+    (sym c.is_plain.ensures ∙ c.if-is_plain.true)) (sym c.has.ensures ∙ c.if-not-has.true))
 
-pub measure_fields-loop-left-preserved-then-is_plain : goal.measure_fields-loop-left-preserved-then-is_plain
-measure_fields-loop-left-preserved-then-is_plain t c =
-    rw c.add-sum.ensures
-    (measuring_plain _ _ _ _ _ _ _ _ _ _ _ _ _ _ _ _ c.loop-left.invariant c.loop-left-test.true c.word_in-f.ensures.0 _ refl
-    (plain-field _ _ _ _ _ _ _ c.loop-left.invariant.row c.loop-left-test.true c.word_in-f.ensures.0 _ refl _ c.look_in-n.ensures
+pub measure_fields-loop-preserved-then-is_plain : goal.measure_fields-loop-preserved-then-is_plain
+measure_fields-loop-preserved-then-is_plain t c =
+    rw (c.add-len.ensures, sub-add-eq)
+    (measuring_plain _ _ _ _ _ _ _ _ _ _ _ _ _ _ _ _ c.loop.invariant (omega arith) c.word-f.ensures.0 _ refl
+    (plain-field _ _ _ _ _ _ _ c.loop.invariant.row (omega arith) c.word-f.ensures.0 _ refl _ c.look-n.ensures
     (sym c.is_plain.ensures ∙ c.if-is_plain.true)) (sym c.has.ensures ∙ c.if-not-has.false))
 
 pub measure_fields-measure_item-r-requires : goal.measure_fields-measure_item-r-requires
 measure_fields-measure_item-r-requires t c =
-    let below = row_below _ _ _ _ _ _ _ c.loop-left.invariant.row c.loop-left-test.true c.word_in-f.ensures.0 in
-    (omega (arith, below, c.decreases), row_under _ _ _ _ _ _ _ c.loop-left.invariant.row c.loop-left-test.true c.word_in-f.ensures.0)
+    let below = row_below _ _ _ _ _ _ _ c.loop.invariant.row (omega arith) c.word-f.ensures.0 in
+    (omega (arith, below, c.decreases), row_under _ _ _ _ _ _ _ c.loop.invariant.row (omega arith) c.word-f.ensures.0)
 
-pub measure_fields-loop-left-preserved : goal.measure_fields-loop-left-preserved
-measure_fields-loop-left-preserved t c =
+pub measure_fields-loop-preserved : goal.measure_fields-loop-preserved
+measure_fields-loop-preserved t c =
     elim c.if-n-lt6.branch [
       | measure_fields-then-n-lt6 w ↦
-          rw c.add-sum-in-loop-left.ensures
-          (measuring_next _ _ _ _ _ _ _ _ _ _ _ _ _ _ _ _ c.loop-left.invariant c.loop-left-test.true c.word_in-f.ensures.0 _
-          (sym c.in_ok-m.was ∙ w.r-is ∙ below-measured _ _ _ c.look_in-n.ensures w.if-n-lt6.true _ _ _ _ _ w.measure_leaf-r.ensures) _ refl _
+          rw (c.add-len-in-loop.ensures, sub-add-eq)
+          (measuring_next _ _ _ _ _ _ _ _ _ _ _ _ _ _ _ _ c.loop.invariant (omega arith) c.word-f.ensures.0 _
+          (sym c.in_ok-m.was ∙ w.r-is ∙ below-measured _ _ _ c.look-n.ensures w.if-n-lt6.true _ _ _ _ _ w.measure_leaf-r.ensures) _ refl _
           c.with_offset.ensures)
       | measure_fields-else-n-lt6 w ↦
-          rw c.add-sum-in-loop-left.ensures
-          (measuring_next _ _ _ _ _ _ _ _ _ _ _ _ _ _ _ _ c.loop-left.invariant c.loop-left-test.true c.word_in-f.ensures.0 _
+          rw (c.add-len-in-loop.ensures, sub-add-eq)
+          (measuring_next _ _ _ _ _ _ _ _ _ _ _ _ _ _ _ _ c.loop.invariant (omega arith) c.word-f.ensures.0 _
           (sym c.in_ok-m.was ∙ w.r-is ∙ w.measure_item-r.ensures) _ refl _ c.with_offset.ensures)
     ]
 
@@ -53,24 +55,24 @@ pub measure_fields-returns-in_err-m : goal.measure_fields-returns-in_err-m
 measure_fields-returns-in_err-m t c =
     let p = err_from_is_err_and c.from_residual.result c.from_residual.ensures.1 in
     rw (p.1, p.2)
-    (measuring_stop _ _ _ _ _ _ _ _ _ _ _ _ _ _ _ _ c.loop-left.invariant c.loop-left-test.true c.word_in-f.ensures.0 _
+    (measuring_stop _ _ _ _ _ _ _ _ _ _ _ _ _ _ _ _ c.loop.invariant (omega arith) c.word-f.ensures.0 _
     (sym c.in_err-m.was ∙ elim c.if-n-lt6.branch [
-      | measure_fields-then-n-lt6 w ↦ w.r-is ∙ below-measured _ _ _ c.look_in-n.ensures w.if-n-lt6.true _ _ _ _ _ w.measure_leaf-r.ensures
+      | measure_fields-then-n-lt6 w ↦ w.r-is ∙ below-measured _ _ _ c.look-n.ensures w.if-n-lt6.true _ _ _ _ _ w.measure_leaf-r.ensures
       | measure_fields-else-n-lt6 w ↦ w.r-is ∙ w.measure_item-r.ensures
     ]))
 
 pub measure_fields-returns : goal.measure_fields-returns
-measure_fields-returns t c = measuring_end _ _ _ _ _ _ _ _ _ _ _ _ _ _ _ c.loop-left.invariant c.loop-left-test.false
+measure_fields-returns t c = measuring_end _ _ _ _ _ _ _ _ _ _ _ _ _ _ _ c.loop.invariant (omega arith)
 
 pub measure_item-returns-then-n-lt6 : goal.measure_item-returns-then-n-lt6
-measure_item-returns-then-n-lt6 t c = below-measured _ _ _ c.look_in-n.ensures c.if-n-lt6.true _ _ _ _ _ c.measure_leaf.ensures
+measure_item-returns-then-n-lt6 t c = below-measured _ _ _ c.look-n.ensures c.if-n-lt6.true _ _ _ _ _ c.measure_leaf.ensures
 
 pub measure_item-returns-then-all-gt0 : goal.measure_item-returns-then-all-gt0
 measure_item-returns-then-all-gt0 t c =
-    plain-measured _ _ _ _ _ _ _ c.in_ok-first.ensures _ _ _ _ c.in-Fields.is _ (c.plain_bytes-all.ensures c.if-all-gt0.true) _
+    plain-measured _ _ _ _ _ _ _ c.in_ok-members.ensures _ _ c.in-Row.is _ (c.plain_bytes-all.ensures c.if-all-gt0.true) _
     c.measure_exact.ensures
 
 pub measure_item-measure_item-requires : goal.measure_item-measure_item-requires
 measure_item-measure_item-requires t c =
-    let below = laid-below _ _ _ _ _ c.in_ok-first.ensures _ c.in-Body.is in
+    let below = laid-below _ _ _ _ _ c.in_ok-members.ensures _ c.in-Body.is in
     (omega (arith, below, c.decreases), under-below _ _ _ _ (omega (arith, below)) c.requires)

@@ -1,5 +1,6 @@
 -- Items and fields call each other; the type number falls. The loop over the fields keeps `Writing`. Assumes nothing.
 use Rattle.std.proofs.Common.{refl, arith}
+use Rattle.std.proofs.Math.Nat.{sub-zero, sub-add-eq}
 use Rattle.message.proofs.Rows.{row-there, row-legal, row_below, row_under, row-few, under-below}
 use Rattle.value.proofs.Leaves.{part_need, part-done}
 use Rattle.value.proofs.Fills.{item-own, writing-none, writing-upto, writing-there, writing-fixed}
@@ -7,6 +8,7 @@ use Rattle.value.proofs.Fills.{writing-room, writing-next, writing-end, fields_f
 use Rattle.value.proofs.Plain.{below-asked, below_put}
 use Rattle.value.proofs.Made.{laid-below, row-all, body_ready}
 use Rattle.value.proofs.store.+write_fields_write_item.Goals as goal
+use Rattle.value.proofs.store.+write_fields_write_item.Goals.{write_fields-then-n-lt6, write_fields-else-n-lt6}
 
 pub write_fields-portion_of-own-requires : goal.write_fields-portion_of-own-requires
 write_fields-portion_of-own-requires t c = (c.requires.row, omega (arith, fields_fit c.requires refl), c.requires.offsets)
@@ -14,55 +16,55 @@ write_fields-portion_of-own-requires t c = (c.requires.row, omega (arith, fields
 pub write_fields-overflow_add-q : goal.write_fields-overflow_add-q
 write_fields-overflow_add-q t c = omega (arith, fields_fit c.requires c.portion_of-own.ensures)
 
-pub write_fields-loop-left-init : goal.write_fields-loop-left-init
-write_fields-loop-left-init t c = writing-none c.requires c.portion_of-own.ensures
+pub write_fields-loop-init : goal.write_fields-loop-init
+write_fields-loop-init t c = rw sub-zero (writing-none c.requires c.portion_of-own.ensures)
 
-pub write_fields-word_in-f-requires : goal.write_fields-word_in-f-requires
-write_fields-word_in-f-requires t c = row-there _ _ _ _ _ _ c.loop-left.invariant.row c.loop-left-test.true
+pub write_fields-word-f-requires : goal.write_fields-word-f-requires
+write_fields-word-f-requires t c = row-there _ _ _ _ _ _ c.loop.invariant.row (omega arith)
 
-pub write_fields-bounds-lens-f : goal.write_fields-bounds-lens-f
-write_fields-bounds-lens-f t c = row-few _ _ _ _ _ _ _ c.loop-left.invariant.row c.loop-left-test.true c.word_in-f.ensures.0
+pub write_fields-bounds-table-f : goal.write_fields-bounds-table-f
+write_fields-bounds-table-f t c = row-few _ _ _ _ _ _ _ c.loop.invariant.row (omega arith) c.word-f.ensures.0
 
 pub write_fields-put_part-s-requires : goal.write_fields-put_part-s-requires
-write_fields-put_part-s-requires t c = writing-there c.loop-left.invariant c.loop-left-test.true c.word_in-f.ensures.0 refl c.if-k-gt0.true
+write_fields-put_part-s-requires t c = writing-there c.loop.invariant (omega arith) c.word-f.ensures.0 refl c.if-k-gt0.true
 
-pub write_fields-loop-left-preserved-then-k-gt0 : goal.write_fields-loop-left-preserved-then-k-gt0
-write_fields-loop-left-preserved-then-k-gt0 t c =
-    writing-fixed c.loop-left.invariant c.loop-left-test.true c.word_in-f.ensures.0 refl c.if-k-gt0.true c.put_part-s.ensures
+pub write_fields-loop-preserved-then-k-gt0 : goal.write_fields-loop-preserved-then-k-gt0
+write_fields-loop-preserved-then-k-gt0 t c =
+    rw sub-add-eq (writing-fixed c.loop.invariant (omega arith) c.word-f.ensures.0 refl c.if-k-gt0.true c.put_part-s.ensures)
 
-pub write_fields-look_in-n-requires : goal.write_fields-look_in-n-requires
-write_fields-look_in-n-requires t c = row-legal _ _ _ _ _ _ _ c.loop-left.invariant.row c.loop-left-test.true c.word_in-f.ensures.0
+pub write_fields-look-n-requires : goal.write_fields-look-n-requires
+write_fields-look-n-requires t c = row-legal _ _ _ _ _ _ _ c.loop.invariant.row (omega arith) c.word-f.ensures.0
 
 pub write_fields-put_leaf-s-requires : goal.write_fields-put_leaf-s-requires
 write_fields-put_leaf-s-requires t c =
-    below-asked _ _ _ c.look_in-n.ensures c.if-n-lt6.true _ _ _ _ _ _ _
-    (row_under _ _ _ _ _ _ _ c.loop-left.invariant.row c.loop-left-test.true c.word_in-f.ensures.0) c.if-k-gt0.false
-    (writing-upto c.loop-left.invariant c.loop-left-test.true c.word_in-f.ensures.0)
-    (writing-room c.loop-left.invariant c.loop-left-test.true c.word_in-f.ensures.0 refl c.if-k-gt0.false c.put_four.ensures)
+    below-asked _ _ _ c.look-n.ensures c.if-n-lt6.true _ _ _ _ _ _ _
+    (row_under _ _ _ _ _ _ _ c.loop.invariant.row (omega arith) c.word-f.ensures.0) c.if-k-gt0.false
+    (writing-upto c.loop.invariant (omega arith) c.word-f.ensures.0)
+    (writing-room c.loop.invariant (omega arith) c.word-f.ensures.0 refl c.if-k-gt0.false c.put_four.ensures)
 
 pub write_fields-write_item-s-requires : goal.write_fields-write_item-s-requires
 write_fields-write_item-s-requires t c =
-    let below = row_below _ _ _ _ _ _ _ c.loop-left.invariant.row c.loop-left-test.true c.word_in-f.ensures.0 in (
+    let below = row_below _ _ _ _ _ _ _ c.loop.invariant.row (omega arith) c.word-f.ensures.0 in (
       omega (arith, below, c.decreases),
       (
-        row_under _ _ _ _ _ _ _ c.loop-left.invariant.row c.loop-left-test.true c.word_in-f.ensures.0,
-        writing-upto c.loop-left.invariant c.loop-left-test.true c.word_in-f.ensures.0,
-        writing-room c.loop-left.invariant c.loop-left-test.true c.word_in-f.ensures.0 refl c.if-k-gt0.false c.put_four.ensures,
+        row_under _ _ _ _ _ _ _ c.loop.invariant.row (omega arith) c.word-f.ensures.0,
+        writing-upto c.loop.invariant (omega arith) c.word-f.ensures.0,
+        writing-room c.loop.invariant (omega arith) c.word-f.ensures.0 refl c.if-k-gt0.false c.put_four.ensures,
       ),
     )
 
-pub write_fields-loop-left-preserved-then-n-lt6 : goal.write_fields-loop-left-preserved-then-n-lt6
-write_fields-loop-left-preserved-then-n-lt6 t c =
-    writing-next c.loop-left.invariant c.loop-left-test.true c.word_in-f.ensures.0 refl c.if-k-gt0.false c.put_four.ensures
-    (below_put _ _ _ c.look_in-n.ensures c.if-n-lt6.true _ _ _ _ _ _ _ _ c.put_leaf-s.ensures)
-
-pub write_fields-loop-left-preserved : goal.write_fields-loop-left-preserved
-write_fields-loop-left-preserved t c =
-    writing-next c.loop-left.invariant c.loop-left-test.true c.word_in-f.ensures.0 refl c.if-k-gt0.false c.put_four.ensures
-    c.write_item-s.ensures
+pub write_fields-loop-preserved : goal.write_fields-loop-preserved
+write_fields-loop-preserved t c =
+    rw sub-add-eq
+    (writing-next c.loop.invariant (omega arith) c.word-f.ensures.0 refl c.if-k-gt0.false c.put_four.ensures
+    (elim c.if-n-lt6.branch [
+      | write_fields-then-n-lt6 w ↦
+          rw (w.s-is, w.out-is) (below_put _ _ _ c.look-n.ensures w.if-n-lt6.true _ _ _ _ _ _ _ _ w.put_leaf-s.ensures)
+      | write_fields-else-n-lt6 w ↦ rw (w.s-is, w.out-is) w.write_item-s.ensures
+    ]))
 
 pub write_fields-returns : goal.write_fields-returns
-write_fields-returns t c = writing-end c.loop-left.invariant refl c.loop-left-test.false
+write_fields-returns t c = writing-end c.loop.invariant refl (omega arith)
 
 pub write_item-put_part-requires : goal.write_item-put_part-requires
 write_item-put_part-requires t c = part_need (item-own _ _ _ _ _ _ _ c.requires.0 c.requires.1 c.if-own-gt0.true) c.requires.2
@@ -72,21 +74,21 @@ write_item-returns-then-own-gt0 t c = part-done (item-own _ _ _ _ _ _ _ c.requir
 
 pub write_item-put_leaf-requires : goal.write_item-put_leaf-requires
 write_item-put_leaf-requires t c =
-    below-asked _ _ _ c.look_in-n.ensures c.if-n-lt6.true _ _ _ _ _ _ _ c.requires.0 c.if-own-gt0.false c.requires.1 c.requires.2
+    below-asked _ _ _ c.look-n.ensures c.if-n-lt6.true _ _ _ _ _ _ _ c.requires.0 c.if-own-gt0.false c.requires.1 c.requires.2
 
 pub write_item-returns-then-n-lt6 : goal.write_item-returns-then-n-lt6
-write_item-returns-then-n-lt6 t c = below_put _ _ _ c.look_in-n.ensures c.if-n-lt6.true _ _ _ _ _ _ _ _ c.put_leaf.ensures
+write_item-returns-then-n-lt6 t c = below_put _ _ _ c.look-n.ensures c.if-n-lt6.true _ _ _ _ _ _ _ _ c.put_leaf.ensures
 
 pub write_item-put_part-requires-then-all-gt0 : goal.write_item-put_part-requires-then-all-gt0
 write_item-put_part-requires-then-all-gt0 t c =
     part_need
-    (row-all _ _ _ _ _ _ _ c.in-Ok.ensures _ _ _ _ c.in-Fields.is _ c.requires.0 c.requires.1 _ c.if-all-gt0.true c.copied_bytes-all.ensures)
+    (row-all _ _ _ _ _ _ _ c.in-Ok.ensures _ _ c.in-Row.is _ c.requires.0 c.requires.1 _ c.if-all-gt0.true c.copied_bytes-all.ensures)
     c.requires.2
 
 pub write_item-returns-then-all-gt0 : goal.write_item-returns-then-all-gt0
 write_item-returns-then-all-gt0 t c =
     part-done
-    (row-all _ _ _ _ _ _ _ c.in-Ok.ensures _ _ _ _ c.in-Fields.is _ c.requires.0 c.requires.1 _ c.if-all-gt0.true c.copied_bytes-all.ensures)
+    (row-all _ _ _ _ _ _ _ c.in-Ok.ensures _ _ c.in-Row.is _ c.requires.0 c.requires.1 _ c.if-all-gt0.true c.copied_bytes-all.ensures)
     c.put_part-then-all-gt0.ensures
 
 pub write_item-write_item-requires : goal.write_item-write_item-requires

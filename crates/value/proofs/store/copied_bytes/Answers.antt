@@ -1,19 +1,19 @@
 -- Elements that share a word have one length. Assumes nothing.
 use Rattle.std.proofs.Common.{◌≡◌, refl, arith}
 use Rattle.message.proofs.Rows.{row-there, row-few}
-use Rattle.value.proofs.Repeats.{elements-together, no-elements}
+use Rattle.value.proofs.Repeats.{elements-together, not-together}
 use Rattle.value.proofs.store.copied_bytes.Goals as goal
 
-pub returns-then-n-eq0 : goal.returns-then-n-eq0
-returns-then-n-eq0 c = no-elements _ _ _ _ _ (omega arith)
+pub returns-then-row-gt0 : goal.returns-then-row-gt0
+returns-then-row-gt0 c = not-together _ _ _ _ _ c.then-row-gt0.either
 
-pub word_in-f-requires : goal.word_in-f-requires
-word_in-f-requires c = row-there _ _ _ _ _ _ c.requires.0 (omega arith)
+pub word-f-requires : goal.word-f-requires
+word-f-requires c = row-there _ _ _ _ _ _ c.requires.0 (omega arith)
 
-pub bounds-lens-f : goal.bounds-lens-f
-bounds-lens-f c = row-few _ _ _ _ _ _ _ c.requires.0 (omega arith) c.word_in-f.ensures.0
+pub bounds-table-f : goal.bounds-table-f
+bounds-table-f c = row-few _ _ _ _ _ _ _ c.requires.0 (omega arith) c.word-f.ensures.0
 
 pub returns : goal.returns
 returns c =
-    let step : c.args.step ≡ 0 = omega arith in
-    rw step (elements-together _ _ _ _ _ _ _ (rw step at c.requires.0) (omega arith) c.word_in-f.ensures.0 refl)
+    let step : c.args.row.step ≡ 0 = omega arith in
+    rw step (elements-together _ _ _ _ _ _ _ (rw step at c.requires.0) (omega arith) c.word-f.ensures.0 refl)

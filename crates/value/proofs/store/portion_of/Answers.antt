@@ -1,24 +1,26 @@
 -- The loop keeps `Adding`. Assumes nothing.
 use Rattle.std.proofs.Common.{arith}
+use Rattle.std.proofs.Math.Nat.{sub-zero, sub-add-eq}
 use Rattle.message.proofs.Rows.{row-there, row-few}
 use Rattle.value.proofs.Fills.{adding-none, adding-same, adding-next, adding-end}
 use Rattle.value.proofs.store.portion_of.Goals as goal
 
-pub loop-left-init : goal.loop-left-init
-loop-left-init c = adding-none _ _ _ _ _ _ c.requires.0
+pub loop-init : goal.loop-init
+loop-init c = rw sub-zero (adding-none _ _ _ _ _ _ c.requires.0)
 
-pub word_in-f-requires : goal.word_in-f-requires
-word_in-f-requires c = row-there _ _ _ _ _ _ c.loop-left.invariant.row c.loop-left-test.true
+pub word-f-requires : goal.word-f-requires
+word-f-requires c = row-there _ _ _ _ _ _ c.loop.invariant.row (omega arith)
 
-pub bounds-lens-f : goal.bounds-lens-f
-bounds-lens-f c = row-few _ _ _ _ _ _ _ c.loop-left.invariant.row c.loop-left-test.true c.word_in-f.ensures.0
+pub bounds-table-f : goal.bounds-table-f
+bounds-table-f c = row-few _ _ _ _ _ _ _ c.loop.invariant.row (omega arith) c.word-f.ensures.0
 
 pub overflow_add-sum : goal.overflow_add-sum
 overflow_add-sum c =
-    omega (arith, adding-same _ _ _ _ _ _ _ _ _ _ _ c.loop-left.invariant c.loop-left-test.true c.word_in-f.ensures.0 c.width_of-k.ensures, c.requires.1)
+    omega (arith, adding-same _ _ _ _ _ _ _ _ _ _ _ c.loop.invariant (omega arith) c.word-f.ensures.0 c.width_of-sum.ensures, c.requires.1)
 
-pub loop-left-preserved : goal.loop-left-preserved
-loop-left-preserved c = adding-next _ _ _ _ _ _ _ _ _ _ _ c.loop-left.invariant c.loop-left-test.true c.word_in-f.ensures.0 c.width_of-k.ensures
+pub loop-preserved : goal.loop-preserved
+loop-preserved c =
+    rw sub-add-eq (adding-next _ _ _ _ _ _ _ _ _ _ _ c.loop.invariant (omega arith) c.word-f.ensures.0 c.width_of-sum.ensures)
 
 pub returns : goal.returns
-returns c = adding-end _ _ _ _ _ _ _ _ _ c.loop-left.invariant c.loop-left-test.false
+returns c = adding-end _ _ _ _ _ _ _ _ _ c.loop.invariant (omega arith)

@@ -2,7 +2,7 @@
 use Rattle.std.proofs.Common.{◌∙◌}
 use Rattle.standard.proofs.Bytes.{word-part}
 use Rattle.layout.specs.Table.{count}
-use Rattle.value.proofs.words.word_in.Goals as goal
+use Rattle.value.proofs.table.Table.word.Goals as goal
 
 pub returns : goal.returns
 unfolding count

@@ -3,18 +3,18 @@ use Rattle.std.proofs.Common.{arith}
 use Rattle.layout.specs.Tree.{node_of}
 use Rattle.layout.specs.Table.{count}
 use Rattle.layout.proofs.Facts.{legal-words}
-use Rattle.value.proofs.words.look_in.Goals as goal
+use Rattle.value.proofs.table.Table.look.Goals as goal
 
 pub overflow_add-t : goal.overflow_add-t
 unfolding count
 overflow_add-t c = omega (arith, legal-words _ _ c.requires)
 
-pub word_in-at-requires : goal.word_in-at-requires
-word_in-at-requires c = (legal-words _ _ c.requires).0
+pub word-at-requires : goal.word-at-requires
+word-at-requires c = (legal-words _ _ c.requires).0
 
-pub word_in-kind-requires : goal.word_in-kind-requires
-word_in-kind-requires c = rw c.word_in-at.ensures.0 (legal-words _ _ c.requires).1
+pub word-kind-requires : goal.word-kind-requires
+word-kind-requires c = rw c.word-at.ensures.0 (legal-words _ _ c.requires).1
 
 pub returns : goal.returns
 unfolding node_of
-returns c = rw (← c.word_in-at.ensures.0, c.word_in-kind.ensures.0, c.word_at-second.ensures.0)
+returns c = rw (← c.word-at.ensures.0, c.word-kind.ensures.0, c.word_at-second.ensures.0)
