@@ -10,7 +10,7 @@ use borrow.Author.Tests.{ne_eqb}
 use lib.ListN.{length, get_or, set, replicate, length-append, length-replicate, get_or-append}
 use lib.Seq.{get_or_at, set_at}
 use Rattle.standard.specs.Bytes.{word_at}
-use Rattle.standard.specs.Types.{Ty, boolean, container, union, list, vector, end, field, head, heads, LegalTy}
+use Rattle.standard.specs.Types.{Ty, boolean, container, union, list, vector, end, field, head, LegalTy}
 use Rattle.standard.specs.declared.Head.{Head}
 use Rattle.standard.specs.declared.Head.TheVariants.{Fixed, Variable}
 use Rattle.standard.proofs.Laws.{fixed-some}
@@ -147,22 +147,11 @@ pub legal-more : (l : List ℕ) (t : ℕ) → Legal l t → LegalNode l t (node_
 unfolding Legal
 legal-more l t g h u k = below_suc (λ (v : ℕ). LegalNode l v (node_of l v)) t u g h (omega arith)
 
-fields_cons : (l : List ℕ) (lower : List Ty) (a left : ℕ) → 0 < left →
-    fields l lower a left ≡ field (get_or lower (word_at l a) (boolean 0)) (fields l lower (a + 1) (left - 1))
-unfolding fields
-fields_cons l lower a zero h = absurd (omega arith)
-fields_cons l lower a (suc n) h = let e : suc n - 1 ≡ n = omega arith in rw e
-
 -- The first of some fields, and the rest.
-module _ (l : List ℕ) (t a left : ℕ) (h : word_at l a < t) (p : 0 < left) where
-  pub fields_at : fields l (trees l t) a left ≡ field (tree_of l (word_at l a)) (fields l (trees l t) (a + 1) (left - 1))
-  fields_at =
-      fields_cons l (trees l t) a left p
-      ∙ ap (λ (x : Ty). field x (fields l (trees l t) (a + 1) (left - 1))) (trees-get l t (word_at l a) (boolean 0) h)
-
-  pub heads-at : (f : ℕ) → f ≡ word_at l a → heads (fields l (trees l t) a left) ≡ head (tree_of l f) ∷ heads (fields l (trees l t) (a + 1) (left - 1))
-  unfolding heads
-  heads-at f e = rw (fields_at, e)
+pub fields_at : (l : List ℕ) (t a rest : ℕ) → word_at l a < t →
+    fields l (trees l t) a (suc rest) ≡ field (tree_of l (word_at l a)) (fields l (trees l t) (a + 1) rest)
+unfolding fields
+fields_at l t a rest h = ap (λ (x : Ty). field x (fields l (trees l t) (a + 1) rest)) (trees-get l t (word_at l a) (boolean 0) h)
 
 module _ (l : List ℕ) (t a left : ℕ) (g : Lower l t a left) (p : 0 < left) where
   pub lower-here : word_at l a < t
@@ -172,12 +161,6 @@ module _ (l : List ℕ) (t a left : ℕ) (g : Lower l t a left) (p : 0 < left) w
   pub lower-rest : Lower l t (a + 1) (left - 1)
   unfolding Lower
   lower-rest = λ i h. let e : a + (i + 1) ≡ a + 1 + i = omega arith in rw e at (g (i + 1) (omega arith))
-
-  pub fields-first : fields l (trees l t) a left ≡ field (tree_of l (word_at l a)) (fields l (trees l t) (a + 1) (left - 1))
-  fields-first = fields_at l t a left lower-here p
-
-  pub heads-first : (f : ℕ) → f ≡ word_at l a → heads (fields l (trees l t) a left) ≡ head (tree_of l f) ∷ heads (fields l (trees l t) (a + 1) (left - 1))
-  heads-first f e = heads-at l t a left lower-here p f e
 
 pub fields-none : (l : List ℕ) (lower : List Ty) (a left : ℕ) → left ≤ 0 → fields l lower a left ≡ end
 unfolding fields

@@ -3,32 +3,32 @@
 use mathlib.Core.Path.{◌≡◌, refl, sym, ap, ◌∙◌}
 use mathlib.Core.List.{List}
 use mathlib.Core.Bool.{Bool, true, false}
-use Prim.Native.Nat.{ℕ, zero, suc, ◌+◌, ◌-◌, ◌*◌, ◌≤◌, ◌<◌, ◌^◌}
+use Prim.Native.Nat.{ℕ, zero, suc, ◌+◌, ◌*◌, ◌≤◌, ◌<◌, ◌^◌}
 use native.Mathlib.Nat.{mul-le-mul_right}
 use native.Mathlib.Numerals.{add-one}
 use native.Mathlib.Omega.{arith}
-use borrow.Author.Tests.{lt-ltb, lt-leb, le-leb, ne_eqb}
+use borrow.Author.Tests.{lt-ltb, le-ltb, lt-leb, le-leb, ne_eqb}
 use lib.ListN.{get_or, set}
-use lib.Dec.{leb}
+use lib.Dec.{leb, ltb}
 use Rattle.std.specs.Result.{IsErr}
 use Rattle.std.specs.declared.option.Option.TheVariants.{Some}
 use Rattle.std.specs.declared.result.Result.{Result}
 use Rattle.std.specs.declared.result.Result.TheVariants.{Ok, Err}
 use Rattle.standard.specs.Choice.{pick}
 use Rattle.standard.specs.Bytes.{word_at}
-use Rattle.standard.specs.Types.{Tys, boolean, head, head_all, joined, width}
+use Rattle.standard.specs.Types.{Tys, boolean, field, head, head_all, heads, joined, width, portion}
 use Rattle.standard.specs.declared.Head.{Head}
 use Rattle.standard.specs.declared.Head.TheVariants.{Fixed, Variable}
 use Rattle.standard.specs.declared.Refusal.{Refusal}
 use Rattle.standard.specs.declared.Refusal.TheVariants.{BadLayout}
 use Rattle.layout.specs.Kinds.{kind_of, is_leaf}
 use Rattle.layout.specs.Tree.{node_of, type_with, from_node, fields, trees, tree_of, len_of, head_of, filled}
-use Rattle.layout.specs.Table.{count, may_name_lem, refs, counted, many, container_end_lem, list_end_lem, vector_end_lem, leaf_end_lem, kind_end, body_end_lem}
+use Rattle.layout.specs.Table.{count, refs, counted, many, container_end_lem, list_end_lem, vector_end_lem, leaf_end_lem, kind_end, body_end_lem}
 use Rattle.layout.specs.Steps.{Known, leaf_len_lem, sizes_of, with_len}
 use Rattle.layout.specs.declared.Kind.{Kind}
 use Rattle.layout.specs.declared.Body.{Body}
 use Rattle.layout.proofs.Facts.{trees-get, fields_at, fields-none, filled-set, each-kind}
-use Rattle.layout.proofs.Tables.{Adding, adding-next, adding-end, may_lower, refs-wrong, refs-cut}
+use Rattle.layout.proofs.Tables.{refs-wrong, refs-next, refs-none, refs-cut}
 use Rattle.layout.proofs.Tables.{Counted, counted-says, element-lower, known_len, known-head, known_small}
 use Rattle.layout.proofs.Trees.{leaf-number, vector_len}
 
@@ -65,60 +65,78 @@ unfolding joined
 with_end true sum = omega arith
 with_end false sum = refl
 
--- The loop of `fields_len`: what is added so far, and the head of the fields so far.
+-- The loop of `fields_len`: what is left to test, what is added to the fixed portion, and the head of the fields so far.
 pub record Taking (l : List ℕ) (t a₀ n a left sum : ℕ) (fixed : Bool) : Type 0 where
-  pub adding : Adding l t a₀ n a left sum
+  pub tests : refs l t false a left ≡ refs l t false a₀ n
+  pub bound : sum + 4294967296 * left ≤ 4294967296 * n
+  pub taken : sum + portion (heads (fields l (trees l t) a left)) ≡ portion (heads (fields l (trees l t) a₀ n))
   pub same : with_rest fixed sum (head_all (fields l (trees l t) a left)) ≡ head_all (fields l (trees l t) a₀ n)
 
-pub taking_start : (l : List ℕ) (t a₀ n : ℕ) → Taking l t a₀ n a₀ n 0 true
-taking_start l t a₀ n =
-    record { adding = record { tests = refl; some = omega arith; place = refl; bound = omega arith; same = omega arith }; same = joined-zero _ }
+pub taking_start : (l : List ℕ) (t a₀ n left : ℕ) → left ≡ n → Taking l t a₀ n a₀ left 0 true
+taking_start l t a₀ n left e =
+    rw e (record { tests = refl; bound = omega arith; taken = omega arith; same = joined-zero _ })
 
-module _ (lens l : List ℕ) (t a₀ n a left sum : ℕ) (fixed : Bool) (f : ℕ) (g : Known lens l t) (s : Taking l t a₀ n a left sum fixed) (p : 0 < left)
-    (e : f ≡ word_at l a) (j : a < count l) (ok : Bool) (m : ok ≡ may_name_lem f t false) where
+module _ (lens l : List ℕ) (t a₀ n a left rest sum : ℕ) (fixed : Bool) (f : ℕ) (g : Known lens l t) (s : Taking l t a₀ n a left sum fixed)
+    (p : left ≡ suc rest) (e : f ≡ word_at l a) (j : a < count l) where
   -- a word that names no lower type
-  pub taking_wrong : (ts : Tys) → ok ≡ false → Err (BadLayout a) ≡ sizes_of (refs l t false a₀ n) ts
+  pub taking_wrong : (ts : Tys) → t ≤ f → Err (BadLayout a) ≡ sizes_of (refs l t false a₀ n) ts
   unfolding sizes_of
-  taking_wrong ts u = rw (← refs-wrong l t false a left _ p s.adding.tests f ok j e m u)
+  taking_wrong ts u =
+      let m : ltb (word_at l a) t ≡ false = rw (← e) (le-ltb f t u) in
+      rw (← refs-wrong l t false a left rest _ p s.tests j (rw m))
 
-  module _ (u : ok ≡ true) where
-    pub taking_lower : f < t
-    taking_lower = may_lower f t false (sym m ∙ u) refl
-
-    taking_first : (x : Head) → head (tree_of l f) ≡ x → with_rest fixed sum (joined x (head_all (fields l (trees l t) (a + 1) (left - 1)))) ≡
-        head_all (fields l (trees l t) a₀ n)
-    unfolding head
-    taking_first x q = rw (← q, e) (rw (fields_at l t a left (rw (← e) taking_lower) p) at s.same)
+  module _ (h : f < t) where
+    taking_first : fields l (trees l t) a left ≡ field (tree_of l f) (fields l (trees l t) (a + 1) rest)
+    taking_first = rw (p, e) (fields_at l t a rest (rw (← e) h))
 
     taking_head : head (tree_of l f) ≡ head_of (get_or lens f 0)
-    taking_head = sym (known-head lens l t g f taking_lower)
+    taking_head = sym (known-head lens l t g f h)
+
+    taking_tests : refs l t false (a + 1) rest ≡ refs l t false a₀ n
+    taking_tests =
+        let m : ltb (word_at l a) t ≡ true = rw (← e) (lt-ltb f t h) in
+        refs-next l t false a left rest _ p s.tests j (rw m)
 
     module _ (w : ℕ) (v : w ≡ width (head_of (get_or lens f 0))) where
       pub taking_width : w < 2 ^ 32
-      taking_width = rw v (width_small _ (known_small lens l t g f taking_lower))
+      taking_width = rw v (width_small _ (known_small lens l t g f h))
 
-      taking_adding : Adding l t a₀ n (a + 1) (left - 1) (sum + w)
-      taking_adding = adding-next l t a₀ n a left sum f s.adding p e j taking_lower w (rw taking_head v) taking_width
+      taking_bound : sum + w + 4294967296 * rest ≤ 4294967296 * n
+      taking_bound = omega (arith, s.bound, taking_width)
 
-      pub taking_fixed : (get_or lens f 0 ≡ 0 → ⊥) → Taking l t a₀ n (a + 1) (left - 1) (sum + w) fixed
+      taking_sum : sum + w + portion (heads (fields l (trees l t) (a + 1) rest)) ≡ portion (heads (fields l (trees l t) a₀ n))
+      unfolding heads portion
+      taking_sum = let x = rw (taking_first, taking_head, ← v) at s.taken in omega arith
+
+      taking_rest : (x : Head) → head_of (get_or lens f 0) ≡ x → with_rest fixed sum (joined x (head_all (fields l (trees l t) (a + 1) rest))) ≡
+          head_all (fields l (trees l t) a₀ n)
+      unfolding head
+      taking_rest x q = rw (taking_first, taking_head, q) at s.same
+
+      pub taking_fixed : (get_or lens f 0 ≡ 0 → ⊥) → Taking l t a₀ n (a + 1) rest (sum + w) fixed
       unfolding width
       taking_fixed z =
           let k = get_or lens f 0 in
           let y : w ≡ k = rw (ne_eqb k 0 z) at v in
-          record { adding = taking_adding; same = rw y (sym (with_next fixed sum k _) ∙ taking_first (Fixed k) (rw (ne_eqb k 0 z) at taking_head)) }
+          record {
+            tests = taking_tests;
+            bound = taking_bound;
+            taken = taking_sum;
+            same = rw y (sym (with_next fixed sum k _) ∙ taking_rest (Fixed k) (rw (ne_eqb k 0 z)));
+          }
 
-      pub taking_variable : get_or lens f 0 ≡ 0 → Taking l t a₀ n (a + 1) (left - 1) (sum + w) false
+      pub taking_variable : get_or lens f 0 ≡ 0 → Taking l t a₀ n (a + 1) rest (sum + w) false
       taking_variable z =
-          record { adding = taking_adding; same = sym (with_variable fixed sum _) ∙ taking_first Variable (rw z at taking_head) }
+          record { tests = taking_tests; bound = taking_bound; taken = taking_sum; same = sym (with_variable fixed sum _) ∙ taking_rest Variable (rw z) }
 
-pub taking_end : (l : List ℕ) (t a₀ n a left sum : ℕ) (fixed : Bool) → Taking l t a₀ n a left sum fixed →
-    left ≤ 0 → Ok (record { end = a; portion = sum; length = pick fixed sum 0 }) ≡ sizes_of (refs l t false a₀ n) (fields l (trees l t) a₀ n)
-unfolding head sizes_of
-taking_end l t a₀ n a left sum fixed s h =
-    let q = rw (fields-none l (trees l t) a left h) at s.same in
-    let y : pick fixed sum 0 ≡ len_of (head_all (fields l (trees l t) a₀ n)) = sym (with_end fixed sum) ∙ ap len_of q in
-    let d = adding-end l t a₀ n a left sum s.adding h in
-    rw (← d.0, ← d.1, y)
+pub taking_end : (l : List ℕ) (t a₀ n a left sum : ℕ) (fixed : Bool) → Taking l t a₀ n a left sum fixed → left ≡ 0 → a ≡ a₀ + n →
+    Ok (record { end = a₀ + n; portion = sum; length = pick fixed sum 0 }) ≡ sizes_of (refs l t false a₀ n) (fields l (trees l t) a₀ n)
+unfolding head heads portion sizes_of
+taking_end l t a₀ n a left sum fixed s h q =
+    let d = fields-none l (trees l t) a left (omega arith) in
+    let y : pick fixed sum 0 ≡ len_of (head_all (fields l (trees l t) a₀ n)) = sym (with_end fixed sum) ∙ ap len_of (rw d at s.same) in
+    let x : sum ≡ portion (heads (fields l (trees l t) a₀ n)) = omega (arith, rw d at s.taken) in
+    rw (← s.tests, refs-none l t false a left h, ← q, y, x)
 
 -- Of a container's words that are not all there, one is the first bad word.
 pub cut-short : (l : List ℕ) (t n a : ℕ) (x : Result ℕ Refusal) → a ≤ count l → count l < a + n → x ≡ refs l t false a n → IsErr x

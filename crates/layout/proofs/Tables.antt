@@ -21,7 +21,7 @@ use Rattle.layout.specs.Tree.{node_of, fields, trees, tree_of, len_of, head_of, 
 use Rattle.layout.specs.Table.{onward, count, may_name_lem, refs, counted, many, container_end_lem, list_end_lem, vector_end_lem, leaf_word, leaf_end_lem, kind_end, body_end_lem, types_end_lem, types_of, table_of, lengths_of}
 use Rattle.layout.specs.Legal.{Lower, LowerOrBare, LegalNode, Legal}
 use Rattle.layout.specs.Steps.{Known, Typed}
-use Rattle.layout.proofs.Facts.{trees-get, fields-none, heads-at, lower-here, lower-rest, filled-get, length-filled, head_len, legal-more}
+use Rattle.layout.proofs.Facts.{trees-get, lower-here, lower-rest, filled-get, length-filled, head_len, legal-more}
 use Rattle.layout.proofs.Trees.{legal_tree, len_small}
 use Rattle.std.specs.declared.result.Result.{Result}
 use Rattle.std.specs.declared.result.Result.TheVariants.{Ok, Err}
@@ -44,51 +44,23 @@ pub known-length : (lens l : List ℕ) (k : ℕ) → Known lens l k → length l
 known-length lens l k g = ap length g.found ∙ length-filled l k g.few
 
 -- The loop of `refs_end`.
-pub refs_cons : (l : List ℕ) (t : ℕ) (none : Bool) (a left : ℕ) → 0 < left →
-    refs l t none a left ≡ pick (ltb a (count l)) (pick (may_name_lem (word_at l a) t none) (refs l t none (a + 1) (left - 1)) (Err (BadLayout a))) (Err (BadLayout (count l)))
-unfolding refs
-refs_cons l t none a zero h = absurd (omega arith)
-refs_cons l t none a (suc n) h = let e : suc n - 1 ≡ n = omega arith in rw e
-
-pub refs-none : (l : List ℕ) (t : ℕ) (none : Bool) (a left : ℕ) → left ≤ 0 → refs l t none a left ≡ Ok a
-unfolding refs
-refs-none l t none a zero h = refl
-refs-none l t none a (suc n) h = absurd (omega arith)
-
-module _ (l : List ℕ) (t : ℕ) (none : Bool) (a left : ℕ) (x : Result ℕ Refusal) (p : 0 < left) (e : refs l t none a left ≡ x) where
+module _ (l : List ℕ) (t : ℕ) (none : Bool) (a left rest : ℕ) (x : Result ℕ Refusal) (p : left ≡ suc rest) (e : refs l t none a left ≡ x) where
   pub refs_missing : count l ≤ a → Err (BadLayout (count l)) ≡ x
-  refs_missing h = rw (refs_cons l t none a left p, le-ltb _ _ h) at e
+  unfolding refs
+  refs_missing h = rw (p, le-ltb _ _ h) at e
 
-  module _ (w : ℕ) (ok : Bool) (h : a < count l) (q : w ≡ word_at l a) (r : ok ≡ may_name_lem w t none) where
-    pub refs-wrong : ok ≡ false → Err (BadLayout a) ≡ x
-    refs-wrong s = rw (refs_cons l t none a left p, lt-ltb _ _ h, ← q, ← r, s) at e
+  module _ (h : a < count l) where
+    pub refs-wrong : may_name_lem (word_at l a) t none ≡ false → Err (BadLayout a) ≡ x
+    unfolding refs
+    refs-wrong s = rw (p, lt-ltb _ _ h, s) at e
 
-    pub refs-next : ok ≡ true → refs l t none (a + 1) (left - 1) ≡ x
-    refs-next s = rw (refs_cons l t none a left p, lt-ltb _ _ h, ← q, ← r, s) at e
+    pub refs-next : may_name_lem (word_at l a) t none ≡ true → refs l t none (a + 1) rest ≡ x
+    unfolding refs
+    refs-next s = rw (p, lt-ltb _ _ h, s) at e
 
--- The loop of `fields_len`: what is added to the fixed portion, and what is left to add and to test.
-pub record Adding (l : List ℕ) (t a₀ n a left sum : ℕ) : Type 0 where
-  pub tests : refs l t false a left ≡ refs l t false a₀ n
-  pub some : left ≤ n
-  pub place : a + left ≡ a₀ + n
-  pub bound : sum + 4294967296 * left ≤ 4294967296 * n
-  pub same : sum + portion (heads (fields l (trees l t) a left)) ≡ portion (heads (fields l (trees l t) a₀ n))
-
-module _ (l : List ℕ) (t a₀ n a left sum f : ℕ) (s : Adding l t a₀ n a left sum) (p : 0 < left) (e : f ≡ word_at l a) (i : a < count l) (h : f < t) where
-  adding-tests : refs l t false (a + 1) (left - 1) ≡ refs l t false a₀ n
-  adding-tests = refs-next l t false a left _ p s.tests f true i e (rw (lt-ltb f t h)) refl
-
-  pub adding-next : (w : ℕ) → w ≡ width (head (tree_of l f)) → w < 2 ^ 32 → Adding l t a₀ n (a + 1) (left - 1) (sum + w)
-  unfolding portion
-  adding-next w q z =
-      let x = rw (heads-at l t a left (rw (← e) h) p f e, ← q) at s.same in
-      record { tests = adding-tests; some = omega arith; place = omega (arith, s.place); bound = omega arith; same = omega arith }
-
-pub adding-end : (l : List ℕ) (t a₀ n a left sum : ℕ) → Adding l t a₀ n a left sum → left ≤ 0 →
-    (Ok a ≡ refs l t false a₀ n) × (sum ≡ portion (heads (fields l (trees l t) a₀ n)))
-unfolding heads portion
-adding-end l t a₀ n a left sum s h =
-    (sym (refs-none l t false a left h) ∙ s.tests, omega (arith, rw (fields-none l (trees l t) a left h) at s.same))
+pub refs-none : (l : List ℕ) (t : ℕ) (none : Bool) (a left : ℕ) → left ≡ 0 → refs l t none a left ≡ Ok a
+unfolding refs
+refs-none l t none a left h = rw h
 
 -- An accepted answer, by its tests.
 upto_left : (c : Bool) (u : Result ℕ Refusal) (w e : ℕ) → pick c u (Err (BadLayout w)) ≡ Ok e → (c ≡ true) × (u ≡ Ok e)

@@ -1,7 +1,7 @@
 // The check of a layout table, lent as its little-endian bytes, with the fixed length of each of its types.
 #![tactic(auto)]
 
-ghost use Rattle.std.specs.Prelude.{◌≡◌, ◌+◌, ◌*◌, ◌≤◌, ◌<◌, ◌^◌, get_or, false, true};
+ghost use Rattle.std.specs.Prelude.{◌≡◌, ◌+◌, ◌*◌, ◌≤◌, ◌<◌, ◌^◌, get_or, false, true, IfOk};
 ghost use Rattle.standard.specs.Bytes.{word_at};
 ghost use Rattle.standard.specs.Types.{is_width, width, boolean, head, head_all};
 ghost use Rattle.layout.specs.Kinds.{kind_of};
@@ -89,41 +89,32 @@ fn word_in(layout: &[u8], i: usize) -> usize
 fn may_name(w: usize, t: usize, none: bool) -> bool
     ensures { result ≡ may_name_lem w t none }
 {
-    if w < t {
-        true
-    } else if none {
-        w == NO_BODY
-    } else {
-        false
-    }
+    w < t || none && w == NO_BODY
 }
 
 // The n words from a0 on are there, and name types below t, or no body where that may be.
 fn refs_end(layout: &[u8], t: usize, none: bool, a0: usize, n: usize) -> Result<usize, Refusal>
+    requires { a0 + n < 2 ^ 64 }
     ensures { result ≡ refs layout.now t none a0 n }
 {
     let words = layout.len() / 4;
-    let mut a = a0;
-    let mut left = n;
-    while left > 0 {
+    for a in a0..a0 + n {
         if a >= words {
             return Err(Refusal::BadLayout(words));
         }
-        let w = word_at(layout, a);
-        if !may_name(w, t, none) {
+        if !may_name(word_at(layout, a), t, none) {
             return Err(Refusal::BadLayout(a));
         }
-        a += 1;
-        left -= 1;
     }
-    Ok(a)
+    Ok(a0 + n)
 }
 
 // A number of 1 to most at the word behind at.
 #[tactic(auto, unfolding(crate::specs::Table::counted, crate::specs::Table::count))]
 fn count_at(layout: &[u8], at: usize, most: usize) -> Result<usize, Refusal>
     requires { at ≤ 2 ^ 61 }
-    ensures { result ≡ counted layout.now at most }
+    ensures value { result ≡ counted layout.now at most }
+    ensures few { IfOk result (λ n. n ≤ most) }
 {
     let words = layout.len() / 4;
     let next = at + 1;
@@ -131,10 +122,7 @@ fn count_at(layout: &[u8], at: usize, most: usize) -> Result<usize, Refusal>
         return Err(Refusal::BadLayout(words));
     }
     let n = word_at(layout, next);
-    if n == 0 {
-        return Err(Refusal::BadLayout(next));
-    }
-    if n > most {
+    if n == 0 || n > most {
         return Err(Refusal::BadLayout(next));
     }
     Ok(n)
@@ -162,15 +150,7 @@ fn width_of(len: usize) -> usize
 fn width_ok(w: usize) -> bool
     ensures { result ≡ is_width w }
 {
-    match w {
-        1 => true,
-        2 => true,
-        4 => true,
-        8 => true,
-        16 => true,
-        32 => true,
-        _ => false,
-    }
+    matches!(w, 1 | 2 | 4 | 8 | 16 | 32)
 }
 
 // What the word of a leaf must be.
@@ -228,31 +208,26 @@ fn fields_len(
     a0: usize,
     n: usize,
 ) -> Result<Sizes, Refusal>
-    requires { Known lens.now layout.now t × (n ≤ 64) × (a0 < 2 ^ 62) × (a0 + n ≤ count layout.now) }
+    requires { Known lens.now layout.now t × (n ≤ 64) × (a0 + n ≤ count layout.now) }
     ensures { result ≡ sizes_of (refs layout.now t false a0 n) (fields layout.now (trees layout.now t) a0 n) }
 {
-    let mut a = a0;
-    let mut left = n;
-    let mut portion: usize = 0;
+    let mut portion = 0;
     let mut fixed = true;
-    while left > 0 {
+    for a in a0..a0 + n {
         let f = word_in(layout, a);
-        if !may_name(f, t, false) {
+        if f >= t {
             return Err(Refusal::BadLayout(a));
         }
-        let k = lens[f] as usize;
-        if k == 0 {
+        let len = lens[f] as usize;
+        if len == 0 {
             fixed = false;
         }
-        portion += width_of(k);
-        a += 1;
-        left -= 1;
+        portion += width_of(len);
     }
-    let length = if fixed { portion } else { 0 };
     Ok(Sizes {
-        end: a,
+        end: a0 + n,
         portion,
-        length,
+        length: if fixed { portion } else { 0 },
     })
 }
 
@@ -350,18 +325,14 @@ fn types_end(lens: &mut [u32; 64], layout: &[u8], n: usize) -> Result<usize, Ref
     requires { Known lens.old layout.now 0 × (n ≤ 64) × (n < count layout.now) }
     ensures { Typed layout.now n result lens.new }
 {
-    let mut t = 0;
     let mut at = n + 1;
-    while t < n {
-        let next = 1 + t;
-        let w = word_in(layout, next);
-        if w != at {
-            return Err(Refusal::BadLayout(next));
+    for t in 0..n {
+        if word_in(layout, 1 + t) != at {
+            return Err(Refusal::BadLayout(1 + t));
         }
         let body = body_end(layout, lens, t, at)?;
         lens[t] = body.len as u32;
         at = body.end;
-        t += 1;
     }
     Ok(at)
 }
@@ -375,14 +346,8 @@ fn types_of(layout: &[u8]) -> Result<usize, Refusal>
     if layout.len() % 4 != 0 {
         return Err(Refusal::BadLayout(words));
     }
-    if words == 0 {
-        return Err(Refusal::BadLayout(0));
-    }
     let n = word_at(layout, 0);
-    if n == 0 {
-        return Err(Refusal::BadLayout(0));
-    }
-    if n > 64 {
+    if words == 0 || n == 0 || n > 64 {
         return Err(Refusal::BadLayout(0));
     }
     if n >= words {

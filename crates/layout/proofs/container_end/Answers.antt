@@ -6,15 +6,13 @@ use Rattle.layout.proofs.Lengths.{cut-short}
 use Rattle.layout.proofs.container_end.Goals as goal
 
 pub overflow_add-first-2 : goal.overflow_add-first-2
-overflow_add-first-2 c = omega (arith, (counted-says _ _ _ _ (sym c.in_ok-n.ensures)).few)
+overflow_add-first-2 c = omega (arith, c.in_ok-n.ensures.few)
 
 pub unwrap_err-requires : goal.unwrap_err-requires
 unfolding count
 unwrap_err-requires c =
-    cut-short _ _ _ _ _ (omega (arith, (counted-says _ _ _ _ (sym c.in_ok-n.ensures)).there)) c.if-first-n.true c.refs_end.ensures
+    cut-short _ _ _ _ _ (omega (arith, (counted-says _ _ _ _ (sym c.in_ok-n.ensures.value)).there)) c.if-first-n.true c.refs_end.ensures
 
 pub fields_len-requires : goal.fields_len-requires
 unfolding count
-fields_len-requires c =
-    let k = counted-says _ _ _ _ (sym c.in_ok-n.ensures) in
-    (c.requires.0, k.few, omega arith, c.if-first-n.false)
+fields_len-requires c = (c.requires.0, c.in_ok-n.ensures.few, c.if-first-n.false)

@@ -1,47 +1,42 @@
 -- What the fields so far take, and what is left of them, make the whole. Assumes nothing.
-use Rattle.std.proofs.Common.{◌<◌, arith}
+use Rattle.std.proofs.Common.{◌+◌, ◌-◌, arith}
 use Rattle.layout.specs.Table.{count}
-use Rattle.layout.proofs.Lengths.{taking_start, taking_wrong, taking_lower, taking_width, taking_fixed, taking_variable, taking_end}
+use Rattle.layout.proofs.Lengths.{taking_start, taking_wrong, taking_width, taking_fixed, taking_variable, taking_end}
 use Rattle.layout.proofs.fields_len.Goals as goal
-use Rattle.layout.proofs.fields_len.Goals.{then-k-eq0, else-k-eq0}
+use Rattle.layout.proofs.fields_len.Goals.{then-len-eq0, else-len-eq0}
 
-pub loop-left-init : goal.loop-left-init
-loop-left-init c = taking_start _ _ _ _
+pub overflow_add-a-end : goal.overflow_add-a-end
+unfolding count
+overflow_add-a-end c = omega arith
 
-pub returns-then-not-may_name : goal.returns-then-not-may_name
-returns-then-not-may_name c =
-    let there : c.loop-left.a < count c.args.layout.now = omega arith in
-    taking_wrong _ _ _ _ _ _ _ _ _ _ c.requires.0 c.loop-left.invariant c.loop-left-test.true c.word_in-f.ensures.0 there _ c.may_name.ensures
-    _ c.if-not-may_name.true
+pub loop-a-init : goal.loop-a-init
+loop-a-init c = taking_start _ _ _ _ _ (omega arith)
 
-pub bounds-lens-f : goal.bounds-lens-f
-bounds-lens-f c =
-    let there : c.loop-left.a < count c.args.layout.now = omega arith in
-    let h = taking_lower _ _ _ _ _ _ _ _ _ _ c.requires.0 c.loop-left.invariant c.loop-left-test.true c.word_in-f.ensures.0 there _ c.may_name.ensures
-    c.if-not-may_name.false in
-    omega (arith, h, c.requires.0.few)
+pub returns-then-f-t : goal.returns-then-f-t
+returns-then-f-t c =
+    let rest = c.args.a0 + c.args.n - (c.loop-a.a + 1) in
+    taking_wrong _ _ _ _ _ _ _ rest _ _ _ c.requires.0 c.loop-a.invariant (omega arith) c.word_in-f.ensures.0 (omega arith) _ c.if-f-t.true
 
 pub overflow_add-portion : goal.overflow_add-portion
 overflow_add-portion c =
-    let there : c.loop-left.a < count c.args.layout.now = omega arith in
-    let w = taking_width _ _ _ _ _ _ _ _ _ _ c.requires.0 c.loop-left.invariant c.loop-left-test.true c.word_in-f.ensures.0 there _ c.may_name.ensures
-    c.if-not-may_name.false _ c.width_of-portion.ensures in
+    let rest = c.args.a0 + c.args.n - (c.loop-a.a + 1) in
+    let w = taking_width _ _ _ _ _ _ _ rest _ _ _ c.requires.0 c.loop-a.invariant (omega arith) c.word_in-f.ensures.0 (omega arith) c.if-f-t.false
+    _ c.width_of.ensures in
     omega (arith, w)
 
-pub loop-left-preserved : goal.loop-left-preserved
-loop-left-preserved c =
-    let there : c.loop-left.a < count c.args.layout.now = omega arith in
-    elim c.if-k-eq0.branch [
-      | then-k-eq0 w ↦
-          rw w.fixed-is (taking_variable _ _ _ _ _ _ _ _ _ _ c.requires.0 c.loop-left.invariant c.loop-left-test.true c.word_in-f.ensures.0 there _
-          c.may_name.ensures c.if-not-may_name.false _ c.width_of-portion.ensures w.if-k-eq0.true)
-      | else-k-eq0 w ↦
-          rw w.fixed-is (taking_fixed _ _ _ _ _ _ _ _ _ _ c.requires.0 c.loop-left.invariant c.loop-left-test.true c.word_in-f.ensures.0 there _
-          c.may_name.ensures c.if-not-may_name.false _ c.width_of-portion.ensures w.if-k-eq0.false)
+pub loop-a-preserved : goal.loop-a-preserved
+loop-a-preserved c =
+    elim c.if-len-eq0.branch [
+      | then-len-eq0 w ↦
+          rw w.fixed-is (taking_variable _ _ _ _ _ _ _ _ _ _ _ c.requires.0 c.loop-a.invariant (omega arith) c.word_in-f.ensures.0 (omega arith)
+          c.if-f-t.false _ c.width_of.ensures w.if-len-eq0.true)
+      | else-len-eq0 w ↦
+          rw w.fixed-is (taking_fixed _ _ _ _ _ _ _ _ _ _ _ c.requires.0 c.loop-a.invariant (omega arith) c.word_in-f.ensures.0 (omega arith)
+          c.if-f-t.false _ c.width_of.ensures w.if-len-eq0.false)
     ]
 
 pub returns-then-fixed : goal.returns-then-fixed
-returns-then-fixed c = rw c.if-fixed.true at (taking_end _ _ _ _ _ _ _ _ c.loop-left.invariant c.loop-left-test.false)
+returns-then-fixed c = rw c.if-fixed.true at (taking_end _ _ _ _ _ _ _ _ c.loop-a.invariant (omega arith) (omega arith))
 
 pub returns-else-fixed : goal.returns-else-fixed
-returns-else-fixed c = rw c.if-fixed.false at (taking_end _ _ _ _ _ _ _ _ c.loop-left.invariant c.loop-left-test.false)
+returns-else-fixed c = rw c.if-fixed.false at (taking_end _ _ _ _ _ _ _ _ c.loop-a.invariant (omega arith) (omega arith))

@@ -1,9 +1,7 @@
 -- The loop keeps `Taking`. Assumes nothing.
+use Rattle.std.proofs.Common.{◌+◌, ◌-◌}
 use Rattle.layout.proofs.Lengths.{Taking}
 use Rattle.layout.proofs.fields_len.Given as goal
 
-abbrev pub invariant-loop-left : goal.invariant-loop-left
-invariant-loop-left l = Taking l.layout l.t l.a0 l.n l.a l.left l.portion l.fixed
-
-abbrev pub decreases-loop-left : goal.decreases-loop-left
-decreases-loop-left l = l.left
+abbrev pub invariant-loop-a : goal.invariant-loop-a
+invariant-loop-a l = Taking l.layout l.t l.a0 l.n l.a (l.a0 + l.n - l.a) l.portion l.fixed

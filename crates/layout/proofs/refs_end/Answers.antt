@@ -1,30 +1,29 @@
 -- What is left gives the whole. Assumes nothing.
-use Rattle.std.proofs.Common.{refl, sym, ◌∙◌}
+use Rattle.std.proofs.Common.{◌≡◌, sym, ◌∙◌, ◌+◌, ◌-◌, arith}
 use Rattle.layout.specs.Table.{count}
 use Rattle.layout.proofs.Tables.{refs_missing, refs-wrong, refs-next, refs-none}
 use Rattle.layout.proofs.refs_end.Goals as goal
 
-pub loop-left-init : goal.loop-left-init
-unfolding count
-loop-left-init c = (refl, refl)
-
 pub returns-then-a-words : goal.returns-then-a-words
 unfolding count
-returns-then-a-words c = refs_missing _ _ _ _ _ _ c.loop-left-test.true c.loop-left.invariant.1 c.if-a-words.true
+returns-then-a-words c =
+    let rest = c.args.a0 + c.args.n - (c.loop-a.a + 1) in
+    refs_missing _ _ _ _ _ rest _ (omega arith) c.loop-a.invariant c.if-a-words.true
 
 pub returns-then-not-may_name : goal.returns-then-not-may_name
 unfolding count
 returns-then-not-may_name c =
-    refs-wrong _ _ _ _ _ _ c.loop-left-test.true c.loop-left.invariant.1 _ _ c.if-a-words.false c.word_at-w.ensures.0
-    c.may_name.ensures c.if-not-may_name.true
+    let rest = c.args.a0 + c.args.n - (c.loop-a.a + 1) in
+    let m = rw c.word_at.ensures.0 at (sym c.may_name.ensures ∙ c.if-not-may_name.true) in
+    refs-wrong _ _ _ _ _ rest _ (omega arith) c.loop-a.invariant c.if-a-words.false m
 
-pub loop-left-preserved : goal.loop-left-preserved
+pub loop-a-preserved : goal.loop-a-preserved
 unfolding count
-loop-left-preserved c = (
-  refl,
-  refs-next _ _ _ _ _ _ c.loop-left-test.true c.loop-left.invariant.1 _ _ c.if-a-words.false c.word_at-w.ensures.0
-      c.may_name.ensures c.if-not-may_name.false,
-)
+loop-a-preserved c =
+    let m = rw c.word_at.ensures.0 at (sym c.may_name.ensures ∙ c.if-not-may_name.false) in
+    refs-next _ _ _ _ _ _ _ (omega arith) c.loop-a.invariant c.if-a-words.false m
 
 pub returns : goal.returns
-returns c = sym (refs-none _ _ _ _ _ c.loop-left-test.false) ∙ c.loop-left.invariant.1
+returns c =
+    let e : c.loop-a.a ≡ c.args.a0 + c.args.n = omega arith in
+    rw e at (sym (refs-none _ _ _ _ _ (omega arith)) ∙ c.loop-a.invariant)

@@ -1,10 +1,7 @@
--- The loop keeps that what is left gives the whole. Assumes nothing.
-use Rattle.std.proofs.Common.{◌≡◌}
-use Rattle.layout.specs.Table.{count, refs}
+-- What is left gives the whole. Assumes nothing.
+use Rattle.std.proofs.Common.{◌≡◌, ◌+◌, ◌-◌}
+use Rattle.layout.specs.Table.{refs}
 use Rattle.layout.proofs.refs_end.Given as goal
 
-abbrev pub invariant-loop-left : goal.invariant-loop-left
-invariant-loop-left l = (l.words ≡ count l.layout) × (refs l.layout l.t l.none l.a l.left ≡ refs l.layout l.t l.none l.a0 l.n)
-
-abbrev pub decreases-loop-left : goal.decreases-loop-left
-decreases-loop-left l = l.left
+abbrev pub invariant-loop-a : goal.invariant-loop-a
+invariant-loop-a l = refs l.layout l.t l.none l.a (l.a0 + l.n - l.a) ≡ refs l.layout l.t l.none l.a0 l.n

@@ -10,16 +10,16 @@ loop-t-init c =
     let e : c.args.n - 0 ≡ c.args.n = omega arith in
     record { some = omega arith; listed = c.requires.2; within = omega arith; known = c.requires.0; same = rw e }
 
-pub returns-then-w-at : goal.returns-then-w-at
-returns-then-w-at c =
-    typed-bad _ _ _ _ (checking_start _ _ _ _ _ c.loop-t.invariant c.loop-t-test.true _ c.word_in-w.ensures.0 c.if-w-at.true)
+pub returns-then-word_in-at : goal.returns-then-word_in-at
+returns-then-word_in-at c =
+    typed-bad _ _ _ _ (checking_start _ _ _ _ _ c.loop-t.invariant (omega arith) _ c.word_in.ensures.0 c.if-word_in-at.true)
 
 pub body_end-requires : goal.body_end-requires
-body_end-requires c = (c.loop-t.invariant.known, omega arith, sym c.if-w-at.false ∙ c.word_in-w.ensures.0)
+body_end-requires c = (c.loop-t.invariant.known, omega arith, sym c.if-word_in-at.false ∙ c.word_in.ensures.0)
 
 pub returns-in_err-body : goal.returns-in_err-body
 returns-in_err-body c =
-    let e = checking_bad _ _ _ _ _ c.loop-t.invariant c.loop-t-test.true _ c.word_in-w.ensures.0 c.if-w-at.false _
+    let e = checking_bad _ _ _ _ _ c.loop-t.invariant (omega arith) _ c.word_in.ensures.0 c.if-word_in-at.false _
     (stands-not _ _ _ c.in_err-body.ensures) in
     record { gives = search rules; found = λ n q. search rules }
 
@@ -27,17 +27,17 @@ pub overflow_cast-lens : goal.overflow_cast-lens
 overflow_cast-lens c =
     let b = bytes-known _ (λ i. (c.type_inv.layout i).fits) in
     let s = stands _ _ _ c.in_ok-body.ensures in
-    let m = checking_small _ _ _ _ _ c.loop-t.invariant c.loop-t-test.true _ c.word_in-w.ensures.0 c.if-w-at.false b _ (sym s.ends) _ s.long in
+    let m = checking_small _ _ _ _ _ c.loop-t.invariant (omega arith) _ c.word_in.ensures.0 c.if-word_in-at.false b _ (sym s.ends) _ s.long in
     omega arith
 
 pub loop-t-preserved : goal.loop-t-preserved
 loop-t-preserved c =
     let b = bytes-known _ (λ i. (c.type_inv.layout i).fits) in
     let s = stands _ _ _ c.in_ok-body.ensures in
-    checking_next _ _ _ _ _ c.loop-t.invariant c.loop-t-test.true _ c.word_in-w.ensures.0 c.if-w-at.false b _
+    checking_next _ _ _ _ _ c.loop-t.invariant (omega arith) _ c.word_in.ensures.0 c.if-word_in-at.false b _
     (sym s.ends) _ c.requires.1 (found-set _ _ _ _ c.loop-t.invariant.known.found (omega arith) s.long)
 
 pub returns : goal.returns
 returns c =
-    let e = checking_end _ _ _ _ _ c.loop-t.invariant c.loop-t-test.false in
+    let e = checking_end _ _ _ _ _ c.loop-t.invariant (omega arith) in
     record { gives = e.0; found = λ _ _. e.1 }

@@ -5,20 +5,20 @@ use Rattle.layout.proofs.vector_end.Goals as goal
 
 pub bounds-lens-f : goal.bounds-lens-f
 bounds-lens-f c =
-    omega (arith, c.requires.0.few, element-below _ _ _ _ _ _ _ c.requires.0 c.in_ok-refs_end.ensures c.in_ok-n.ensures c.word_at-f.ensures.0)
+    omega (arith, c.requires.0.few, element-below _ _ _ _ _ _ _ c.requires.0 c.in_ok-refs_end.ensures c.in_ok-n.ensures.value c.word_at-f.ensures.0)
 
 pub overflow_mul-n : goal.overflow_mul-n
 overflow_mul-n c =
-    omega (arith, elements_fit _ _ _ _ _ _ _ c.requires.0 c.in_ok-refs_end.ensures c.in_ok-n.ensures c.word_at-f.ensures.0 _ c.width_of.ensures)
+    omega (arith, elements_fit _ _ _ _ _ _ _ c.requires.0 c.in_ok-refs_end.ensures c.in_ok-n.ensures.value c.word_at-f.ensures.0 _ c.width_of.ensures)
 
 pub returns-then-n-width_of-gt4294967295 : goal.returns-then-n-width_of-gt4294967295
 returns-then-n-width_of-gt4294967295 c =
-    vector_wide _ _ _ _ _ _ _ c.requires.0 c.in_ok-refs_end.ensures c.in_ok-n.ensures c.word_at-f.ensures.0 _ c.width_of.ensures _ (omega arith)
+    vector_wide _ _ _ _ _ _ _ c.requires.0 c.in_ok-refs_end.ensures c.in_ok-n.ensures.value c.word_at-f.ensures.0 _ c.width_of.ensures _ (omega arith)
 
 pub overflow_mul-result : goal.overflow_mul-result
 overflow_mul-result c =
-    omega (arith, elements_len_fits _ _ _ _ _ _ _ c.requires.0 c.in_ok-refs_end.ensures c.in_ok-n.ensures c.word_at-f.ensures.0)
+    omega (arith, elements_len_fits _ _ _ _ _ _ _ c.requires.0 c.in_ok-refs_end.ensures c.in_ok-n.ensures.value c.word_at-f.ensures.0)
 
 pub returns : goal.returns
 returns c =
-    vector-ends _ _ _ _ _ _ _ c.requires.0 c.in_ok-refs_end.ensures c.in_ok-n.ensures c.word_at-f.ensures.0 _ c.width_of.ensures (omega arith)
+    vector-ends _ _ _ _ _ _ _ c.requires.0 c.in_ok-refs_end.ensures c.in_ok-n.ensures.value c.word_at-f.ensures.0 _ c.width_of.ensures (omega arith)
