@@ -5,9 +5,6 @@ use Rattle.layout.proofs.Tables.{counted-says}
 use Rattle.layout.proofs.Lengths.{cut-short}
 use Rattle.layout.proofs.container_end.Goals as goal
 
-pub overflow_add-first-2 : goal.overflow_add-first-2
-overflow_add-first-2 c = omega (arith, c.in_ok-n.ensures.few)
-
 pub unwrap_err-requires : goal.unwrap_err-requires
 unfolding count
 unwrap_err-requires c =

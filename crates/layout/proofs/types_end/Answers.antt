@@ -1,21 +1,13 @@
 -- The types so far are legal, and what is left of the check gives the whole. Assumes nothing.
-use Rattle.std.proofs.Common.{◌≡◌, sym, ◌∙◌, ◌-◌, arith, rules}
+use Rattle.std.proofs.Common.{sym, arith, rules}
 use Rattle.standard.proofs.Bytes.{bytes-known}
 use Rattle.layout.proofs.Tables.{typed-bad, checking_start, checking_bad, checking_small, checking_next, checking_end}
 use Rattle.layout.proofs.Lengths.{found-set, stands, stands-not}
 use Rattle.layout.proofs.types_end.Goals as goal
 
-pub loop-t-init : goal.loop-t-init
-loop-t-init c =
-    let e : c.args.n - 0 ≡ c.args.n = omega arith in
-    record { some = omega arith; listed = c.requires.2; within = omega arith; known = c.requires.0; same = rw e }
-
 pub returns-then-word_in-at : goal.returns-then-word_in-at
 returns-then-word_in-at c =
     typed-bad _ _ _ _ (checking_start _ _ _ _ _ c.loop-t.invariant (omega arith) _ c.word_in.ensures.0 c.if-word_in-at.true)
-
-pub body_end-requires : goal.body_end-requires
-body_end-requires c = (c.loop-t.invariant.known, omega arith, sym c.if-word_in-at.false ∙ c.word_in.ensures.0)
 
 pub returns-in_err-body : goal.returns-in_err-body
 returns-in_err-body c =

@@ -1,6 +1,6 @@
 -- The element's word, its count, then the fixed portion; the length is the count times the element's. Assumes nothing.
 use Rattle.std.proofs.Common.{arith}
-use Rattle.layout.proofs.Lengths.{element-below, elements_fit, elements_len_fits, vector_wide, vector-ends}
+use Rattle.layout.proofs.Lengths.{element-below, elements_fit, vector_wide, vector-ends}
 use Rattle.layout.proofs.vector_end.Goals as goal
 
 pub bounds-lens-f : goal.bounds-lens-f
@@ -14,10 +14,6 @@ overflow_mul-n c =
 pub returns-then-n-width_of-gt4294967295 : goal.returns-then-n-width_of-gt4294967295
 returns-then-n-width_of-gt4294967295 c =
     vector_wide _ _ _ _ _ _ _ c.requires.0 c.in_ok-refs_end.ensures c.in_ok-n.ensures.value c.word_at-f.ensures.0 _ c.width_of.ensures _ (omega arith)
-
-pub overflow_mul-result : goal.overflow_mul-result
-overflow_mul-result c =
-    omega (arith, elements_len_fits _ _ _ _ _ _ _ c.requires.0 c.in_ok-refs_end.ensures c.in_ok-n.ensures.value c.word_at-f.ensures.0)
 
 pub returns : goal.returns
 returns c =
