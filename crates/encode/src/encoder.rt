@@ -1,16 +1,19 @@
 // The encoder of a container, as SszEncoder of encode.rs has it: three numbers by value, over two lent buffers, one for the fixed parts
 // and their offsets, one for the variable parts.
-ghost use Rattle.std.specs.Prelude.{◌≡◌, ◌+◌, ◌≤◌, length, take, leb};
+ghost use Rattle.std.specs.Prelude.{◌≡◌, ◌+◌, ◌≤◌, length, take, leb, Ok, Err};
 ghost use Rattle.std.proofs.lemmas.List.Edits.{sets};
 ghost use Rattle.standard.specs.Bytes.{le};
-ghost use Rattle.encode.specs.Encoder.{container, append_fixed_lem, append_variable_lem, append, appended, front_of, back_of};
+ghost use Rattle.standard.specs.Choice.{pick};
+ghost use Rattle.standard.specs.declared.Refusal.TheVariants.{NoRoom, BadState};
+ghost use Rattle.encode.specs.Encoder.{container, holds, append_fixed_lem, append_variable_lem, append, appended, front_of, back_of};
 ghost use Rattle.encode.specs.Finish.{finalize, finished};
 
+use crate::{BYTES_PER_LENGTH_OFFSET, MAX_LENGTH_VALUE};
 use standard::Refusal;
 use standard::words::put_four;
 
 // The size of the fixed portion, and how many bytes of each buffer are used.
-#[derive(Clone, Copy)]
+#[derive(Clone, Copy, Debug, PartialEq, Eq)]
 pub struct SszEncoder {
     pub offset: usize,
     pub fixed_used: usize,
@@ -30,11 +33,21 @@ fn copy_into(out: &mut [u8], at: usize, src: &[u8])
 fn is_offset(size: usize, used: usize) -> bool
     ensures { result ≡ leb (size + used) 4294967295 }
 {
-    size <= super::MAX_LENGTH_VALUE && used <= super::MAX_LENGTH_VALUE - size
+    size <= MAX_LENGTH_VALUE && used <= MAX_LENGTH_VALUE - size
+}
+
+// 22 unless there is room for what is needed.
+fn check_room(needed: usize, room: usize) -> Result<(), Refusal>
+    ensures { result ≡ pick (leb needed room) (Ok tt) (Err (NoRoom needed room)) }
+{
+    if needed > room {
+        return Err(Refusal::NoRoom(needed, room));
+    }
+    Ok(())
 }
 
 impl SszEncoder {
-    pub fn container(num_fixed_bytes: usize) -> SszEncoder
+    pub fn container(num_fixed_bytes: usize) -> Self
         ensures { result ≡ container num_fixed_bytes }
     {
         SszEncoder {
@@ -44,65 +57,63 @@ impl SszEncoder {
         }
     }
 
+    // 23 unless each buffer has what is used of it.
+    fn check_used(self, fixed: &[u8], variable: &[u8]) -> Result<(), Refusal>
+        ensures { result ≡ pick (holds self fixed.now variable.now) (Ok tt) (Err BadState) }
+    {
+        if self.fixed_used > fixed.len() || self.variable_used > variable.len() {
+            return Err(Refusal::BadState);
+        }
+        Ok(())
+    }
+
     // Appends an item of fixed size: its bytes go into the fixed buffer.
     #[tactic(auto, unfolding(crate::specs::Encoder::append_fixed_lem))]
-    pub fn append_fixed(self, item: &[u8], fixed: &mut [u8], variable: &[u8]) -> Result<SszEncoder, Refusal>
+    pub fn append_fixed(
+        self,
+        item: &[u8],
+        fixed: &mut [u8],
+        variable: &[u8],
+    ) -> Result<Self, Refusal>
         ensures answer { result ≡ append_fixed_lem self item.now fixed.old variable.now }
         ensures front { fixed.new ≡ appended result fixed.old self.fixed_used item.now }
     {
-        let used = self.fixed_used;
-        let held = self.variable_used;
-        if used > fixed.len() {
-            return Err(Refusal::BadState);
-        }
-        if held > variable.len() {
-            return Err(Refusal::BadState);
-        }
-        let end = used + item.len();
-        if end > fixed.len() {
-            return Err(Refusal::NoRoom(end, fixed.len()));
-        }
-        copy_into(fixed, used, item);
+        self.check_used(fixed, variable)?;
+        let end = self.fixed_used + item.len();
+        check_room(end, fixed.len())?;
+        copy_into(fixed, self.fixed_used, item);
         Ok(SszEncoder {
-            offset: self.offset,
             fixed_used: end,
-            variable_used: held,
+            ..self
         })
     }
 
     // Appends an item of variable size: its offset goes into the fixed buffer, its bytes into the variable one.
     #[tactic(auto, unfolding(crate::specs::Encoder::append_variable_lem))]
-    pub fn append_variable(self, item: &[u8], fixed: &mut [u8], variable: &mut [u8]) -> Result<SszEncoder, Refusal>
+    pub fn append_variable(
+        self,
+        item: &[u8],
+        fixed: &mut [u8],
+        variable: &mut [u8],
+    ) -> Result<Self, Refusal>
         ensures answer { result ≡ append_variable_lem self item.now fixed.old variable.old }
         ensures front { fixed.new ≡ appended result fixed.old self.fixed_used (le 4 (self.offset + self.variable_used)) }
         ensures back { variable.new ≡ appended result variable.old self.variable_used item.now }
     {
-        let used = self.fixed_used;
-        let held = self.variable_used;
-        if used > fixed.len() {
-            return Err(Refusal::BadState);
-        }
-        if held > variable.len() {
-            return Err(Refusal::BadState);
-        }
-        let small = is_offset(self.offset, held);
-        if !small {
+        self.check_used(fixed, variable)?;
+        if !is_offset(self.offset, self.variable_used) {
             return Err(Refusal::TooLarge);
         }
-        let front = used + super::BYTES_PER_LENGTH_OFFSET;
-        if front > fixed.len() {
-            return Err(Refusal::NoRoom(front, fixed.len()));
-        }
-        let back = held + item.len();
-        if back > variable.len() {
-            return Err(Refusal::NoRoom(back, variable.len()));
-        }
-        put_four(fixed, used, self.offset + held);
-        copy_into(variable, held, item);
+        let front = self.fixed_used + BYTES_PER_LENGTH_OFFSET;
+        check_room(front, fixed.len())?;
+        let back = self.variable_used + item.len();
+        check_room(back, variable.len())?;
+        put_four(fixed, self.fixed_used, self.offset + self.variable_used);
+        copy_into(variable, self.variable_used, item);
         Ok(SszEncoder {
-            offset: self.offset,
             fixed_used: front,
             variable_used: back,
+            ..self
         })
     }
 
@@ -113,7 +124,7 @@ impl SszEncoder {
         item: &[u8],
         fixed: &mut [u8],
         variable: &mut [u8],
-    ) -> Result<SszEncoder, Refusal>
+    ) -> Result<Self, Refusal>
         ensures answer { result ≡ append is_ssz_fixed_len self item.now fixed.old variable.old }
         ensures front { fixed.new ≡ appended result fixed.old self.fixed_used (front_of is_ssz_fixed_len self item.now) }
         ensures back { variable.new ≡ appended result variable.old self.variable_used (back_of is_ssz_fixed_len item.now) }
@@ -131,19 +142,10 @@ impl SszEncoder {
         ensures answer { result ≡ finalize self fixed.old variable.now }
         ensures front { fixed.new ≡ finished result fixed.old self.fixed_used (take self.variable_used variable.now) }
     {
-        let used = self.fixed_used;
-        let held = self.variable_used;
-        if used > fixed.len() {
-            return Err(Refusal::BadState);
-        }
-        if held > variable.len() {
-            return Err(Refusal::BadState);
-        }
-        let end = used + held;
-        if end > fixed.len() {
-            return Err(Refusal::NoRoom(end, fixed.len()));
-        }
-        copy_into(fixed, used, &variable[..held]);
-        Ok(end)
+        self.check_used(fixed, variable)?;
+        let len = self.fixed_used + self.variable_used;
+        check_room(len, fixed.len())?;
+        copy_into(fixed, self.fixed_used, &variable[..self.variable_used]);
+        Ok(len)
     }
 }
