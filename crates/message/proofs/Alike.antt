@@ -30,6 +30,8 @@ use Rattle.message.proofs.Repeats.{element-some, element-row, list_read, vector-
 use Rattle.message.proofs.Bodies.{plain_type, exact_read}
 use Rattle.std.specs.declared.result.Result.TheVariants.{Ok, Err}
 use Rattle.message.specs.Read.{located}
+use Rattle.layout.specs.declared.Kind.{Kind}
+use Rattle.layout.specs.Kinds.{has_element}
 
 -- n elements of k bytes, of which only the length is asked
 plain-each :
@@ -91,7 +93,7 @@ module _ (lens l : List ℕ) (t at n e : ℕ) (g : Row lens l t at 0 n) (q : e �
   unfolding width
   told-narrow z w = rw (← told-head, ne_eqb k 0 z) at w
 
-module _ (lens l : List ℕ) (t : ℕ) (n : Node) (e : n ≡ node_of l t) (g : Under lens l (t + 1)) (k : 8 ≤ n.kind) where
+module _ (lens l : List ℕ) (t : ℕ) (n : Node) (e : n ≡ node_of l t) (g : Under lens l (t + 1)) (k : has_element n.kind ≡ true) where
   elements-alike : (m : ℕ) (b : List ℕ) → m < 2 ^ 32 → Laid (replicate m (head (tree_of l n.second))) b → Alike lens l t (n.at + 1) m n.second b
   elements-alike m b h d =
       let hs = sym (element-heads lens l t n e g k m) in
@@ -104,7 +106,7 @@ module _ (lens l : List ℕ) (t : ℕ) (n : Node) (e : n ≡ node_of l t) (g : U
       }
 
   -- A vector of m elements
-  module _ (q : n.kind ≡ 9) (m : ℕ) (i : m ≡ word_at l (n.at + 2)) (b : List ℕ) where
+  module _ (q : n.kind ≡ Kind.Vector) (m : ℕ) (i : m ≡ word_at l (n.at + 2)) (b : List ℕ) where
     pub vector-alike : m < 2 ^ 32 → (Ok tt) ≡ vector_told_lem (head (tree_of l n.second)) m b → Alike lens l t (n.at + 1) m n.second b
     vector-alike h d = elements-alike m b h (vector-laid _ m b (sym d))
 
@@ -117,7 +119,7 @@ module _ (lens l : List ℕ) (t : ℕ) (n : Node) (e : n ≡ node_of l t) (g : U
     vector_stop r d s = rw (vector-read lens l t n e g k q b s, ← i, ← d)
 
   -- A list whose elements have the length w
-  module _ (q : n.kind ≡ 9 → ⊥) (limit : ℕ) (i : limit ≡ word_at l (n.at + 2)) (w : ℕ) (j : w ≡ get_or lens n.second 0) (b : List ℕ) where
+  module _ (q : n.kind ≡ Kind.Vector → ⊥) (limit : ℕ) (i : limit ≡ word_at l (n.at + 2)) (w : ℕ) (j : w ≡ get_or lens n.second 0) (b : List ℕ) where
     list-says : elements (head_of w) limit b ≡ elements (head (tree_of l n.second)) (word_at l (n.at + 2)) b
     list-says = rw (j, element-head lens l t n e g k, i)
 

@@ -6,11 +6,11 @@ use mathlib.Core.Logic.{◌⊎◌, inl, inr, ⊎_elim}
 use Prim.Native.Nat.{ℕ, zero, suc, ◌+◌, ◌-◌, ◌≤◌, ◌<◌, ◌^◌}
 use native.Mathlib.Nat.{add-zero}
 use native.Mathlib.Omega.{arith}
-use borrow.Author.Tests.{eqb-true, eqb-false, ltb-true, lt-ltb, le-ltb, eq-eqb, ne_eqb, leb-true, le-leb}
+use borrow.Author.Tests.{eqb-true, eqb-false, ltb-true, lt-ltb, le-ltb, eq-eqb, ne_eqb, le-leb}
 use lib.ListN.{length, get_or, take, drop, length-drop}
 use lib.Seq.{take_all}
 use lib.Dec.{eqb, leb, ltb}
-use Rattle.standard.specs.Choice.{pick, and_also}
+use Rattle.standard.specs.Choice.{pick}
 use Rattle.standard.specs.Bytes.{word_at}
 use Rattle.standard.specs.Types.{Ty, Opts, number, boolean, fixed_bytes, free_bytes, union, bare, body, head}
 use Rattle.standard.specs.Parts.{span_of, part, InRange}
@@ -39,6 +39,8 @@ use Rattle.std.specs.declared.option.Option.TheVariants.{Some, None}
 use Rattle.message.specs.declared.RefusedAt.{RefusedAt}
 use Rattle.message.specs.declared.Sizes.{Sizes}
 use Rattle.message.specs.Read.{located}
+use Rattle.layout.specs.declared.Kind.{Kind}
+use Rattle.layout.specs.Kinds.{is_leaf}
 
 plus-zero : (a : Counts) → plus a (record { records = 0; words = 0; bytes = 0 }) ≡ a
 plus-zero a = simp add-zero
@@ -71,49 +73,39 @@ pub small-more : (c : Counts) → Small c (2 ^ 40) → Small c (2 ^ 50)
 small-more c g = record { records = omega (arith, g.records); words = omega (arith, g.words); bytes = omega (arith, g.bytes) }
 
 -- A number or fixed bytes: the table names the length, and an item of that length is accepted.
-plain-kind : (k : ℕ) → is_plain k ≡ true → (k ≡ 0) ⊎ (k ≡ 2)
+plain-kind : (k : Kind) → is_plain k ≡ true → (k ≡ Kind.Number) ⊎ (k ≡ Kind.FixedBytes)
 unfolding is_plain
-plain-kind k h = go (eqb k 0) refl h
-  where
-    go : (c : Bool) → eqb k 0 ≡ c → pick c true (eqb k 2) ≡ true → (k ≡ 0) ⊎ (k ≡ 2)
-    go true e h = inl (eqb-true _ _ e)
-    go false e h = inr (eqb-true _ _ h)
+plain-kind Kind.Number h = inl refl
+plain-kind Kind.FixedBytes h = inr refl
+plain-kind k h = absurd (cc)
 
 pub exact_read : (m t : ℕ) (b : List ℕ) (s k : ℕ) → length b ≡ k → k ≡ m → one 0 k ≡ read_exact m t b s
 exact_read m t b s k h e = rw (h, eq-eqb k m e)
 
 module _ (l : List ℕ) (f : ℕ) (n : Node) (e : n ≡ node_of l f) where
-  as_number : n.kind ≡ 0 → tree_of l f ≡ number f n.second
+  as_number : n.kind ≡ Kind.Number → tree_of l f ≡ number f n.second
   unfolding leaf_of
-  as_number h = as_leaf l f n e (omega arith) ∙ rw h
+  as_number h = as_leaf l f n e (rw h) ∙ rw h
 
-  as_fixed_bytes : n.kind ≡ 2 → tree_of l f ≡ fixed_bytes f n.second
+  as_fixed_bytes : n.kind ≡ Kind.FixedBytes → tree_of l f ≡ fixed_bytes f n.second
   unfolding leaf_of
-  as_fixed_bytes h = as_leaf l f n e (omega arith) ∙ rw h
+  as_fixed_bytes h = as_leaf l f n e (rw h) ∙ rw h
 
-  pub as_free : n.kind ≡ 3 → tree_of l f ≡ free_bytes f n.second
+  pub as_free : n.kind ≡ Kind.FreeBytes → tree_of l f ≡ free_bytes f n.second
   unfolding leaf_of
-  as_free h = as_leaf l f n e (omega arith) ∙ rw h
+  as_free h = as_leaf l f n e (rw h) ∙ rw h
 
   pub plain_type : is_plain n.kind ≡ true → (head (tree_of l f) ≡ Fixed n.second) ×
       ((b : List ℕ) (s : ℕ) → read_item (tree_of l f) b s ≡ read_exact n.second f b s)
   unfolding head read_item
   plain_type h =
       ⊎_elim
-      (λ (k : n.kind ≡ 0). (rw (as_number k), λ b s. rw (as_number k)))
-      (λ (k : n.kind ≡ 2). (rw (as_fixed_bytes k), λ b s. rw (as_fixed_bytes k)))
+      (λ (k : n.kind ≡ Kind.Number). (rw (as_number k), λ b s. rw (as_number k)))
+      (λ (k : n.kind ≡ Kind.FixedBytes). (rw (as_fixed_bytes k), λ b s. rw (as_fixed_bytes k)))
       (plain-kind n.kind h)
 
--- Free bytes within their limit
-pub within-says : (k len limit : ℕ) → and_also (eqb k 3) (leb len limit) ≡ true → (k ≡ 3) × (len ≤ limit)
-within-says k len limit h = go (eqb k 3) refl h
-  where
-    go : (c : Bool) → eqb k 3 ≡ c → and_also c (leb len limit) ≡ true → (k ≡ 3) × (len ≤ limit)
-    go true e q = (eqb-true _ _ e, leb-true _ _ q)
-    go false e q = let z : ◌≡◌ {A = ℕ} 0 1 = cc in absurd (omega arith)
-
 -- What a leaf is told to be, y, is what the rules of reading say.
-pub leaf-told : (l : List ℕ) (f : ℕ) (n : Node) → n ≡ node_of l f → n.kind < 6 → (b : List ℕ) (x y : Result Sizes Refusal) → y ≡ x →
+pub leaf-told : (l : List ℕ) (f : ℕ) (n : Node) → n ≡ node_of l f → is_leaf n.kind ≡ true → (b : List ℕ) (x y : Result Sizes Refusal) → y ≡ x →
     ((t s : ℕ) → placed y t s ≡ read_item (leaf_of t n) b s) → (s : ℕ) → placed x f s ≡ read_item (tree_of l f) b s
 leaf-told l f n e h b x y q k s = rw (← q, as_leaf l f n e h) (k f s)
 
@@ -163,7 +155,7 @@ module _ {lens l : List ℕ} {t a₀ step n own : ℕ} {b : List ℕ} {s : ℕ} 
   reading_stop r h = rw (← h) at reading-first
 
   -- Free bytes: of them only the length is asked.
-  module _ {d : Node} (i : d ≡ node_of l f) (k : d.kind ≡ 3) where
+  module _ {d : Node} (i : d ≡ node_of l f) (k : d.kind ≡ Kind.FreeBytes) where
     free_read : read_item (tree_of l f) (part b w) (s + w.from) ≡
         pick (leb (w.to - w.from) d.second) (one 1 (w.to - w.from)) (Err (located (OverLimit (w.to - w.from) d.second) f (s + w.from)))
     unfolding read_item
@@ -202,17 +194,17 @@ reading-end g h = sym (ap Ok (plus-zero _)) ∙ rw (row-none _ _ _ _ _ h) at g.s
 
 -- A container.
 module _ (lens l : List ℕ) (t : ℕ) (n : Node) (e : n ≡ node_of l t) (g : Under lens l (t + 1)) where
-  pub container-row : n.kind ≡ 6 → Row lens l t (n.at + 2) 1 n.second
+  pub container-row : n.kind ≡ Kind.Container → Row lens l t (n.at + 2) 1 n.second
   container-row k =
       let m = node_legal lens l t n e g in
       record {
         under = under-below lens l (t + 1) t (omega arith) g;
         near = omega (arith, m.near, m.few k);
         steps = omega arith;
-        named = container-named l t (n.at + 2) n.second (m.within (omega arith) (omega arith)) (m.lower k);
+        named = container-named l t (n.at + 2) n.second (m.within (rw k)) (m.lower k);
       }
 
-  module _ (k : n.kind ≡ 6) (b : List ℕ) (s : ℕ) where
+  module _ (k : n.kind ≡ Kind.Container) (b : List ℕ) (s : ℕ) where
     pub container-read : read_item (tree_of l t) b s ≡ built (lay_out_lem (heads_of l t (n.at + 2) 1 n.second) b) t s
         (and_then (one 0 0) (read_fields (row_of l t (n.at + 2) 1 n.second) b 0 s))
     unfolding read_item
@@ -383,7 +375,7 @@ split-some b k e = go (eqb (length b) 0) refl e
     go false p h = let y : length b ≡ 0 → ⊥ = eqb-false _ _ p in omega arith
 
 -- What is chosen, of the tree.
-module _ (lens l : List ℕ) (t : ℕ) (n : Node) (e : n ≡ node_of l t) (g : Under lens l (t + 1)) (k : n.kind ≡ 7) (b : List ℕ) where
+module _ (lens l : List ℕ) (t : ℕ) (n : Node) (e : n ≡ node_of l t) (g : Under lens l (t + 1)) (k : n.kind ≡ Kind.Union) (b : List ℕ) where
   union-read : (s : ℕ) → read_item (tree_of l t) b s ≡ chosen (choose l (n.at + 2) n.second b) (trees l t) b t s
   union-read s = rw (as_union l t n e k) (union-chosen l (trees l t) b t s (n.at + 2) n.second)
 

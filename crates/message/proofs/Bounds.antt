@@ -23,7 +23,7 @@ use Rattle.layout.specs.Tree.{node_of, leaf_of, fields, options, trees, tree_of}
 use Rattle.layout.specs.Legal.{Lower, LowerOrBare, LegalNode, Legal}
 use Rattle.layout.specs.declared.Node.{Node}
 use Rattle.layout.proofs.Facts.{trees-get, as_container, as_union, as_list_lem, as_vector, as_leaf, each-kind}
-use Rattle.layout.proofs.Trees.{legal_tree}
+use Rattle.layout.proofs.Trees.{legal_tree, leaf-cases}
 use Rattle.message.specs.Read.{raw_bytes_lem, one, plus, and_then, elements, vector_told_lem, read_each, read_item, read_fields, read_option}
 use Rattle.message.specs.declared.Counts.{Counts}
 use Rattle.message.proofs.Answers.{none, single, not_accepted, accepted-same, pick-left, pick_right, pick-cases, pick-holds, left-accepted, right_accepted, leaf-accepted, then_accepted, behind-accepted, built-accepted, vector-accepted, list-accepted, many-accepted}
@@ -60,13 +60,8 @@ One : Ty → Type 0
 One x = depth x ≡ 1
 
 leaf-depth : (t : ℕ) (n : Node) → depth (leaf_of t n) ≡ 1
-unfolding leaf_of depth One
-leaf-depth t n =
-    pick-holds One (eqb n.kind 0) _ _ (λ a. refl) λ a.
-    pick-holds One (eqb n.kind 1) _ _ (λ b. refl) λ b.
-    pick-holds One (eqb n.kind 2) _ _ (λ c. refl) λ c.
-    pick-holds One (eqb n.kind 3) _ _ (λ d. refl) λ d.
-    pick-holds One (eqb n.kind 4) _ _ (λ e. refl) λ e. refl
+unfolding depth One
+leaf-depth t n = leaf-cases t n One (λ e. refl) (λ e. refl) (λ e. refl) refl (λ e. refl) refl
 
 module _ (l : List ℕ) (t : ℕ) (f : (u : ℕ) → u < t → depth (tree_of l u) ≤ u + 1) where
   lower-depth : (w : ℕ) → w < t → depth (get_or (trees l t) w (boolean 0)) ≤ t
@@ -96,12 +91,12 @@ module _ (l : List ℕ) (t : ℕ) (f : (u : ℕ) → u < t → depth (tree_of l 
   unfolding depth
   node_depth g =
       let n = node_of l t in
-      each-kind (depth (tree_of l t) ≤ t + 1) n.kind g.known
+      each-kind (depth (tree_of l t) ≤ t + 1) n.kind
       (λ k. rw (as_leaf l t n refl k, leaf-depth t n) (omega arith))
       (λ k. let x = fields-depth (n.at + 2) n.second (g.lower k) in rw (as_container l t n refl k) (omega arith))
       (λ k. let x = options-depth (n.at + 2) 0 n.second (g.optional k) in rw (as_union l t n refl k) (omega arith))
-      (λ k. let b = g.element (omega arith) in let x = f n.second b in rw (as_list_lem l t n refl k b) (omega arith))
-      (λ k. let b = g.element (omega arith) in let x = f n.second b in rw (as_vector l t n refl k b) (omega arith))
+      (λ k. let b = g.element (rw k) in let x = f n.second b in rw (as_list_lem l t n refl k b) (omega arith))
+      (λ k. let b = g.element (rw k) in let x = f n.second b in rw (as_vector l t n refl k b) (omega arith))
 
 pub tree_depth : (l : List ℕ) (n t : ℕ) → Legal l n → t < n → depth (tree_of l t) ≤ t + 1
 unfolding Legal

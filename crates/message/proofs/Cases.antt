@@ -16,6 +16,7 @@ use Rattle.standard.specs.declared.Refusal.TheVariants.{InvalidByteLength, Inval
 use Rattle.standard.proofs.Bits.{bits_of}
 use Rattle.decode.specs.Builder.{step, register, build, lay_out_lem}
 use Rattle.bitfield.specs.Body.{highest, bit_list_body}
+use Rattle.layout.specs.Kinds.{kind_of}
 use Rattle.layout.specs.Tree.{node_of, leaf_of, from_node, fields, options, trees, tree_of}
 use Rattle.layout.specs.Table.{count, refs, counted, many, container_end_lem, list_end_lem, vector_end_lem, leaf_end_lem, body_end_lem, types_end_lem, types_of, table_of}
 use Rattle.message.specs.Read.{further, elements, vector_told_lem, read_each, read_item}
@@ -76,7 +77,7 @@ Holds [] = Unit {0}
 Holds (x ∷ xs) = (check_message x.layout x.message ≡ x.answer) × Holds xs
 
 cases_hold : Holds cases
-unfolding Holds cases message_p offsets layout_l bits4 bytes_of le num num_at word_at head heads joined width portion next node_of leaf_of from_node fields
+unfolding Holds cases message_p offsets layout_l bits4 bytes_of le num num_at word_at head heads joined width portion next kind_of node_of leaf_of from_node fields
     options trees tree_of step register build lay_out_lem bits_of highest bit_list_body read_item count refs counted many container_end_lem leaf_end_lem body_end_lem types_end_lem types_of table_of
     check_message
 cases_hold = (refl, (refl, (refl, (refl, (refl, (refl, (refl, (refl, (refl, (refl, (refl, (refl, tt))))))))))))
@@ -120,7 +121,7 @@ element_cases =
     ∷ []
 
 element-cases_hold : Holds element_cases
-unfolding Holds element_cases numbers texts pair two_texts bytes_of le num num_at word_at head heads joined times width portion next node_of leaf_of
+unfolding Holds element_cases numbers texts pair two_texts bytes_of le num num_at word_at head heads joined times width portion next kind_of node_of leaf_of
     from_node fields options trees tree_of step register build lay_out_lem further elements vector_told_lem read_each read_item count refs counted many container_end_lem
     list_end_lem vector_end_lem leaf_end_lem body_end_lem types_end_lem types_of table_of check_message
 element-cases_hold =
@@ -128,19 +129,19 @@ element-cases_hold =
 
 -- "For L and P it prints only": type, start and end of each item
 listed : list_item_lem (tree_of layout_l 3) message_p 0 ≡ bytes_of (3 ∷ 0 ∷ 20 ∷ 0 ∷ 0 ∷ 8 ∷ 1 ∷ 16 ∷ 19 ∷ 2 ∷ 19 ∷ 20 ∷ [])
-unfolding message_p offsets layout_l bytes_of le num num_at word_at head heads joined width portion next node_of leaf_of from_node fields options trees
+unfolding message_p offsets layout_l bytes_of le num num_at word_at head heads joined width portion next kind_of node_of leaf_of from_node fields options trees
     tree_of entry list_item_lem
 listed = refl
 
 -- Case (9) is the serialization of four zeros, and by `message-one` of nothing else.
 four-zeros : (message_type bits4 1 ≡ bit_list 0 4) × (serialize (bit_list 0 4) (false ∷ false ∷ false ∷ false ∷ []) ≡ 0x10 ∷ [])
-unfolding bits4 bytes_of le num num_at word_at node_of leaf_of from_node trees tree_of bit_num packs pack marked serialize
+unfolding bits4 bytes_of le num num_at word_at kind_of node_of leaf_of from_node trees tree_of bit_num packs pack marked serialize
 four-zeros = (refl, refl)
 
 -- The value form of P: three free bytes, three bits without their mark
 unfolded : (unfold_words (tree_of layout_l 3) message_p ≡ 3 ∷ 3 ∷ []) ×
     (unfold_bytes (tree_of layout_l 3) message_p ≡ 0x2a ∷ 0 ∷ 0 ∷ 0 ∷ 0 ∷ 0 ∷ 0 ∷ 0 ∷ 0x0a ∷ 0x0b ∷ 0x0c ∷ 0x05 ∷ [])
-unfolding message_p offsets layout_l bytes_of le num num_at word_at head heads joined width portion next node_of leaf_of from_node fields options trees
+unfolding message_p offsets layout_l bytes_of le num num_at word_at head heads joined width portion next kind_of node_of leaf_of from_node fields options trees
     tree_of bits_of bit_num packs highest bit_list_body raw_of unfold_words unfold_bytes
 unfolded = (refl, refl)
 
@@ -153,7 +154,7 @@ unfolding type_p
 value_p = (42, (0x0a ∷ 0x0b ∷ 0x0c ∷ [], (true ∷ false ∷ true ∷ [], tt)))
 
 of-P : (message_type layout_l 4 ≡ type_p) × (serialize type_p value_p ≡ message_p)
-unfolding message_p offsets layout_l type_p value_p bytes_of le num num_at word_at head heads joined node_of leaf_of from_node fields options trees tree_of
+unfolding message_p offsets layout_l type_p value_p bytes_of le num num_at word_at head heads joined kind_of node_of leaf_of from_node fields options trees tree_of
     bit_num packs pack marked fixed_lengths fronts backs join serialize
 of-P = (refl, refl)
 
@@ -177,7 +178,7 @@ leaves_p =
     ∷ []
 
 leaves-P : (leaves_of layout_l (items_in 4 (list_item_lem (tree_of layout_l 3) message_p 0)) ≡ leaves_p) × (leaf_pieces (pieces type_p value_p 0) ≡ leaves_p)
-unfolding message_p offsets layout_l bytes_of le num num_at word_at head heads joined width portion next node_of leaf_of from_node fields options trees
+unfolding message_p offsets layout_l bytes_of le num num_at word_at head heads joined width portion next kind_of node_of leaf_of from_node fields options trees
     tree_of entry list_item_lem items_in leaves_of type_p value_p bit_num packs pack marked fixed_lengths serialize pieces leaf_pieces leaves_p
 leaves-P = (refl, refl)
 

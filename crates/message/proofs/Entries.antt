@@ -22,6 +22,7 @@ use Rattle.decode.proofs.Register.{layout-ranges}
 use Rattle.layout.specs.Tree.{node_of, leaf_of, options, trees, tree_of}
 use Rattle.layout.specs.declared.Node.{Node}
 use Rattle.layout.proofs.Facts.{trees-get, as_union, as_leaf}
+use Rattle.layout.proofs.Trees.{leaf-cases}
 use Rattle.message.specs.Read.{one, and_then, read_item, read_fields}
 use Rattle.message.specs.Check.{message_type, under_table_lem}
 use Rattle.message.specs.Listing.{entry, list_item_lem, list_fields_lem, list_option}
@@ -37,6 +38,8 @@ use Rattle.std.specs.declared.result.Result.TheVariants.{Ok, Err}
 use Rattle.std.specs.declared.option.Option.TheVariants.{Some, None}
 use Rattle.message.specs.declared.RefusedAt.{RefusedAt}
 use Rattle.message.specs.Read.{located}
+use Rattle.layout.specs.declared.Kind.{Kind}
+use Rattle.layout.specs.Kinds.{is_leaf}
 
 -- Acceptance does not depend on where the item starts.
 pub accepted-start : (x : Ty) (b : List ℕ) (s u : ℕ) → IsAccepted (read_item x b s) → IsAccepted (read_item x b u)
@@ -120,28 +123,19 @@ stored-length o at x r o' g = ap length g.list ∙ length-sets o at x
 
 -- Items, by their kind.
 module _ (l : List ℕ) (t : ℕ) (n : Node) (e : n ≡ node_of l t) (b : List ℕ) (s : ℕ) where
-  pub list-container : n.kind ≡ 6 → list_item_lem (tree_of l t) b s ≡ entry t b s ++ list_fields_lem (row_of l t (n.at + 2) 1 n.second) b 0 s
+  pub list-container : n.kind ≡ Kind.Container → list_item_lem (tree_of l t) b s ≡ entry t b s ++ list_fields_lem (row_of l t (n.at + 2) 1 n.second) b 0 s
   unfolding list_item_lem
   list-container k = rw (container_tree l t n e k)
 
   leaf-list : (t : ℕ) (n : Node) (b : List ℕ) (s : ℕ) → list_item_lem (leaf_of t n) b s ≡ entry t b s
-  unfolding leaf_of list_item_lem
-  leaf-list t n b s = go (eqb n.kind 0) (eqb n.kind 1) (eqb n.kind 2) (eqb n.kind 3) (eqb n.kind 4)
-    where
-      go : (a c d f g : Bool) → list_item_lem (pick a (number t n.second)
-          (pick c (boolean t) (pick d (fixed_bytes t n.second)
-          (pick f (free_bytes t n.second) (pick g (bit_vector t n.second) (bit_list t n.second)))))) b s ≡ entry t b s
-      go true c d f g = refl
-      go false true d f g = refl
-      go false false true f g = refl
-      go false false false true g = refl
-      go false false false false true = refl
-      go false false false false false = refl
+  unfolding list_item_lem
+  leaf-list t n b s =
+      leaf-cases t n (λ (x : Ty). list_item_lem x b s ≡ entry t b s) (λ e. refl) (λ e. refl) (λ e. refl) refl (λ e. refl) refl
 
-  pub list-leaf : n.kind < 6 → list_item_lem (tree_of l t) b s ≡ entry t b s
+  pub list-leaf : is_leaf n.kind ≡ true → list_item_lem (tree_of l t) b s ≡ entry t b s
   list-leaf h = rw (as_leaf l t n e h) (leaf-list t n b s)
 
-pub leaf-stored : (l : List ℕ) (f : ℕ) (n : Node) → n ≡ node_of l f → n.kind < 6 → (o : List ℕ) (at : ℕ) (b : List ℕ) (s r : ℕ) (o' : List ℕ) →
+pub leaf-stored : (l : List ℕ) (f : ℕ) (n : Node) → n ≡ node_of l f → is_leaf n.kind ≡ true → (o : List ℕ) (at : ℕ) (b : List ℕ) (s r : ℕ) (o' : List ℕ) →
     Stored o at (entry f b s) r o' → Stored o at (list_item_lem (tree_of l f) b s) r o'
 leaf-stored l f n e h o at b s r o' g = rw (list-leaf l f n e b s h) g
 
@@ -189,7 +183,7 @@ module _ (l : List ℕ) (lower : List Ty) (b : List ℕ) (s : ℕ) where
 -- A container's and a union's parts are accepted, and stored behind their own record.
 module _ (lens l : List ℕ) (t : ℕ) (n : Node) (e : n ≡ node_of l t) (g : Under lens l (t + 1)) (b : List ℕ) (s : ℕ)
     (h : IsAccepted (read_item (tree_of l t) b s)) where
-  module _ (k : n.kind ≡ 6) where
+  module _ (k : n.kind ≡ Kind.Container) where
     container-both : (lay_out_lem (heads_of l t (n.at + 2) 1 n.second) b ≡ Ok tt) ×
         IsAccepted (and_then (one 0 0) (read_fields (row_of l t (n.at + 2) 1 n.second) b 0 s))
     container-both = built-both _ t s _ (rw (container-read lens l t n e g k b s) at h)
@@ -201,7 +195,7 @@ module _ (lens l : List ℕ) (t : ℕ) (n : Node) (e : n ≡ node_of l t) (g : U
           container-both.1).1,
     )
 
-  module _ (k : n.kind ≡ 7) where
+  module _ (k : n.kind ≡ Kind.Union) where
     union-list : get_or b 0 0 < n.second → list_item_lem (tree_of l t) b s ≡ entry t b s ++ listed l (trees l t) b s (word_at l (n.at + 2 + get_or b 0 0))
     unfolding list_item_lem
     union-list i = rw (as_union l t n e k, list-chosen l (trees l t) b s (n.at + 2) n.second i)

@@ -10,7 +10,7 @@ use mathlib.Core.Bool.{Bool, true, false}
 use Prim.Native.Nat.{ℕ, zero, suc, ◌+◌, ◌-◌, ◌*◌, ◌/◌, ◌≤◌, ◌<◌, ◌^◌}
 use native.Mathlib.Nat.{zero-add}
 use native.Mathlib.Omega.{arith}
-use borrow.Author.Tests.{eq-eqb, ne_eqb, lt-ltb, le-ltb, ltb-false}
+use borrow.Author.Tests.{eq-eqb, ne_eqb, lt-ltb, le-ltb, ltb-true, ltb-false}
 use lib.ListN.{length, drop, length-append, length-take, length-drop}
 use lib.Seq.{sets, length-sets, sets-eq, drop-drop, drop_at}
 use lib.Dec.{ltb}
@@ -26,6 +26,8 @@ use Rattle.standard.proofs.Bytes.{num-le}
 use Rattle.standard.proofs.Join.{span_ranges, fixed-portion, join-ranges, join-next, split-join}
 use Rattle.standard.proofs.Elements.{All, copies, all-copies, length-as_list, by_copies, alike-copies, ok-copies, pieces-copies}
 use Rattle.standard.proofs.Laws.{heads-parts, legal-copies, values_sized, piece_bytes, piece-rest, selector, payload, selected_is, selector-bounds}
+use Rattle.layout.specs.Kinds.{kind_of, is_leaf}
+use Rattle.layout.specs.declared.Kind.{Kind as TypeKind}
 use Rattle.layout.specs.Tree.{node_of, leaf_of, tree_of}
 use Rattle.layout.specs.Table.{table_of}
 use Rattle.layout.specs.Legal.{Legal}
@@ -33,7 +35,7 @@ use Rattle.layout.specs.declared.Node.{Node}
 use Rattle.layout.proofs.Trees.{AllBodies, leaf-cases, node_holds, by_lower, legal_tree}
 use Rattle.layout.proofs.Tables.{table_legal}
 use Rattle.message.specs.Listing.{entry, list_item_lem, list_fields_lem, list_option}
-use Rattle.message.specs.Leaves.{Item, items_in, leaves_of, item_before, leaf_pieces}
+use Rattle.message.specs.Leaves.{Item, kind_word, items_in, leaves_of, item_before, leaf_pieces}
 use Rattle.message.specs.Check.{message_type, check_message, listed_of, list_message, listed_records}
 use Rattle.message.specs.declared.Counts.{Counts}
 use Rattle.message.proofs.Answers.{pick_right}
@@ -43,13 +45,55 @@ use Rattle.message.proofs.Theorem.{message-read}
 use Rattle.message.proofs.Tiles.{message-tiled}
 use Rattle.std.specs.declared.result.Result.{Result}
 use Rattle.std.specs.declared.result.Result.TheVariants.{Err}
+use Rattle.std.specs.declared.option.Option.TheVariants.{Some, None}
 use Rattle.message.specs.declared.RefusedAt.{RefusedAt}
+
+-- The kind words of leaves are those below 6.
+no_word : {A : Type 0} (k : TypeKind) → None ≡ Some k → A
+no_word k e = cc
+
+kind_above : (w : ℕ) → 9 < w → kind_of w ≡ None
+unfolding kind_of
+kind_above w h =
+    let no : (n : ℕ) → n ≤ 9 → w ≡ n → ⊥ = λ (n : ℕ) (i : n ≤ 9) (e : w ≡ n). omega arith in
+    rw (
+      ne_eqb w 0 (no 0 (omega arith)),
+      ne_eqb w 1 (no 1 (omega arith)),
+      ne_eqb w 2 (no 2 (omega arith)),
+      ne_eqb w 3 (no 3 (omega arith)),
+      ne_eqb w 4 (no 4 (omega arith)),
+      ne_eqb w 5 (no 5 (omega arith)),
+      ne_eqb w 6 (no 6 (omega arith)),
+      ne_eqb w 7 (no 7 (omega arith)),
+      ne_eqb w 8 (no 8 (omega arith)),
+      ne_eqb w 9 (no 9 (omega arith)),
+    )
+
+word_says : (w : ℕ) (k : TypeKind) → kind_of w ≡ Some k → ltb w 6 ≡ is_leaf k
+unfolding kind_of
+word_says zero k e = let q : TypeKind.Number ≡ k = cc in rw (← q)
+word_says (suc zero) k e = let q : TypeKind.Boolean ≡ k = cc in rw (← q)
+word_says (suc (suc zero)) k e = let q : TypeKind.FixedBytes ≡ k = cc in rw (← q)
+word_says (suc (suc (suc zero))) k e = let q : TypeKind.FreeBytes ≡ k = cc in rw (← q)
+word_says (suc (suc (suc (suc zero)))) k e = let q : TypeKind.BitVector ≡ k = cc in rw (← q)
+word_says (suc (suc (suc (suc (suc zero))))) k e = let q : TypeKind.BitList ≡ k = cc in rw (← q)
+word_says (suc (suc (suc (suc (suc (suc zero)))))) k e = let q : TypeKind.Container ≡ k = cc in rw (← q)
+word_says (suc (suc (suc (suc (suc (suc (suc zero))))))) k e = let q : TypeKind.Union ≡ k = cc in rw (← q)
+word_says (suc (suc (suc (suc (suc (suc (suc (suc zero)))))))) k e = let q : TypeKind.List ≡ k = cc in rw (← q)
+word_says (suc (suc (suc (suc (suc (suc (suc (suc (suc zero))))))))) k e = let q : TypeKind.Vector ≡ k = cc in rw (← q)
+word_says (suc (suc (suc (suc (suc (suc (suc (suc (suc (suc w)))))))))) k e = no_word k (sym (kind_above (suc (suc (suc (suc (suc (suc (suc (suc (suc (suc w)))))))))) (omega arith)) ∙ e)
+
+leaf_word : (w : ℕ) (k : TypeKind) → kind_of w ≡ Some k → is_leaf k ≡ true → w < 6
+leaf_word w k e h = ltb-true w 6 (word_says w k e ∙ h)
+
+node_word : (w : ℕ) (k : TypeKind) → kind_of w ≡ Some k → is_leaf k ≡ false → 6 ≤ w
+node_word w k e h = ltb-false w 6 (word_says w k e ∙ h)
 
 -- Leaves of two rows.
 leaves_append : (l : List ℕ) (xs ys : List Item) → leaves_of l (xs ++ ys) ≡ leaves_of l xs ++ leaves_of l ys
 unfolding leaves_of
 leaves_append l [] ys = refl
-leaves_append l (x ∷ xs) ys = go (ltb (node_of l x.type).kind 6) (leaves_append l xs ys)
+leaves_append l (x ∷ xs) ys = go (ltb (kind_word l x.type) 6) (leaves_append l xs ys)
   where
     go : (c : Bool) → leaves_of l (xs ++ ys) ≡ leaves_of l xs ++ leaves_of l ys
         → pick c (x ∷ leaves_of l (xs ++ ys)) (leaves_of l (xs ++ ys)) ≡ pick c (x ∷ leaves_of l xs) (leaves_of l xs) ++ leaves_of l ys
@@ -106,12 +150,12 @@ module _ (t : ℕ) (b : List ℕ) (s : ℕ) (i : t < 2 ^ 32) (j : s + length b <
   reads-entry : {l : List ℕ} {xs : List Item} → leaves_of l (own ∷ []) ≡ xs → Reads l (entry t b s) xs
   reads-entry {l = l} e = record { many = 1; long = length-entry t b s; read = λ rest. ap (leaves_of l) (entry-says rest) ∙ e }
 
-  reads-leaf : {l : List ℕ} → (node_of l t).kind < 6 → Reads l (entry t b s) (own ∷ [])
+  reads-leaf : {l : List ℕ} → kind_word l t < 6 → Reads l (entry t b s) (own ∷ [])
   unfolding leaves_of
   reads-leaf k = reads-entry (rw (lt-ltb _ 6 k))
 
   -- the record of an item that is no leaf, before those of its parts
-  reads_node : {l x : List ℕ} {xs : List Item} → 6 ≤ (node_of l t).kind → Reads l x xs → Reads l (entry t b s ++ x) xs
+  reads_node : {l x : List ℕ} {xs : List Item} → 6 ≤ kind_word l t → Reads l x xs → Reads l (entry t b s ++ x) xs
   unfolding leaves_of
   reads_node k = reads-append (reads-entry {xs = []} (rw (le-ltb _ 6 k)))
 
@@ -193,7 +237,7 @@ module _ (l : List ℕ) where
       rw (ne_eqb (selector os v) j (λ (q : selector os v ≡ j). omega arith)) (option_leaves os f.1 v (j + 1) s r.2 g.1 h n)
 
   -- A type of each kind, by what the table says of its number
-  leaf-agrees : (t : ℕ) (n : Node) → t < 2 ^ 32 → (node_of l t).kind < 6 → Agrees (leaf_of t n)
+  leaf-agrees : (t : ℕ) (n : Node) → t < 2 ^ 32 → kind_word l t < 6 → Agrees (leaf_of t n)
   unfolding Agrees list_item_lem pieces leaf_pieces
   leaf-agrees t n i k =
       leaf-cases t n Agrees
@@ -204,7 +248,7 @@ module _ (l : List ℕ) where
       (λ e v s g h j. reads-leaf t _ s i j k)
       (λ v s g h j. reads-leaf t _ s i j k)
 
-  module _ (t : ℕ) (i : t < 2 ^ 32) (k : 6 ≤ (node_of l t).kind) where
+  module _ (t : ℕ) (i : t < 2 ^ 32) (k : 6 ≤ kind_word l t) where
     container-agrees : (ts : Tys) → All Agrees ts → Agrees (container t ts)
     unfolding Agrees list_item_lem pieces serialize Ok LegalTy
     container-agrees ts f vs s g h j = reads_node t _ s i j k (whole_leaves ts f vs s g.1 h j)
@@ -248,17 +292,17 @@ module _ (l : List ℕ) where
         (elements_leaves e f n vs s g.1 (ok-copies e n vs h.1) (rw q at j)))
 
   tree_agrees : (n : ℕ) → Legal l n → n ≤ 64 → (t : ℕ) → t < n → Agrees (tree_of l t)
-  unfolding Legal
+  unfolding Legal node_of
   tree_agrees n g few =
       by_lower (λ (u : ℕ). Agrees (tree_of l u)) n
       (λ t h f.
       let i : t < 2 ^ 32 = omega arith in
       node_holds Agrees l t f (node_of l t) refl (g t h)
-      (λ k. leaf-agrees t (node_of l t) i k)
-      (λ k. container-agrees t i (omega arith) _)
-      (λ k. union-agrees t i (omega arith) _)
-      (λ k. list-agrees t i (omega arith) _ _)
-      (λ k. vector-agrees t i (omega arith) _ _))
+      (λ k. leaf-agrees t (node_of l t) i (leaf_word _ _ (g t h).known k))
+      (λ k. container-agrees t i (node_word _ _ (g t h).known (rw k)) _)
+      (λ k. union-agrees t i (node_word _ _ (g t h).known (rw k)) _)
+      (λ k. list-agrees t i (node_word _ _ (g t h).known (rw k)) _ _)
+      (λ k. vector-agrees t i (node_word _ _ (g t h).known (rw k)) _ _))
 
 -- An item: the listing of a value's encoding, of a type of a legal table, at any start.
 module _ (l : List ℕ) (n : ℕ) (h : Bytes l) (e : table_of l ≡ Result.Ok n) (t : ℕ) (i : t < n) (v : Val (tree_of l t)) (o : Ok (tree_of l t) v)

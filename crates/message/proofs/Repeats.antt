@@ -4,7 +4,7 @@
 --     vector-read      and so is a vector
 use mathlib.Core.Path.{◌≡◌, refl, ap, ◌∙◌}
 use mathlib.Core.List.{List, ◌∷◌, ◌++◌}
-use Prim.Native.Nat.{ℕ, zero, suc, ◌+◌, ◌*◌, ◌≤◌, ◌<◌, ◌^◌}
+use Prim.Native.Nat.{ℕ, zero, suc, ◌+◌, ◌*◌, ◌<◌, ◌^◌}
 use native.Mathlib.Nat.{add-zero}
 use native.Mathlib.Omega.{arith}
 use lib.ListN.{get_or, replicate}
@@ -28,6 +28,9 @@ use Rattle.std.specs.declared.result.Result.{Result}
 use Rattle.std.specs.declared.result.Result.TheVariants.{Ok, Err}
 use Rattle.message.specs.declared.RefusedAt.{RefusedAt}
 use Rattle.message.specs.declared.Counts.{Counts}
+use Rattle.layout.specs.declared.Kind.{Kind}
+use Rattle.layout.specs.Kinds.{has_element}
+use mathlib.Core.Bool.{true}
 
 -- Fields that share the word at, which names the type e
 shared-row : (l : List ℕ) (t at n : ℕ) (e : Ty) → get_or (trees l t) (word_at l at) (boolean 0) ≡ e → row_of l t at 0 n ≡ copies e n
@@ -52,10 +55,15 @@ elements_same : (d : Result ℕ Refusal) (t s : ℕ) (x y : ℕ → Result Count
 elements_same (Err r) t s x y f = refl
 elements_same (Ok m) t s x y f = f m
 
-module _ (lens l : List ℕ) (t : ℕ) (n : Node) (e : n ≡ node_of l t) (g : Under lens l (t + 1)) (k : 8 ≤ n.kind) where
+module _ (lens l : List ℕ) (t : ℕ) (n : Node) (e : n ≡ node_of l t) (g : Under lens l (t + 1)) (k : has_element n.kind ≡ true) where
   -- what is not a vector is a list
-  pub else_list : (n.kind ≡ 9 → ⊥) → n.kind ≡ 8
-  else_list z = omega (arith, z, (node_legal lens l t n e g).known)
+  pub else_list : (n.kind ≡ Kind.Vector → ⊥) → n.kind ≡ Kind.List
+  else_list z = go n.kind k z
+    where
+      go : (i : Kind) → has_element i ≡ true → (i ≡ Kind.Vector → ⊥) → i ≡ Kind.List
+      go Kind.List h z = refl
+      go Kind.Vector h z = absurd (z refl)
+      go i h z = absurd (cc)
 
   pub element-below : n.second < t
   element-below = (node_legal lens l t n e g).element k
@@ -102,7 +110,7 @@ module _ (lens l : List ℕ) (t : ℕ) (n : Node) (e : n ≡ node_of l t) (g : U
       }
 
   -- A list.
-  module _ (q : n.kind ≡ 8) where
+  module _ (q : n.kind ≡ Kind.List) where
     list_tree : tree_of l t ≡ list t element_type (word_at l (n.at + 2))
     list_tree = as_list_lem l t n e q element-below
 
@@ -132,7 +140,7 @@ module _ (lens l : List ℕ) (t : ℕ) (n : Node) (e : n ≡ node_of l t) (g : U
     list-bytes b = rw (list_tree, element-copies (counted b)) (bytes-copies element_type (counted b) b 0)
 
   -- A vector.
-  module _ (q : n.kind ≡ 9) where
+  module _ (q : n.kind ≡ Kind.Vector) where
     vector_tree : tree_of l t ≡ vector t element_type (word_at l (n.at + 2))
     vector_tree = as_vector l t n e q element-below
 

@@ -30,6 +30,7 @@ use Rattle.message.specs.Steps.{Under, Row, Named, row_of, heads_of}
 use Rattle.std.specs.declared.result.Result.{Result}
 use Rattle.std.specs.declared.result.Result.TheVariants.{Ok, Err}
 use Rattle.std.specs.declared.option.Option.TheVariants.{None}
+use Rattle.layout.specs.declared.Kind.{Kind}
 
 -- The lengths that the table check found.
 pub under_table : (lens l : List ℕ) (k : ℕ) → Known lens l k → Under lens l k
@@ -96,7 +97,7 @@ unfolding row_of fields
 container-fields l t a zero = refl
 container-fields l t a (suc n) = ap (field (get_or (trees l t) (word_at l a) (boolean 0))) (container-fields l t (a + 1) n)
 
-pub container_tree : (l : List ℕ) (t : ℕ) (n : Node) → n ≡ node_of l t → n.kind ≡ 6 → tree_of l t ≡ container t (row_of l t (n.at + 2) 1 n.second)
+pub container_tree : (l : List ℕ) (t : ℕ) (n : Node) → n ≡ node_of l t → n.kind ≡ Kind.Container → tree_of l t ≡ container t (row_of l t (n.at + 2) 1 n.second)
 container_tree l t n e k = rw (container-fields l t (n.at + 2) n.second) (as_container l t n e k)
 
 pub container-named : (l : List ℕ) (t a n : ℕ) → a + n ≤ count l → Lower l t a n → Named l t a 1 n

@@ -1,12 +1,11 @@
 -- The fields or elements of an accepted item: of a leaf none, of a container its fields, of a list or vector its elements. Assumes nothing.
 use mathlib.Core.Path.{◌≡◌, refl, sym, ◌∙◌}
-use mathlib.Core.List.{List, [], ◌++◌, append-nil}
-use mathlib.Core.Bool.{Bool, true, false}
-use Prim.Native.Nat.{ℕ, ◌+◌, ◌≤◌, ◌<◌, ◌^◌}
+use mathlib.Core.List.{List, ◌∷◌, [], ◌++◌, append-nil}
+use mathlib.Core.Bool.{true, false}
+use Prim.Native.Nat.{ℕ, ◌+◌, ◌<◌, ◌^◌}
 use native.Mathlib.Omega.{arith}
-use borrow.Author.Tests.{eqb-true, eqb-false, eq-eqb, ne_eqb}
+use borrow.Author.Tests.{ne_eqb}
 use lib.ListN.{length, get_or}
-use lib.Dec.{eqb}
 use Rattle.standard.specs.Choice.{pick}
 use Rattle.standard.specs.Bytes.{word_at}
 use Rattle.standard.specs.Types.{head, heads}
@@ -17,22 +16,30 @@ use Rattle.layout.specs.declared.Node.{Node}
 use Rattle.message.specs.Read.{elements, many_of, read_item}
 use Rattle.message.specs.Listing.{list_item_lem}
 use Rattle.message.specs.Unfold.{unfold_words, words_fields, unfold_bytes, bytes_fields}
-use Rattle.message.specs.Steps.{Under, Named, row_of, many_in_lem, IsAccepted}
+use Rattle.message.specs.Steps.{Under, Named, row_of, many_in_lem, IsAccepted, is_list, is_vector}
 use Rattle.message.specs.Series.{MadeOf, count_word}
 use Rattle.message.specs.declared.parts.Series.{Series}
 use Rattle.message.proofs.Rows.{node_legal, under-below, container_tree}
 use Rattle.message.proofs.Bodies.{container-row}
 use Rattle.message.proofs.Entries.{accepted-start, container-accepted, list-container, list-leaf}
-use Rattle.message.proofs.Repeats.{else_list, element-head, element-copies, list-words, vector-words}
+use Rattle.message.proofs.Repeats.{element-head, element-copies, list-words, vector-words}
 use Rattle.message.proofs.Copies.{laid-fixed}
 use Rattle.message.proofs.Fixed.{fixed-each}
 use Rattle.message.proofs.Manys.{many-held, many-ranges, many-few, many-row}
+use Rattle.layout.specs.declared.Kind.{Kind}
+use Rattle.layout.specs.Kinds.{is_leaf, has_element}
+
+no_leaf : {A : Type 0} → true ≡ false → A
+no_leaf e = cc
+
+no_container : Kind.Container ≡ Kind.List → ⊥
+no_container e = cc
 
 module _ (lens l : List ℕ) (t : ℕ) (n : Node) (e : n ≡ node_of l t) (g : Under lens l (t + 1)) (b : List ℕ) (h : IsAccepted (read_item (tree_of l t) b 0)) where
   accepted-at : (s : ℕ) → IsAccepted (read_item (tree_of l t) b s)
   accepted-at s = accepted-start (tree_of l t) b 0 s h
 
-  pub no-items-made : n.kind < 6 → (r : Series) → r ≡ record { first = 0; step = 0; many = 0 } → MadeOf lens l t n b r
+  pub no-items-made : is_leaf n.kind ≡ true → (r : Series) → r ≡ record { first = 0; step = 0; many = 0 } → MadeOf lens l t n b r
   unfolding row_of heads InRange Named read_item list_item_lem
   no-items-made k r q =
       rw q (record {
@@ -41,12 +48,12 @@ module _ (lens l : List ℕ) (t : ℕ) (n : Node) (e : n ≡ node_of l t) (g : U
         ranges = omega arith;
         accepted = λ s. tt;
         listed = λ s. rw (list-leaf l t n e b s k, append-nil);
-        words = λ (z : 6 ≤ n.kind). absurd (omega arith);
-        bytes = λ (z : 6 ≤ n.kind). absurd (omega arith);
-        copied = λ (z : n.kind ≡ 8) v. absurd (omega arith);
+        words = λ (z : is_leaf n.kind ≡ false). no_leaf (sym k ∙ z);
+        bytes = λ (z : is_leaf n.kind ≡ false). no_leaf (sym k ∙ z);
+        copied = λ (z : n.kind ≡ Kind.List) v. no_leaf (sym k ∙ rw z);
       })
 
-  module _ (k : n.kind ≡ 6) where
+  module _ (k : n.kind ≡ Kind.Container) where
     container-words : unfold_words (tree_of l t) b ≡ words_fields (row_of l t (n.at + 2) 1 n.second) b 0
     unfolding unfold_words
     container-words = rw (container_tree l t n e k)
@@ -63,26 +70,24 @@ module _ (lens l : List ℕ) (t : ℕ) (n : Node) (e : n ≡ node_of l t) (g : U
           ranges = (container-accepted lens l t n e g b 0 h k).0;
           accepted = λ s. (container-accepted lens l t n e g b s (accepted-at s) k).1;
           listed = λ s. list-container l t n e b s k;
-          words = λ (z : 6 ≤ n.kind). rw (ne_eqb n.kind 8 (λ (v : n.kind ≡ 8). omega arith)) container-words;
-          bytes = λ (z : 6 ≤ n.kind). container-bytes;
-          copied = λ (z : n.kind ≡ 8) v. absurd (omega arith);
+          words = λ (z : is_leaf n.kind ≡ false). rw k container-words;
+          bytes = λ (z : is_leaf n.kind ≡ false). container-bytes;
+          copied = λ (z : n.kind ≡ Kind.List) v. absurd (no_container (sym k ∙ z));
         }
 
-  module _ (k : 8 ≤ n.kind) (m : ℕ) (c : m ≡ many_in_lem l n (head (tree_of l n.second)) b) where
+  module _ (k : has_element n.kind ≡ true) (m : ℕ) (c : m ≡ many_in_lem l n (head (tree_of l n.second)) b) where
     elements-words : unfold_words (tree_of l t) b ≡ count_word n m ++ words_fields (row_of l t (n.at + 1) 0 m) b 0
-    elements-words = rw c (go (eqb n.kind 9) refl)
+    elements-words = rw c (go n.kind refl k)
       where
         -- as many as the table says, or as the list says
-        said : Bool → ℕ
-        said d = pick d (word_at l (n.at + 2)) (many_of (elements (head (tree_of l n.second)) (word_at l (n.at + 2)) b))
+        said : Kind → ℕ
+        said i = pick (is_vector i) (word_at l (n.at + 2)) (many_of (elements (head (tree_of l n.second)) (word_at l (n.at + 2)) b))
 
-        go : (d : Bool) → eqb n.kind 9 ≡ d → unfold_words (tree_of l t) b ≡ count_word n (said d) ++ words_fields (row_of l t (n.at + 1) 0 (said d)) b 0
-        go true q =
-            let i : n.kind ≡ 9 = eqb-true n.kind 9 q in
-            rw (ne_eqb n.kind 8 (λ (v : n.kind ≡ 8). omega arith)) (vector-words lens l t n e g k i b)
-        go false q =
-            let i = else_list lens l t n e g k (eqb-false n.kind 9 q) in
-            rw (eq-eqb n.kind 8 i) (list-words lens l t n e g k i b)
+        go : (i : Kind) → n.kind ≡ i → has_element i ≡ true →
+            unfold_words (tree_of l t) b ≡ pick (is_list i) (said i ∷ []) [] ++ words_fields (row_of l t (n.at + 1) 0 (said i)) b 0
+        go Kind.Vector q j = vector-words lens l t n e g k q b
+        go Kind.List q j = list-words lens l t n e g k q b
+        go i q j = absurd (cc)
 
     -- elements of fixed size are the bytes of all
     elements-copied : 0 < get_or lens n.second 0 → (words_fields (row_of l t (n.at + 1) 0 m) b 0 ≡ []) × (bytes_fields (row_of l t (n.at + 1) 0 m) b 0 ≡ b)
@@ -101,7 +106,7 @@ module _ (lens l : List ℕ) (t : ℕ) (n : Node) (e : n ≡ node_of l t) (g : U
           ranges = rw c (many-ranges lens l t n e g k b 0 h);
           accepted = λ s. rw c (many-held lens l t n e g k b s (accepted-at s)).accepted;
           listed = λ s. rw c (many-held lens l t n e g k b s (accepted-at s)).listed;
-          words = λ (v : 6 ≤ n.kind). elements-words;
-          bytes = λ (v : 6 ≤ n.kind). rw c (many-held lens l t n e g k b 0 h).bytes;
-          copied = λ (v : n.kind ≡ 8) i. elements-copied i;
+          words = λ (v : is_leaf n.kind ≡ false). elements-words;
+          bytes = λ (v : is_leaf n.kind ≡ false). rw c (many-held lens l t n e g k b 0 h).bytes;
+          copied = λ (v : n.kind ≡ Kind.List) i. elements-copied i;
         }

@@ -1,9 +1,8 @@
 -- The value form of a leaf: bytes copied one by one, and bits without their mark. Assumes nothing.
 use mathlib.Core.Path.{◌≡◌, refl, sym, ap, ◌∙◌}
 use mathlib.Core.List.{List, [], ◌∷◌, ◌++◌}
-use Prim.Native.Nat.{ℕ, zero, suc, ◌+◌, ◌-◌, ◌*◌, ◌/◌, ◌%◌, ◌≤◌, ◌<◌, ◌^◌, max}
+use Prim.Native.Nat.{ℕ, suc, ◌+◌, ◌-◌, ◌*◌, ◌/◌, ◌%◌, ◌≤◌, ◌<◌, ◌^◌, max}
 use native.Mathlib.Omega.{arith}
-use borrow.Author.Tests.{ne_eqb}
 use lib.ListN.{length, get_or, take, drop, set, length-append, length-take, take-append-drop}
 use lib.Seq.{length-sets, drop-cons, drop-length}
 use lib.Pow.{pow-add}
@@ -19,12 +18,13 @@ use Rattle.bitfield.specs.Body.{bit_list_body}
 use Rattle.bitfield.proofs.Bodies.{cut_below, below-cut}
 use Rattle.bitfield.proofs.Standard.{list-sound}
 use Rattle.bitfield.proofs.Tops.{byte_at}
-use Rattle.layout.specs.Tree.{leaf_of}
+use Rattle.layout.specs.Tree.{leaf_with, leaf_of}
 use Rattle.layout.specs.declared.Node.{Node}
 use Rattle.message.specs.Read.{raw_bytes_lem, read_item}
 use Rattle.message.specs.Unfold.{raw_of, unfold_words, unfold_bytes, Accepts, Rooms, Filled, MarkedAt}
 use Rattle.message.specs.declared.unfolding.Place.{Place}
 use Rattle.std.specs.declared.result.Result.TheVariants.{Ok, Err}
+use Rattle.layout.specs.declared.Kind.{Kind}
 
 pub stored-length : (o : List ℕ) (at : ℕ) (x : List ℕ) (r : ℕ) (o' : List ℕ) → Stored o at x r o' → length o' ≡ length o
 stored-length o at x r o' g = ap length g.list ∙ length-sets o at x
@@ -156,38 +156,25 @@ marked-at b limit k h e =
     )
 
 -- The leaves, by their kind
-pub leaf_free : (t : ℕ) (n : Node) → n.kind ≡ 3 → leaf_of t n ≡ free_bytes t n.second
+pub leaf_free : (t : ℕ) (n : Node) → n.kind ≡ Kind.FreeBytes → leaf_of t n ≡ free_bytes t n.second
 unfolding leaf_of
 leaf_free t n e = rw e
 
-pub leaf-bits : (t : ℕ) (n : Node) → 5 ≤ n.kind → leaf_of t n ≡ bit_list t n.second
-unfolding leaf_of
-leaf-bits t n h =
-    let no : (i : ℕ) → i < 5 → n.kind ≡ i → ⊥ = λ (i : ℕ) (k : i < 5) (e : n.kind ≡ i). omega arith in
-    rw (
-      ne_eqb _ 0 (no 0 (omega arith)),
-      ne_eqb _ 1 (no 1 (omega arith)),
-      ne_eqb _ 2 (no 2 (omega arith)),
-      ne_eqb _ 3 (no 3 (omega arith)),
-      ne_eqb _
-          4 (no 4 (omega arith)),
-    )
-
 -- what is of variable size and no free bytes
-pub variable_bits : (t : ℕ) (n : Node) → head (leaf_of t n) ≡ Variable → (n.kind ≡ 3 → ⊥) → 5 ≤ n.kind
+pub variable_bits : (t : ℕ) (n : Node) → head (leaf_of t n) ≡ Variable → (n.kind ≡ Kind.FreeBytes → ⊥) → leaf_of t n ≡ bit_list t n.second
 unfolding leaf_of head
 variable_bits t n h f = go n.kind h f
   where
-    no : (k : ℕ) → Fixed k ≡ Variable → ⊥
-    no k e = let z : ◌≡◌ {A = ℕ} 0 1 = cc in omega arith
+    no : {A : Type 0} (k : ℕ) → Fixed k ≡ Variable → A
+    no k e = cc
 
-    go : (i : ℕ) → head (leaf_of t (record { kind = i; at = n.at; second = n.second })) ≡ Variable → (i ≡ 3 → ⊥) → 5 ≤ i
-    go zero h f = absurd (no _ h)
-    go (suc zero) h f = absurd (no _ h)
-    go (suc (suc zero)) h f = absurd (no _ h)
-    go (suc (suc (suc zero))) h f = absurd (f refl)
-    go (suc (suc (suc (suc zero)))) h f = absurd (no _ h)
-    go (suc (suc (suc (suc (suc i))))) h f = omega arith
+    go : (i : Kind) → head (leaf_with i t n.second) ≡ Variable → (i ≡ Kind.FreeBytes → ⊥) → leaf_with i t n.second ≡ bit_list t n.second
+    go Kind.Number h f = no _ h
+    go Kind.Boolean h f = no _ h
+    go Kind.FixedBytes h f = no _ h
+    go Kind.FreeBytes h f = absurd (f refl)
+    go Kind.BitVector h f = no _ h
+    go i h f = refl
 
 -- A body that is refused is not accepted.
 pub bits_refused : (t limit : ℕ) (b : List ℕ) (r : Refusal) → Err r ≡ bit_list_body b limit → Accepts (bit_list t limit) b → ⊥
@@ -204,7 +191,7 @@ module _ (x y b : List ℕ) (e : (x ≡ []) × (y ≡ b)) (o p : List ℕ) (at :
 
 -- A leaf's room and what is stored there, by its kind
 module _ (t : ℕ) (n : Node) (b o p : List ℕ) (at : Place) where
-  module _ (k : n.kind ≡ 3) where
+  module _ (k : n.kind ≡ Kind.FreeBytes) where
     pub free_rooms : Rooms o p at (unfold_words (leaf_of t n) b) (unfold_bytes (leaf_of t n) b) → Rooms o p at (length b ∷ []) b
     unfolding unfold_words unfold_bytes
     free_rooms g = rw (leaf_free t n k) at g
@@ -214,16 +201,16 @@ module _ (t : ℕ) (n : Node) (b o p : List ℕ) (at : Place) where
     unfolding unfold_words unfold_bytes
     free_filled r o' p' g = rw (leaf_free t n k) g
 
-  module _ (k : 5 ≤ n.kind) (c : ℕ) (e : Ok c ≡ bit_list_body b n.second) where
+  module _ (k : leaf_of t n ≡ bit_list t n.second) (c : ℕ) (e : Ok c ≡ bit_list_body b n.second) where
     pub bits-rooms : Rooms o p at (unfold_words (leaf_of t n) b) (unfold_bytes (leaf_of t n) b) → Rooms o p at (c ∷ []) (raw_of b c)
     unfolding unfold_words unfold_bytes
-    bits-rooms g = rw (leaf-bits t n k, ← e) at g
+    bits-rooms g = rw (k, ← e) at g
 
     pub bits-filled : (r : Place) (o' p' : List ℕ) → Filled o p at (c ∷ []) (raw_of b c) r o' p' →
         Filled o p at (unfold_words (leaf_of t n) b) (unfold_bytes (leaf_of t n) b) r o' p'
     unfolding unfold_words unfold_bytes
-    bits-filled r o' p' g = rw (leaf-bits t n k, ← e) g
+    bits-filled r o' p' g = rw (k, ← e) g
 
-pub bits-never : {A : Type 0} (t : ℕ) (n : Node) (b : List ℕ) → 5 ≤ n.kind → (r : Refusal) → Err r ≡ bit_list_body b n.second →
+pub bits-never : {A : Type 0} (t : ℕ) (n : Node) (b : List ℕ) → leaf_of t n ≡ bit_list t n.second → (r : Refusal) → Err r ≡ bit_list_body b n.second →
     Accepts (leaf_of t n) b → A
-bits-never t n b k r e g = absurd (bits_refused t n.second b r e (rw (leaf-bits t n k) at g))
+bits-never t n b k r e g = absurd (bits_refused t n.second b r e (rw k at g))

@@ -5,10 +5,10 @@ use mathlib.Core.Bool.{Bool, true, false}
 use Prim.Native.Nat.{ℕ, zero, suc, ◌+◌, ◌-◌, ◌≤◌, ◌<◌}
 use native.Mathlib.Nat.{add-zero}
 use native.Mathlib.Omega.{arith}
-use borrow.Author.Tests.{eqb-true, eqb-false, ltb-true, eq-eqb, ne_eqb}
+use borrow.Author.Tests.{eqb-true, eqb-false, eq-eqb, ne_eqb}
 use lib.ListN.{length, get_or, take, drop, length-take, length-drop}
 use lib.Seq.{take_all}
-use lib.Dec.{eqb, ltb}
+use lib.Dec.{eqb}
 use Rattle.standard.specs.Choice.{pick}
 use Rattle.standard.specs.Bytes.{word_at, Stored, Room}
 use Rattle.standard.specs.Types.{Ty, Opts, boolean, union, bare, body, head, heads}
@@ -29,7 +29,7 @@ use Rattle.message.specs.Unfolding.{Filling}
 use Rattle.message.specs.declared.parts.Series.{Series}
 use Rattle.message.specs.declared.unfolding.Place.{Place}
 use Rattle.message.specs.declared.unfolding.Opened.{Opened}
-use Rattle.message.proofs.Answers.{pick-left, then_both}
+use Rattle.message.proofs.Answers.{then_both}
 use Rattle.message.proofs.Rows.{Lies, under-below, under-head, row-none, row_first, row_next, row-fixed, first_fits, span_ok, span_lies}
 use Rattle.message.proofs.Bodies.{fields_read, bare-says, body-says, body_below}
 use Rattle.message.proofs.Entries.{accepted-start, union-never, body-accepted}
@@ -38,6 +38,8 @@ use Rattle.message.proofs.Fixed.{fixed-form, fixed-long}
 use Rattle.message.proofs.UnfoldLeaves.{bytes-room, bytes-filled}
 use Rattle.std.specs.declared.result.Result.TheVariants.{Ok, Err}
 use Rattle.std.specs.declared.option.Option.TheVariants.{Some, None}
+use Rattle.layout.specs.declared.Kind.{Kind}
+use Rattle.layout.specs.Kinds.{is_leaf}
 
 -- An item that is accepted where it starts
 pub accepts_at : (t : Ty) (b : List ℕ) (s : ℕ) → IsAccepted (read_item t b s) → Accepts t b
@@ -251,16 +253,11 @@ module _ (lens l : List ℕ) (t : ℕ) (g : Under lens l (t + 1)) where
       })
 
 -- A list of elements of fixed size
-pub list-below : (lens l : List ℕ) (t : ℕ) (n : Node) → n ≡ node_of l t → Under lens l (t + 1) → n.kind ≡ 8 → n.second < 64
-list-below lens l t n e g k = omega (arith, element-below lens l t n e g (omega arith), g.few)
-
-pub fixed-list : (i k : ℕ) (c : Bool) → c ≡ pick (eqb i 8) (ltb 0 k) false → c ≡ true → (i ≡ 8) × (0 < k)
-fixed-list i k c e h =
-    let q = pick-left (eqb i 8) (ltb 0 k) false true (λ r. let z : ◌≡◌ {A = ℕ} 0 1 = cc in omega arith) (sym e ∙ h) in
-    (eqb-true _ _ q.0, ltb-true _ _ q.1)
+pub list-below : (lens l : List ℕ) (t : ℕ) (n : Node) → n ≡ node_of l t → Under lens l (t + 1) → n.kind ≡ Kind.List → n.second < 64
+list-below lens l t n e g k = omega (arith, element-below lens l t n e g (rw k), g.few)
 
 -- An item that is made of fields or elements: a list's count, then theirs.
-module _ {lens l : List ℕ} {t : ℕ} {n : Node} {b : List ℕ} {r : Series} (g : MadeOf lens l t n b r) (k : 6 ≤ n.kind) {o p : List ℕ} {at : Place}
+module _ {lens l : List ℕ} {t : ℕ} {n : Node} {b : List ℕ} {r : Series} (g : MadeOf lens l t n b r) (k : is_leaf n.kind ≡ false) {o p : List ℕ} {at : Place}
     (h : Rooms o p at (unfold_words (tree_of l t) b) (unfold_bytes (tree_of l t) b)) where
   pub count_room : Room o at.word (count_word n r.many)
   count_room = room-first o at.word _ (count_word n r.many) _ h.words (g.words k)
@@ -290,7 +287,7 @@ union-some t os [] g = absurd g.accepted
 union-some t os (x ∷ b) g = omega arith
 
 module _ (lens l : List ℕ) (t : ℕ) (n : Node) (e : n ≡ node_of l t) (g : Under lens l (t + 1)) (b : List ℕ) (h : Accepts (tree_of l t) b) where
-  module _ (c : n.kind < 6) where
+  module _ (c : is_leaf n.kind ≡ true) where
     pub leaf_variable : get_or lens t 0 ≡ 0 → head (leaf_of t n) ≡ Variable
     leaf_variable z = rw (as_leaf l t n e c) at (len_variable lens l t g z)
 
@@ -306,7 +303,7 @@ module _ (lens l : List ℕ) (t : ℕ) (n : Node) (e : n ≡ node_of l t) (g : U
         → Filled o p at (unfold_words (tree_of l t) b) (unfold_bytes (tree_of l t) b) r o' p'
     leaf-filled o p at r o' p' q = rw (as_leaf l t n e c) q
 
-  module _ (k : n.kind ≡ 7) where
+  module _ (k : n.kind ≡ Kind.Union) where
     pub union-room : (o p : List ℕ) (at : Place) → Rooms o p at (unfold_words (tree_of l t) b) (unfold_bytes (tree_of l t) b) → at.word < length o
     unfolding unfold_words
     union-room o p at r = let q = rw (as_union l t n e k) at r.words in omega (arith, q.room)

@@ -1,5 +1,5 @@
 -- What the steps of reading ask and give, one to another. Assumes nothing: these are definitions.
-use Rattle.std.specs.Prelude.{ℕ, zero, suc, ◌+◌, ◌-◌, ◌≤◌, ◌<◌, ◌^◌, ◌≡◌, List, [], ◌∷◌, Bool, true, length, get_or, eqb, ltb}
+use Rattle.std.specs.Prelude.{ℕ, zero, suc, ◌+◌, ◌-◌, ◌≤◌, ◌<◌, ◌^◌, ◌≡◌, List, Bool, true, false, length, get_or, eqb, ltb}
 use Rattle.standard.specs.Choice.{pick}
 use Rattle.standard.specs.Bytes.{word_at}
 use Rattle.standard.specs.Types.{Tys, boolean, end, field, head, heads, portion}
@@ -11,6 +11,7 @@ use Rattle.decode.specs.declared.builder.Progress.{Progress}
 use Rattle.decode.specs.declared.union_selector.UnionSelector.{UnionSelector}
 use Rattle.layout.specs.Tree.{tree_of, trees, len_of}
 use Rattle.layout.specs.Table.{count}
+use Rattle.layout.specs.declared.Kind.{Kind}
 use Rattle.layout.specs.declared.Node.{Node}
 use Rattle.layout.specs.Legal.{Legal}
 use Rattle.message.specs.Read.{elements, many_of, one, and_then, read_item, read_fields}
@@ -76,13 +77,18 @@ Found lens l t b (Ok (Inside.Fields at step n own)) =
     Row lens l t at step n × InRange (heads_of l t at step n) b 0 0 × (own ≤ 1) ×
     ((s : ℕ) → and_then (one own 0) (read_fields (row_of l t at step n) b 0 s) ≡ read_item (tree_of l t) b s)
 
+-- Kind 8, and kind 9
+abbrev pub is_list : Kind → Bool
+is_list Kind.List = true
+is_list k = false
+
+abbrev pub is_vector : Kind → Bool
+is_vector Kind.Vector = true
+is_vector k = false
+
 -- How many elements with this head a list or vector b has, of which the table says n
 abbrev pub many_in_lem : List ℕ → Node → Head → List ℕ → ℕ
-many_in_lem l n h b = pick (eqb n.kind 9) (word_at l (n.at + 2)) (many_of (elements h (word_at l (n.at + 2)) b))
-
--- The contents words that stand before m elements: a list's count; a vector has none
-abbrev pub count_of : Node → ℕ → List ℕ
-count_of n m = pick (eqb n.kind 9) [] (m ∷ [])
+many_in_lem l n h b = pick (is_vector n.kind) (word_at l (n.at + 2)) (many_of (elements h (word_at l (n.at + 2)) b))
 
 -- Registration in plain numbers: an offset is known if there is a first one, and 2^64 - 1 stands for no first one.
 abbrev pub known_if : ℕ → ℕ → Option ℕ
@@ -107,8 +113,10 @@ unfoldable pub choose : List ℕ → ℕ → ℕ → List ℕ → Result (Option
 choose l a n b = choice_of (split_union b) l a n (length b)
 
 -- Kind 0 is a number, kind 2 fixed bytes: "wrong length is 1", and no other rule
-unfoldable pub is_plain : ℕ → Bool
-is_plain kind = pick (eqb kind 0) true (eqb kind 2)
+unfoldable pub is_plain : Kind → Bool
+is_plain Kind.Number = true
+is_plain Kind.FixedBytes = true
+is_plain k = false
 
 -- Counts that add up without loss
 pub record Small (c : Counts) (k : ℕ) : Type 0 where

@@ -1,13 +1,14 @@
 // The elements of a list or vector: how many there are, and whether their offsets are in order.
-ghost use Rattle.std.specs.Prelude.{◌≡◌, ℕ, ◌+◌, ◌*◌, ◌/◌, ◌≤◌, ◌<◌, ◌^◌, length};
+ghost use Rattle.std.specs.Prelude.{◌≡◌, ℕ, ◌+◌, ◌*◌, ◌/◌, ◌≤◌, ◌<◌, ◌^◌, length, true};
 ghost use Rattle.standard.specs.Types.{head};
+ghost use Rattle.layout.specs.Kinds.{has_element};
 ghost use Rattle.layout.specs.Tree.{node_of, tree_of, head_of};
 ghost use Rattle.message.specs.Read.{within, further, behind_first_lem, offset_elements_lem, elements, vector_told_lem, read_item};
 ghost use Rattle.std.specs.declared.result.Result.TheVariants.{Ok};
 ghost use Rattle.message.specs.Steps.{Under, IsAccepted, many_in_lem};
 
 use crate::words::{four_in, word_in};
-use layout::Node;
+use layout::{Kind, Node};
 use standard::Refusal;
 
 // So many elements, where the limit lets them be.
@@ -114,14 +115,13 @@ pub(crate) fn count_of(k: usize, b: &[u8]) -> usize
 
 // How many elements a list or vector of the type t has that was accepted, whose words are n.
 pub(crate) fn many_in(lens: &[u32; 64], layout: &[u8], n: Node, t: usize, b: &[u8]) -> usize
-    requires { Under lens.now layout.now (t + 1) × (n ≡ node_of layout.now t) × (8 ≤ n.kind) × IsAccepted (read_item (tree_of layout.now t) b.now 0) }
+    requires { Under lens.now layout.now (t + 1) × (n ≡ node_of layout.now t) × (has_element n.kind ≡ true) × IsAccepted (read_item (tree_of layout.now t) b.now 0) }
     ensures { result ≡ many_in_lem layout.now n (head (tree_of layout.now n.second)) b.now }
 {
-    if n.kind == 9 {
-        return word_in(layout, n.at + 2);
+    match n.kind {
+        Kind::Vector => word_in(layout, n.at + 2),
+        _ => count_of(lens[n.second] as usize, b),
     }
-    let e = n.second;
-    count_of(lens[e] as usize, b)
 }
 
 // What is found of a vector of n elements of the fixed length k: only its length is asked.

@@ -1,10 +1,12 @@
 // The items of a message: leaves, unions, containers with their fields, and lists and vectors with their elements.
-ghost use Rattle.std.specs.Prelude.{◌≡◌, ℕ, ◌+◌, ◌≤◌, ◌<◌, ◌^◌, length, eqb, leb};
-ghost use Rattle.standard.specs.Choice.{pick, and_also};
+ghost use Rattle.std.specs.Prelude.{◌≡◌, ℕ, ◌+◌, ◌≤◌, ◌<◌, ◌^◌, length, true, false};
+ghost use Rattle.standard.specs.Choice.{pick};
 ghost use Rattle.standard.specs.Types.{boolean, free_bytes, bit_vector, bit_list};
 ghost use Rattle.standard.specs.Parts.{InRange};
 ghost use Rattle.layout.specs.Tree.{node_of, leaf_of, tree_of};
 ghost use Rattle.layout.specs.Legal.{Legal};
+ghost use Rattle.layout.specs.Kinds.{is_leaf, has_element};
+ghost use Rattle.layout.specs.declared.Kind.{Kind};
 ghost use Rattle.message.specs.Read.{located, raw_bytes_lem, one, plus, and_then, read_exact, read_item, read_fields};
 ghost use Rattle.message.specs.declared.Counts.{Counts};
 ghost use Rattle.std.specs.declared.result.Result.TheVariants.{Ok};
@@ -13,12 +15,12 @@ ghost use Rattle.message.specs.Steps.{Under, Row, row_of, heads_of, Found, place
 
 use crate::elements::elements_of;
 use crate::fields::{container_told, locate, vector_told};
-use crate::words::{look_in, word_in};
+use crate::words::{is_leaf, look_in, word_in};
 use crate::{Counts, RefusedAt, Sizes};
 use bitfield::body::{bitlist_body, bitvector_body};
 use decode::split_union_bytes;
 use decode::union_selector::UnionSelector;
-use layout::{NO_BODY, Node};
+use layout::{Kind, NO_BODY, Node};
 use standard::Refusal;
 use standard::words::word_at;
 
@@ -135,24 +137,14 @@ fn list_check(limit: usize, b: &[u8]) -> Result<Sizes, Refusal>
 fn leaf_check(n: Node, b: &[u8]) -> Result<Sizes, Refusal>
     ensures { (t s : ℕ) → placed result t s ≡ read_item (leaf_of t n) b.now s }
 {
-    let kind = n.kind;
-    let second = n.second;
-    if kind == 0 {
-        return exact_check(second, b);
+    match n.kind {
+        Kind::Number => exact_check(n.second, b),
+        Kind::Boolean => boolean_check(b),
+        Kind::FixedBytes => exact_check(n.second, b),
+        Kind::FreeBytes => free_check(n.second, b),
+        Kind::BitVector => vector_check(n.second, b),
+        _ => list_check(n.second, b),
     }
-    if kind == 1 {
-        return boolean_check(b);
-    }
-    if kind == 2 {
-        return exact_check(second, b);
-    }
-    if kind == 3 {
-        return free_check(second, b);
-    }
-    if kind == 4 {
-        return vector_check(second, b);
-    }
-    list_check(second, b)
 }
 
 // The option whose word is w, the type of its body: without body it is its selector byte alone.
@@ -246,23 +238,20 @@ fn with_selector(r: Result<Counts, RefusedAt>) -> Result<Counts, RefusedAt>
 
 // A number or fixed bytes: of their items only the length is asked.
 #[tactic(auto, unfolding(crate::specs::Steps::is_plain))]
-fn is_plain(kind: usize) -> bool
+fn is_plain(kind: Kind) -> bool
     ensures { result ≡ is_plain kind }
 {
-    if kind == 0 {
-        return true;
-    }
-    kind == 2
+    matches!(kind, Kind::Number | Kind::FixedBytes)
 }
 
 // Free bytes within their limit: of them nothing else is asked.
 fn is_within(n: Node, len: usize) -> bool
-    ensures { result ≡ and_also (eqb n.kind 3) (leb len n.second) }
+    ensures { result ≡ true → (n.kind ≡ Kind.FreeBytes) × (len ≤ n.second) }
 {
-    if n.kind != 3 {
-        return false;
+    match n.kind {
+        Kind::FreeBytes => len <= n.second,
+        _ => false,
     }
-    len <= n.second
 }
 
 // What there is to read inside an item: nothing more, and how many records and contents words the item has; or the words that name its fields
@@ -297,18 +286,22 @@ fn elements_inside(
     t: usize,
     b: &[u8],
 ) -> Result<Inside, Refusal>
-    requires { Under lens.now layout.now (t + 1) × (length b.now < 2 ^ 32) × (n ≡ node_of layout.now t) × (8 ≤ n.kind) }
+    requires { Under lens.now layout.now (t + 1) × (length b.now < 2 ^ 32) × (n ≡ node_of layout.now t) × (has_element n.kind ≡ true) }
     ensures { Found lens.now layout.now t b.now result }
 {
     let first = n.at + 1;
     let e = n.second;
     let third = word_in(layout, n.at + 2);
-    if n.kind == 9 {
-        vector_told(lens, layout, t, first, third, e, b)?;
-        return Ok(row_inside(layout, first, third, e, 0));
+    match n.kind {
+        Kind::Vector => {
+            vector_told(lens, layout, t, first, third, e, b)?;
+            Ok(row_inside(layout, first, third, e, 0))
+        }
+        _ => {
+            let m = elements_of(lens[e] as usize, third, b)?;
+            Ok(row_inside(layout, first, m, e, 1))
+        }
     }
-    let m = elements_of(lens[e] as usize, third, b)?;
-    Ok(row_inside(layout, first, m, e, 1))
 }
 
 // The inside of the container, list or vector b of the type t, whose words are n.
@@ -319,15 +312,17 @@ fn inside_of(
     t: usize,
     b: &[u8],
 ) -> Result<Inside, Refusal>
-    requires { Under lens.now layout.now (t + 1) × (length b.now < 2 ^ 32) × (n ≡ node_of layout.now t) × (6 ≤ n.kind) × (n.kind ≡ 7 → ⊥) }
+    requires { Under lens.now layout.now (t + 1) × (length b.now < 2 ^ 32) × (n ≡ node_of layout.now t) × (is_leaf n.kind ≡ false) × (n.kind ≡ Kind.Union → ⊥) }
     ensures { Found lens.now layout.now t b.now result }
 {
-    if n.kind != 6 {
-        return elements_inside(lens, layout, n, t, b);
+    match n.kind {
+        Kind::Container => {
+            let first = n.at + 2;
+            container_told(lens, layout, t, first, n.second, b)?;
+            Ok(Inside::Fields(first, 1, n.second, 0))
+        }
+        _ => elements_inside(lens, layout, n, t, b),
     }
-    let first = n.at + 2;
-    container_told(lens, layout, t, first, n.second, b)?;
-    Ok(Inside::Fields(first, 1, n.second, 0))
 }
 
 // Checks the item b of the type t, which starts at start. Only here are fields read, whatever holds them: the loop over them is then no call.
@@ -344,15 +339,14 @@ pub(crate) fn item_check(
     ensures { result ≡ read_item (tree_of layout.now t) b.now start }
 {
     let n = look_in(layout, t);
-    if n.kind < 6 {
+    if is_leaf(n.kind) {
         return match leaf_check(n, b) {
             Ok(sizes) => leaf(sizes.words, sizes.bytes),
             Err(refusal) => Err(located(refusal, t, start)),
         };
     }
-    if n.kind == 7 {
-        let first = n.at + 2;
-        return match select(layout, first, n.second, b) {
+    match n.kind {
+        Kind::Union => match select(layout, n.at + 2, n.second, b) {
             Ok(None) => leaf(1, 0),
             Ok(Some(o)) => {
                 let inside = start + 1;
@@ -360,18 +354,18 @@ pub(crate) fn item_check(
                 with_selector(r)
             }
             Err(refusal) => Err(located(refusal, t, start)),
-        };
-    }
-    match inside_of(lens, layout, n, t, b) {
-        Ok(Inside::Counted { records, words }) => Ok(Counts {
-            records,
-            words,
-            bytes: b.len(),
-        }),
-        Ok(Inside::Fields(first, step, m, own)) => {
-            field_check(lens, layout, t, first, step, m, own, b, start)
-        }
-        Err(refusal) => Err(located(refusal, t, start)),
+        },
+        _ => match inside_of(lens, layout, n, t, b) {
+            Ok(Inside::Counted { records, words }) => Ok(Counts {
+                records,
+                words,
+                bytes: b.len(),
+            }),
+            Ok(Inside::Fields(first, step, m, own)) => {
+                field_check(lens, layout, t, first, step, m, own, b, start)
+            }
+            Err(refusal) => Err(located(refusal, t, start)),
+        },
     }
 }
 
@@ -418,7 +412,7 @@ fn field_check(
             sum = one_more(sum, 1, to - from);
             continue;
         }
-        if node.kind < 6 {
+        if is_leaf(node.kind) {
             match leaf_check(node, &b[from..to]) {
                 Ok(sizes) => sum = one_more(sum, sizes.words, sizes.bytes),
                 Err(refusal) => return Err(located(refusal, f, at)),

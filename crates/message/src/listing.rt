@@ -10,7 +10,8 @@ ghost use Rattle.message.specs.Steps.{Under, Row, row_of, heads_of, IsAccepted};
 use crate::fields::locate;
 use crate::items::select;
 use crate::parts::series_in;
-use crate::words::{look_in, word_in};
+use crate::words::{is_leaf, look_in, word_in};
+use layout::Kind;
 use standard::words::put_four;
 
 // Stores the record of an item b of type t that starts at start.
@@ -43,20 +44,21 @@ pub(crate) fn list_item(
     put_entry(out, at, t, b, start);
     let next = at + 12;
     let n = look_in(layout, t);
-    if n.kind == 7 {
-        match select(layout, n.at + 2, n.second, b) {
+    match n.kind {
+        Kind::Union => match select(layout, n.at + 2, n.second, b) {
             Ok(None) => next,
             Ok(Some(o)) => {
                 let inside = start + 1;
                 list_item(out, next, lens, &layout[..], o, &b[1..], inside)
             }
             Err(_) => next,
+        },
+        _ => {
+            let s = series_in(lens, layout, n, t, b);
+            list_fields(
+                out, next, lens, layout, t, s.first, s.step, s.many, b, start,
+            )
         }
-    } else {
-        let s = series_in(lens, layout, n, t, b);
-        list_fields(
-            out, next, lens, layout, t, s.first, s.step, s.many, b, start,
-        )
     }
 }
 
@@ -92,7 +94,7 @@ fn list_fields(
         a += step;
         left -= 1;
         let n = look_in(layout, f);
-        if n.kind < 6 {
+        if is_leaf(n.kind) {
             put_entry(out, at, f, &b[from..to], place);
             at += 12;
             continue;

@@ -1,10 +1,10 @@
 // The unfolding of an accepted message: contents words and body bytes of its value form.
-ghost use Rattle.std.specs.Prelude.{◌≡◌, [], ◌∷◌, false, ◌+◌, ◌-◌, ◌≤◌, ◌<◌, ◌^◌, length, get_or, eqb, ltb};
-ghost use Rattle.standard.specs.Choice.{pick};
+ghost use Rattle.std.specs.Prelude.{◌≡◌, [], ◌∷◌, true, ◌+◌, ◌-◌, ◌≤◌, ◌<◌, ◌^◌, length, get_or};
 ghost use Rattle.standard.specs.Bytes.{Stored, Room};
 ghost use Rattle.standard.specs.Types.{head};
 ghost use Rattle.standard.specs.declared.Head.TheVariants.{Variable};
 ghost use Rattle.standard.specs.Parts.{InRange};
+ghost use Rattle.layout.specs.declared.Kind.{Kind};
 ghost use Rattle.layout.specs.Tree.{node_of, leaf_of, tree_of};
 ghost use Rattle.message.specs.Steps.{Under, Row, row_of, heads_of};
 ghost use Rattle.message.specs.Unfold.{raw_of, unfold_words, words_fields, unfold_bytes, bytes_fields, Accepts, AcceptsAll, Rooms, Filled, MarkedAt};
@@ -14,9 +14,9 @@ ghost use Rattle.message.specs.Unfolding.{Filling};
 use crate::fields::locate;
 use crate::items::select;
 use crate::parts::{Series, no_items, series_in};
-use crate::words::{look_in, word_in};
+use crate::words::{is_leaf, look_in, word_in};
 use bitfield::body::bitlist_body;
-use layout::Node;
+use layout::{Kind, Node};
 
 // How many contents words and body bytes are filled.
 #[derive(Clone, Copy)]
@@ -123,14 +123,12 @@ fn unfold_leaf(
     requires { (head (leaf_of t n) ≡ Variable) × (n.second < 2 ^ 32) × (length b.now < 2 ^ 32) × Accepts (leaf_of t n) b.now × Rooms contents.old bodies.old at (unfold_words (leaf_of t n) b.now) (unfold_bytes (leaf_of t n) b.now) }
     ensures { Filled contents.old bodies.old at (unfold_words (leaf_of t n) b.now) (unfold_bytes (leaf_of t n) b.now) result contents.new bodies.new }
 {
-    let second = n.second;
-    if n.kind == 3 {
-        return unfold_free(contents, bodies, at, b);
-    }
-    let bits = bitlist_body(b, second);
-    match bits {
-        Ok(k) => unfold_bits(contents, bodies, at, k, b),
-        Err(_) => at,
+    match n.kind {
+        Kind::FreeBytes => unfold_free(contents, bodies, at, b),
+        _ => match bitlist_body(b, n.second) {
+            Ok(k) => unfold_bits(contents, bodies, at, k, b),
+            Err(_) => at,
+        },
     }
 }
 
@@ -151,26 +149,27 @@ fn put_count(contents: &mut [u32], at: Place, n: Node, m: usize) -> Place
     requires { Room contents.old at.word (count_word n m) × (m < 2 ^ 32) }
     ensures { Stored contents.old at.word (count_word n m) result.word contents.new × (result.byte ≡ at.byte) }
 {
-    if n.kind != 8 {
-        return at;
+    match n.kind {
+        Kind::List => {
+            let place = at.word;
+            let byte = at.byte;
+            contents[place] = m as u32;
+            let word = place + 1;
+            Place { word, byte }
+        }
+        _ => at,
     }
-    let place = at.word;
-    let byte = at.byte;
-    contents[place] = m as u32;
-    let word = place + 1;
-    Place { word, byte }
 }
 
 // Whether the type whose words are n is a list of elements of fixed size.
 fn fixed_elements(lens: &[u32; 64], n: Node) -> bool
-    requires { (n.kind ≡ 8 → n.second < 64) × (length lens.now ≡ 64) }
-    ensures { result ≡ pick (eqb n.kind 8) (ltb 0 (get_or lens.now n.second 0)) false }
+    requires { (n.kind ≡ Kind.List → n.second < 64) × (length lens.now ≡ 64) }
+    ensures { result ≡ true → (n.kind ≡ Kind.List) × (0 < get_or lens.now n.second 0) }
 {
-    if n.kind != 8 {
-        return false;
+    match n.kind {
+        Kind::List => lens[n.second] > 0,
+        _ => false,
     }
-    let e = n.second;
-    lens[e] > 0
 }
 
 // Nothing is left of an item whose value form ends here.
@@ -193,14 +192,14 @@ fn begin(
     t: usize,
     b: &[u8],
 ) -> Opened
-    requires { Under lens.now layout.now (t + 1) × (length b.now < 2 ^ 32) × (n ≡ node_of layout.now t) × (n.kind ≡ 7 → ⊥) × Accepts (tree_of layout.now t) b.now × Rooms contents.old bodies.old at (unfold_words (tree_of layout.now t) b.now) (unfold_bytes (tree_of layout.now t) b.now) }
+    requires { Under lens.now layout.now (t + 1) × (length b.now < 2 ^ 32) × (n ≡ node_of layout.now t) × (n.kind ≡ Kind.Union → ⊥) × Accepts (tree_of layout.now t) b.now × Rooms contents.old bodies.old at (unfold_words (tree_of layout.now t) b.now) (unfold_bytes (tree_of layout.now t) b.now) }
     ensures { Filling lens.now layout.now t result.left.step b.now (unfold_words (tree_of layout.now t) b.now) (unfold_bytes (tree_of layout.now t) b.now) contents.old bodies.old at contents.new bodies.new result.at result.left.first result.left.many 0 }
 {
     if lens[t] > 0 {
         let end = put_bytes(bodies, at, b);
         return nothing_left(end);
     }
-    if n.kind < 6 {
+    if is_leaf(n.kind) {
         let end = unfold_leaf(contents, bodies, at, n, t, b);
         return nothing_left(end);
     }
@@ -228,21 +227,22 @@ pub(crate) fn unfold_item(
     ensures { Filled contents.old bodies.old at (unfold_words (tree_of layout.now t) b.now) (unfold_bytes (tree_of layout.now t) b.now) result contents.new bodies.new }
 {
     let n = look_in(layout, t);
-    if n.kind == 7 {
-        match select(layout, n.at + 2, n.second, b) {
+    match n.kind {
+        Kind::Union => match select(layout, n.at + 2, n.second, b) {
             Ok(None) => put_selector(contents, at, b),
             Ok(Some(o)) => {
                 let inside = put_selector(contents, at, b);
                 unfold_item(contents, bodies, inside, lens, &layout[..], o, &b[1..])
             }
             Err(_) => at,
+        },
+        _ => {
+            let s = begin(contents, bodies, at, lens, layout, n, t, b);
+            let x = s.left;
+            unfold_fields(
+                contents, bodies, s.at, lens, layout, t, x.first, x.step, x.many, b,
+            )
         }
-    } else {
-        let s = begin(contents, bodies, at, lens, layout, n, t, b);
-        let x = s.left;
-        unfold_fields(
-            contents, bodies, s.at, lens, layout, t, x.first, x.step, x.many, b,
-        )
     }
 }
 
@@ -286,7 +286,7 @@ fn unfold_fields(
         a += step;
         left -= 1;
         let n = look_in(layout, f);
-        at = if n.kind < 6 {
+        at = if is_leaf(n.kind) {
             unfold_leaf(contents, bodies, at, n, f, &b[from..to])
         } else {
             unfold_item(contents, bodies, at, lens, &layout[..], f, &b[from..to])

@@ -12,14 +12,14 @@ overflow_add-n c = omega (arith, (node_legal _ _ _ _ c.requires.1 c.requires.0).
 pub word_in-requires : goal.word_in-requires
 word_in-requires c = third-there _ _ _ _ c.requires.1 c.requires.0 c.requires.2
 
-pub bounds-lens-e : goal.bounds-lens-e
-bounds-lens-e c = omega (arith, element-below _ _ _ _ c.requires.1 c.requires.0 c.requires.2, c.requires.0.few)
+pub bounds-lens-n : goal.bounds-lens-n
+bounds-lens-n c = omega (arith, element-below _ _ _ _ c.requires.1 c.requires.0 c.requires.2, c.requires.0.few)
 
-pub offset_bounds-lens-e : goal.offset_bounds-lens-e
-offset_bounds-lens-e c = omega (arith, element-below _ _ _ _ c.requires.1 c.requires.0 c.requires.2, c.requires.0.few)
+pub offset_bounds-lens-n : goal.offset_bounds-lens-n
+offset_bounds-lens-n c = omega (arith, element-below _ _ _ _ c.requires.1 c.requires.0 c.requires.2, c.requires.0.few)
 
-pub returns : goal.returns
-returns c =
-    let said = many-elements _ _ _ _ c.requires.1 c.requires.0 c.requires.2 _ 0 c.requires.3 c.if-n-eq9.false in
+pub returns-in_default : goal.returns-in_default
+returns-in_default c =
+    let said = many-elements _ _ _ _ c.requires.1 c.requires.0 c.requires.2 _ 0 c.requires.3 c.in_default.not-Vector in
     let limit = word_at c.args.layout.now (c.args.n.at + 2) in
     c.count_of.ensures limit _ (rw (element-head _ _ _ _ c.requires.1 c.requires.0 c.requires.2) said)

@@ -11,7 +11,7 @@ use Rattle.message.specs.declared.Counts.{Counts}
 use Rattle.message.proofs.Answers.{handed}
 use Rattle.message.proofs.Rows.{node_legal, row-there, row_below, row-few, row_under, row-legal, under-below}
 use Rattle.message.proofs.Bodies.{Reading, reading-new, reading_small, reading_span, reading-item, reading-next, reading_stop, reading-end}
-use Rattle.message.proofs.Bodies.{plain_fits, plain-next, free_next, within-says}
+use Rattle.message.proofs.Bodies.{plain_fits, plain-next, free_next}
 use Rattle.message.proofs.Bodies.{item-small, small-more, leaf-told}
 use Rattle.message.proofs.Bodies.{bare-read, wrong-read, body_below, body-read}
 use Rattle.message.proofs.items.+field_check_item_check.Goals as goal
@@ -73,7 +73,7 @@ field_check-one_more-sum-requires-then-is_within t c =
 pub field_check-loop-left-preserved-then-is_within : goal.field_check-loop-left-preserved-then-is_within
 field_check-loop-left-preserved-then-is_within t c =
     let span = located_here c.loop-left.invariant _ _ c.locate-w.ensures in
-    let free = within-says _ _ _ (sym c.is_within.ensures ∙ c.if-is_within.true) in
+    let free = c.is_within.ensures c.if-is_within.true in
     rw c.one_more-sum-then-is_within.ensures
     (free_next c.loop-left.invariant c.loop-left-test.true c.word_in-f.ensures.0 span c.look_in-node.ensures free.0 free.1 c.requires.1)
 
@@ -92,20 +92,20 @@ field_check-slice_bounds-leaf_check-end t c =
 pub field_check-one_more-sum-requires-in-Ok : goal.field_check-one_more-sum-requires-in-Ok
 field_check-one_more-sum-requires-in-Ok t c =
     let span = located_here c.loop-left.invariant _ _ c.locate-w.ensures in
-    let says = leaf-told _ _ _ c.look_in-node.ensures c.if-node-lt6.true _ _ _ c.in-Ok.is c.leaf_check.ensures in
+    let says = leaf-told _ _ _ c.look_in-node.ensures (sym c.is_leaf.ensures ∙ c.if-is_leaf.true) _ _ _ c.in-Ok.is c.leaf_check.ensures in
     let counts = reading-item c.loop-left.invariant c.loop-left-test.true c.word_in-f.ensures.0 span _ c.requires.1 (says _) in
     (reading_small c.loop-left.invariant, (small-more _ counts).words, (small-more _ counts).bytes)
 
 pub field_check-returns-in-Err : goal.field_check-returns-in-Err
 field_check-returns-in-Err t c =
     let span = located_here c.loop-left.invariant _ _ c.locate-w.ensures in
-    let says = leaf-told _ _ _ c.look_in-node.ensures c.if-node-lt6.true _ _ _ c.in-Err.is c.leaf_check.ensures in
+    let says = leaf-told _ _ _ c.look_in-node.ensures (sym c.is_leaf.ensures ∙ c.if-is_leaf.true) _ _ _ c.in-Err.is c.leaf_check.ensures in
     rw c.located.ensures (reading_stop c.loop-left.invariant c.loop-left-test.true c.word_in-f.ensures.0 span _ (says _))
 
-pub field_check-loop-left-preserved-then-node-lt6 : goal.field_check-loop-left-preserved-then-node-lt6
-field_check-loop-left-preserved-then-node-lt6 t c =
+pub field_check-loop-left-preserved-then-is_leaf : goal.field_check-loop-left-preserved-then-is_leaf
+field_check-loop-left-preserved-then-is_leaf t c =
     let span = located_here c.loop-left.invariant _ _ c.locate-w.ensures in
-    let says = leaf-told _ _ _ c.look_in-node.ensures c.if-node-lt6.true _ _ _ c.in-Ok.is c.leaf_check.ensures in
+    let says = leaf-told _ _ _ c.look_in-node.ensures (sym c.is_leaf.ensures ∙ c.if-is_leaf.true) _ _ _ c.in-Ok.is c.leaf_check.ensures in
     rw c.one_more-sum-in-Ok.ensures
     (reading-next c.loop-left.invariant c.loop-left-test.true c.word_in-f.ensures.0 span _ c.requires.1 (says _))
 
@@ -151,50 +151,50 @@ field_check-returns t c = reading-end c.loop-left.invariant c.loop-left-test.fal
 
 pub item_check-returns-in-Ok : goal.item_check-returns-in-Ok
 item_check-returns-in-Ok t c =
-    c.leaf.ensures ∙ leaf-told _ _ _ c.look_in-n.ensures c.if-n-lt6.true _ _ _ c.in-Ok.is c.leaf_check.ensures _
+    c.leaf.ensures ∙ leaf-told _ _ _ c.look_in-n.ensures (sym c.is_leaf.ensures ∙ c.if-is_leaf.true) _ _ _ c.in-Ok.is c.leaf_check.ensures _
 
 pub item_check-returns-in-Err : goal.item_check-returns-in-Err
 item_check-returns-in-Err t c =
-    rw c.located.ensures (leaf-told _ _ _ c.look_in-n.ensures c.if-n-lt6.true _ _ _ c.in-Err.is c.leaf_check.ensures c.args.start)
+    rw c.located.ensures (leaf-told _ _ _ c.look_in-n.ensures (sym c.is_leaf.ensures ∙ c.if-is_leaf.true) _ _ _ c.in-Err.is c.leaf_check.ensures c.args.start)
 
-pub item_check-overflow_add-first : goal.item_check-overflow_add-first
-item_check-overflow_add-first t c = omega (arith, (node_legal _ _ _ _ c.look_in-n.ensures c.requires.0).near)
+pub item_check-overflow_add-n : goal.item_check-overflow_add-n
+item_check-overflow_add-n t c = omega (arith, (node_legal _ _ _ _ c.look_in-n.ensures c.requires.0).near)
 
 pub item_check-select-requires : goal.item_check-select-requires
 item_check-select-requires t c = omega (arith, (node_legal _ _ _ _ c.look_in-n.ensures c.requires.0).near)
 
 pub item_check-slice_bounds-item_check-count : goal.item_check-slice_bounds-item_check-count
 item_check-slice_bounds-item_check-count t c =
-    (body_below _ _ _ _ c.look_in-n.ensures c.requires.0 c.if-n-eq7.true _ _ (rw c.in-Ok-Some.field-0-is at c.in-Ok-Some.ensures)).1
+    (body_below _ _ _ _ c.look_in-n.ensures c.requires.0 c.in-Union.is _ _ (rw c.in-Ok-Some.field-0-is at c.in-Ok-Some.ensures)).1
 
 pub item_check-slice_bounds-item_check-start : goal.item_check-slice_bounds-item_check-start
 item_check-slice_bounds-item_check-start t c =
-    (body_below _ _ _ _ c.look_in-n.ensures c.requires.0 c.if-n-eq7.true _ _ (rw c.in-Ok-Some.field-0-is at c.in-Ok-Some.ensures)).1
+    (body_below _ _ _ _ c.look_in-n.ensures c.requires.0 c.in-Union.is _ _ (rw c.in-Ok-Some.field-0-is at c.in-Ok-Some.ensures)).1
 
 pub item_check-item_check-r-requires : goal.item_check-item_check-r-requires
 item_check-item_check-r-requires t c =
-    let z = body_below _ _ _ _ c.look_in-n.ensures c.requires.0 c.if-n-eq7.true _ _ (rw c.in-Ok-Some.field-0-is at c.in-Ok-Some.ensures) in (
+    let z = body_below _ _ _ _ c.look_in-n.ensures c.requires.0 c.in-Union.is _ _ (rw c.in-Ok-Some.field-0-is at c.in-Ok-Some.ensures) in (
       omega (arith, c.decreases, z),
       (under-below _ _ _ _ (omega (arith, z)) c.requires.0, simp (length-take, length-drop) (omega (arith, c.requires.1, z))),
     )
 
 pub item_check-with_selector-requires : goal.item_check-with_selector-requires
 item_check-with_selector-requires t c =
-    let z = body_below _ _ _ _ c.look_in-n.ensures c.requires.0 c.if-n-eq7.true _ _ (rw c.in-Ok-Some.field-0-is at c.in-Ok-Some.ensures) in
+    let z = body_below _ _ _ _ c.look_in-n.ensures c.requires.0 c.in-Union.is _ _ (rw c.in-Ok-Some.field-0-is at c.in-Ok-Some.ensures) in
     λ d e. small-more d
     (item-small _ _ _ _ _ d (under-below _ _ _ _ (omega (arith, z)) c.requires.0)
     (simp (length-take, length-drop) (omega (arith, c.requires.1, z))) (sym e ∙ c.item_check-r.ensures))
 
 pub item_check-returns-in-Ok-None : goal.item_check-returns-in-Ok-None
 item_check-returns-in-Ok-None t c =
-    c.leaf-in-Ok-None.ensures ∙ bare-read _ _ _ _ c.look_in-n.ensures c.requires.0 c.if-n-eq7.true _ _ (rw c.in-Ok-None.field-0-is at c.in-Ok-None.ensures)
+    c.leaf-in-Ok-None.ensures ∙ bare-read _ _ _ _ c.look_in-n.ensures c.requires.0 c.in-Union.is _ _ (rw c.in-Ok-None.field-0-is at c.in-Ok-None.ensures)
 
 pub item_check-returns-in-Ok-Some : goal.item_check-returns-in-Ok-Some
 item_check-returns-in-Ok-Some t c =
     c.with_selector.ensures
     ∙ ap (and_then (one 1 0)) c.item_check-r.ensures
-    ∙ body-read _ _ _ _ c.look_in-n.ensures c.requires.0 c.if-n-eq7.true _ _ (rw c.in-Ok-Some.field-0-is at c.in-Ok-Some.ensures) _
+    ∙ body-read _ _ _ _ c.look_in-n.ensures c.requires.0 c.in-Union.is _ _ (rw c.in-Ok-Some.field-0-is at c.in-Ok-Some.ensures) _
 
 pub item_check-returns-in-Err-select : goal.item_check-returns-in-Err-select
 item_check-returns-in-Err-select t c =
-    rw c.located-in-Err-select.ensures (wrong-read _ _ _ _ c.look_in-n.ensures c.requires.0 c.if-n-eq7.true _ c.args.start _ c.in-Err-select.ensures)
+    rw c.located-in-Err-select.ensures (wrong-read _ _ _ _ c.look_in-n.ensures c.requires.0 c.in-Union.is _ c.args.start _ c.in-Err-select.ensures)

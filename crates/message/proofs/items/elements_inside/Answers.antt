@@ -22,27 +22,27 @@ vector_told-requires c =
       element-word _ _ _ _ p.2 p.0 p.3,
       element-below _ _ _ _ p.2 p.0 p.3,
       p.1,
-      rw c.word_in-third.ensures.0 (vector-narrow _ _ _ _ p.2 p.0 p.3 c.if-n-eq9.true),
+      rw c.word_in-third.ensures.0 (vector-narrow _ _ _ _ p.2 p.0 p.3 c.in-Vector.is),
     )
 
 pub row_inside-requires : goal.row_inside-requires
 row_inside-requires c =
     let p = c.requires in
-    let a = vector-alike _ _ _ _ p.2 p.0 p.3 c.if-n-eq9.true _ c.word_in-third.ensures.0 _ c.word_in-third.ensures.1 c.in_ok-vector_told.ensures in
+    let a = vector-alike _ _ _ _ p.2 p.0 p.3 c.in-Vector.is _ c.word_in-third.ensures.0 _ c.word_in-third.ensures.1 c.in_ok-vector_told-in-Vector.ensures in
     (under-legal _ _ _ a.row.under _ a.lower, omega (arith, c.word_in-third.ensures.1))
 
-pub returns-then-n-eq9 : goal.returns-then-n-eq9
-returns-then-n-eq9 c =
+pub returns-in_ok-vector_told-in-Vector : goal.returns-in_ok-vector_told-in-Vector
+returns-in_ok-vector_told-in-Vector c =
     let p = c.requires in
-    let fine = c.in_ok-vector_told.ensures in
-    let a = vector-alike _ _ _ _ p.2 p.0 p.3 c.if-n-eq9.true _ c.word_in-third.ensures.0 _ c.word_in-third.ensures.1 fine in
-    let on = vector_on _ _ _ _ p.2 p.0 p.3 c.if-n-eq9.true _ c.word_in-third.ensures.0 _ fine in
+    let fine = c.in_ok-vector_told-in-Vector.ensures in
+    let a = vector-alike _ _ _ _ p.2 p.0 p.3 c.in-Vector.is _ c.word_in-third.ensures.0 _ c.word_in-third.ensures.1 fine in
+    let on = vector_on _ _ _ _ p.2 p.0 p.3 c.in-Vector.is _ c.word_in-third.ensures.0 _ fine in
     rw c.row_inside.ensures (row-found _ _ _ _ _ _ _ _ a (omega arith) on)
 
-pub returns-in_err-vector_told : goal.returns-in_err-vector_told
-returns-in_err-vector_told c =
+pub returns-in_err-vector_told-in-Vector : goal.returns-in_err-vector_told-in-Vector
+returns-in_err-vector_told-in-Vector c =
     rw (handed _ _ c.from_residual.ensures.1)
-    (vector_stop _ _ _ _ c.requires.2 c.requires.0 c.requires.3 c.if-n-eq9.true _ c.word_in-third.ensures.0 _ _ c.in_err-vector_told.ensures)
+    (vector_stop _ _ _ _ c.requires.2 c.requires.0 c.requires.3 c.in-Vector.is _ c.word_in-third.ensures.0 _ _ c.in_err-vector_told-in-Vector.ensures)
 
 pub offset_bounds-lens-e : goal.offset_bounds-lens-e
 offset_bounds-lens-e c = omega (arith, element-below _ _ _ _ c.requires.2 c.requires.0 c.requires.3, c.requires.0.few)
@@ -50,21 +50,21 @@ offset_bounds-lens-e c = omega (arith, element-below _ _ _ _ c.requires.2 c.requ
 pub bounds-lens-e : goal.bounds-lens-e
 bounds-lens-e c = omega (arith, element-below _ _ _ _ c.requires.2 c.requires.0 c.requires.3, c.requires.0.few)
 
-pub row_inside-requires-2 : goal.row_inside-requires-2
-row_inside-requires-2 c =
+pub row_inside-requires-in_default : goal.row_inside-requires-in_default
+row_inside-requires-in_default c =
     let p = c.requires in
-    let a = list-alike _ _ _ _ p.2 p.0 p.3 c.if-n-eq9.false _ c.word_in-third.ensures.0 _ refl _ _ c.in_ok-m.ensures c.word_in-third.ensures.1 in
+    let a = list-alike _ _ _ _ p.2 p.0 p.3 c.in_default.not-Vector _ c.word_in-third.ensures.0 _ refl _ _ c.in_ok-m-in_default.ensures c.word_in-third.ensures.1 in
     (under-legal _ _ _ a.row.under _ a.lower, omega (arith, a.row.near))
 
-pub returns : goal.returns
-returns c =
+pub returns-in_ok-m-in_default : goal.returns-in_ok-m-in_default
+returns-in_ok-m-in_default c =
     let p = c.requires in
-    let m = c.in_ok-m.ensures in
-    let a = list-alike _ _ _ _ p.2 p.0 p.3 c.if-n-eq9.false _ c.word_in-third.ensures.0 _ refl _ _ m c.word_in-third.ensures.1 in
-    let on = list_on _ _ _ _ p.2 p.0 p.3 c.if-n-eq9.false _ c.word_in-third.ensures.0 _ refl _ _ m in
-    rw c.row_inside-2.ensures (row-found _ _ _ _ _ _ _ _ a (omega arith) on)
+    let m = c.in_ok-m-in_default.ensures in
+    let a = list-alike _ _ _ _ p.2 p.0 p.3 c.in_default.not-Vector _ c.word_in-third.ensures.0 _ refl _ _ m c.word_in-third.ensures.1 in
+    let on = list_on _ _ _ _ p.2 p.0 p.3 c.in_default.not-Vector _ c.word_in-third.ensures.0 _ refl _ _ m in
+    rw c.row_inside-in_default.ensures (row-found _ _ _ _ _ _ _ _ a (omega arith) on)
 
-pub returns-in_err-m : goal.returns-in_err-m
-returns-in_err-m c =
-    rw (handed _ _ c.from_residual-in_err-m.ensures.1)
-    (list_stop _ _ _ _ c.requires.2 c.requires.0 c.requires.3 c.if-n-eq9.false _ c.word_in-third.ensures.0 _ refl _ _ c.in_err-m.ensures)
+pub returns-in_err-m-in_default : goal.returns-in_err-m-in_default
+returns-in_err-m-in_default c =
+    rw (handed _ _ c.from_residual-in_err-m-in_default.ensures.1)
+    (list_stop _ _ _ _ c.requires.2 c.requires.0 c.requires.3 c.in_default.not-Vector _ c.word_in-third.ensures.0 _ refl _ _ c.in_err-m-in_default.ensures)

@@ -12,19 +12,19 @@ overflow_add-first c = omega (arith, (node_legal _ _ _ _ c.requires.2 c.requires
 pub container_told-requires : goal.container_told-requires
 container_told-requires c =
     let p = c.requires in
-    (p.0, container-row _ _ _ _ p.2 p.0 c.if-n-ne6.false, p.1, container_tree _ _ _ p.2 c.if-n-ne6.false)
+    (p.0, container-row _ _ _ _ p.2 p.0 c.in-Container.is, p.1, container_tree _ _ _ p.2 c.in-Container.is)
 
-pub returns : goal.returns
-returns c =
+pub returns-in_ok-container_told-in-Container : goal.returns-in_ok-container_told-in-Container
+returns-in_ok-container_told-in-Container c =
     let p = c.requires in
-    let fine = c.in_ok-container_told.ensures in (
-      container-row _ _ _ _ p.2 p.0 c.if-n-ne6.false,
+    let fine = c.in_ok-container_told-in-Container.ensures in (
+      container-row _ _ _ _ p.2 p.0 c.in-Container.is,
       layout-ranges _ _ (sym fine),
       omega arith,
-      λ s. container-on _ _ _ _ p.2 p.0 c.if-n-ne6.false _ s fine,
+      λ s. container-on _ _ _ _ p.2 p.0 c.in-Container.is _ s fine,
     )
 
-pub returns-in_err-container_told : goal.returns-in_err-container_told
-returns-in_err-container_told c =
+pub returns-in_err-container_told-in-Container : goal.returns-in_err-container_told-in-Container
+returns-in_err-container_told-in-Container c =
     let p = c.requires in
-    rw (handed _ _ c.from_residual.ensures.1) (λ s. container_stop _ _ _ _ p.2 p.0 c.if-n-ne6.false _ s _ c.in_err-container_told.ensures)
+    rw (handed _ _ c.from_residual.ensures.1) (λ s. container_stop _ _ _ _ p.2 p.0 c.in-Container.is _ s _ c.in_err-container_told-in-Container.ensures)

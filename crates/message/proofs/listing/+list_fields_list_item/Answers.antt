@@ -1,5 +1,5 @@
 -- Items and fields call each other; the type number falls. The loop over the fields keeps `Storing`. Assumes nothing.
-use Rattle.std.proofs.Common.{arith, length-take, length-drop}
+use Rattle.std.proofs.Common.{arith, length-take, length-drop, sym, ◌∙◌}
 use Rattle.standard.proofs.Store.{stored_then, room_then}
 use Rattle.message.proofs.Rows.{node_legal, row-there, row-legal, row_below, row_under, under-below}
 use Rattle.message.proofs.Bodies.{body_below}
@@ -32,10 +32,10 @@ list_fields-put_entry-requires t c = (
   omega (arith, storing_lies c.loop-left.invariant c.loop-left-test.true c.word_in-f.ensures.0 _ c.locate-w.ensures, c.requires.1),
 )
 
-pub list_fields-loop-left-preserved-then-n-lt6 : goal.list_fields-loop-left-preserved-then-n-lt6
-list_fields-loop-left-preserved-then-n-lt6 t c =
+pub list_fields-loop-left-preserved-then-is_leaf : goal.list_fields-loop-left-preserved-then-is_leaf
+list_fields-loop-left-preserved-then-is_leaf t c =
     storing_next c.loop-left.invariant c.loop-left-test.true c.word_in-f.ensures.0 _ c.locate-w.ensures _ _
-    (leaf-stored _ _ _ c.look_in-n.ensures c.if-n-lt6.true _ _ _ _ _ _ c.put_entry.ensures)
+    (leaf-stored _ _ _ c.look_in-n.ensures (sym c.is_leaf.ensures ∙ c.if-is_leaf.true) _ _ _ _ _ _ c.put_entry.ensures)
 
 pub list_fields-slice_bounds-list_item-count : goal.list_fields-slice_bounds-list_item-count
 list_fields-slice_bounds-list_item-count t c = (storing_lies c.loop-left.invariant c.loop-left-test.true c.word_in-f.ensures.0 _ c.locate-w.ensures).0
@@ -76,41 +76,41 @@ list_item-select-requires t c = omega (arith, (node_legal _ _ _ _ c.look_in-n.en
 
 pub list_item-slice_bounds-list_item-count : goal.list_item-slice_bounds-list_item-count
 list_item-slice_bounds-list_item-count t c =
-    omega (arith, body_below _ _ _ _ c.look_in-n.ensures c.requires.0 c.if-n-eq7.true _ _ (rw c.in-Ok-Some.field-0-is at c.in-Ok-Some.ensures))
+    omega (arith, body_below _ _ _ _ c.look_in-n.ensures c.requires.0 c.in-Union.is _ _ (rw c.in-Ok-Some.field-0-is at c.in-Ok-Some.ensures))
 
 pub list_item-slice_bounds-list_item-start : goal.list_item-slice_bounds-list_item-start
 list_item-slice_bounds-list_item-start t c =
-    omega (arith, body_below _ _ _ _ c.look_in-n.ensures c.requires.0 c.if-n-eq7.true _ _ (rw c.in-Ok-Some.field-0-is at c.in-Ok-Some.ensures))
+    omega (arith, body_below _ _ _ _ c.look_in-n.ensures c.requires.0 c.in-Union.is _ _ (rw c.in-Ok-Some.field-0-is at c.in-Ok-Some.ensures))
 
 pub list_item-list_item-requires : goal.list_item-list_item-requires
 list_item-list_item-requires t c =
-    let z = body_below _ _ _ _ c.look_in-n.ensures c.requires.0 c.if-n-eq7.true _ _ (rw c.in-Ok-Some.field-0-is at c.in-Ok-Some.ensures) in (
+    let z = body_below _ _ _ _ c.look_in-n.ensures c.requires.0 c.in-Union.is _ _ (rw c.in-Ok-Some.field-0-is at c.in-Ok-Some.ensures) in (
       omega (arith, c.decreases, z),
       (
         under-below _ _ _ _ (omega (arith, z)) c.requires.0,
         simp (length-take, length-drop) (omega (arith, c.requires.1, z)),
-        body-accepted _ _ _ _ c.look_in-n.ensures c.requires.0 _ _ c.requires.2 c.if-n-eq7.true _ (rw c.in-Ok-Some.field-0-is at c.in-Ok-Some.ensures),
+        body-accepted _ _ _ _ c.look_in-n.ensures c.requires.0 _ _ c.requires.2 c.in-Union.is _ (rw c.in-Ok-Some.field-0-is at c.in-Ok-Some.ensures),
         room_then _ _ _ _ _ _ _ c.requires.3
-            (union-body _ _ _ _ c.look_in-n.ensures c.requires.0 _ _ c.requires.2 c.if-n-eq7.true _ (rw c.in-Ok-Some.field-0-is at c.in-Ok-Some.ensures)) c.put_entry.ensures,
+            (union-body _ _ _ _ c.look_in-n.ensures c.requires.0 _ _ c.requires.2 c.in-Union.is _ (rw c.in-Ok-Some.field-0-is at c.in-Ok-Some.ensures)) c.put_entry.ensures,
       ),
     )
 
 pub list_item-series_in-s-requires : goal.list_item-series_in-s-requires
 list_item-series_in-s-requires t c =
-    (c.requires.0, omega (arith, c.requires.1), c.look_in-n.ensures, c.if-n-eq7.false, accepted-start _ _ _ 0 c.requires.2)
+    (c.requires.0, omega (arith, c.requires.1), c.look_in-n.ensures, c.in_default.not-Union, accepted-start _ _ _ 0 c.requires.2)
 
 pub list_item-returns-in-Ok-None : goal.list_item-returns-in-Ok-None
 list_item-returns-in-Ok-None t c =
-    rw (union-bare _ _ _ _ c.look_in-n.ensures c.requires.0 _ _ c.requires.2 c.if-n-eq7.true (rw c.in-Ok-None.field-0-is at c.in-Ok-None.ensures)) c.put_entry.ensures
+    rw (union-bare _ _ _ _ c.look_in-n.ensures c.requires.0 _ _ c.requires.2 c.in-Union.is (rw c.in-Ok-None.field-0-is at c.in-Ok-None.ensures)) c.put_entry.ensures
 
 pub list_item-returns-in-Ok-Some : goal.list_item-returns-in-Ok-Some
 list_item-returns-in-Ok-Some t c =
     stored_then _ _ _ _ _ _ _ _ _ c.put_entry.ensures c.list_item.ensures
-    (union-body _ _ _ _ c.look_in-n.ensures c.requires.0 _ _ c.requires.2 c.if-n-eq7.true _ (rw c.in-Ok-Some.field-0-is at c.in-Ok-Some.ensures))
+    (union-body _ _ _ _ c.look_in-n.ensures c.requires.0 _ _ c.requires.2 c.in-Union.is _ (rw c.in-Ok-Some.field-0-is at c.in-Ok-Some.ensures))
 
 pub list_item-returns-in-Err : goal.list_item-returns-in-Err
-list_item-returns-in-Err t c = union-never _ _ _ _ c.look_in-n.ensures c.requires.0 _ _ c.requires.2 c.if-n-eq7.true _ c.in-Err.ensures
+list_item-returns-in-Err t c = union-never _ _ _ _ c.look_in-n.ensures c.requires.0 _ _ c.requires.2 c.in-Union.is _ c.in-Err.ensures
 
-pub list_item-returns-else-n-eq7 : goal.list_item-returns-else-n-eq7
-list_item-returns-else-n-eq7 t c =
+pub list_item-returns-in_default : goal.list_item-returns-in_default
+list_item-returns-in_default t c =
     stored_then _ _ _ _ _ _ _ _ _ c.put_entry.ensures c.list_fields.ensures (c.series_in-s.ensures.listed _)

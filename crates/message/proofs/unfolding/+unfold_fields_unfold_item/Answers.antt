@@ -1,5 +1,5 @@
 -- Items and fields call each other; the type number falls. The loop over the fields keeps `Filling`. Assumes nothing.
-use Rattle.std.proofs.Common.{refl, arith, length-take, length-drop}
+use Rattle.std.proofs.Common.{refl, arith, length-take, length-drop, sym, ◌∙◌}
 use Rattle.message.proofs.Rows.{node_legal, row-there, row-legal, row_below, row_under, row-few, under-below}
 use Rattle.message.proofs.Bodies.{body_below}
 use Rattle.message.proofs.Unfolds.{filled_then, rooms_then, words-filled, filling_lies, filling_accepts, filling_rooms, filling_next, filling_end}
@@ -43,11 +43,11 @@ pub unfold_fields-unfold_leaf-at-requires : goal.unfold_fields-unfold_leaf-at-re
 unfold_fields-unfold_leaf-at-requires t c =
     let under = row_under _ _ _ _ _ _ _ c.loop-left.invariant.row c.loop-left-test.true c.word_in-f.ensures.0 in
     let accepts = filling_accepts c.loop-left.invariant _ c.loop-left-test.true c.word_in-f.ensures.0 _ c.locate-w.ensures in (
-      leaf_variable _ _ _ _ c.look_in-n.ensures under _ accepts c.if-n-lt6.true (no_more _ c.if-k-gt0.false),
+      leaf_variable _ _ _ _ c.look_in-n.ensures under _ accepts (sym c.is_leaf.ensures ∙ c.if-is_leaf.true) (no_more _ c.if-k-gt0.false),
       (node_legal _ _ _ _ c.look_in-n.ensures under).small,
       omega (arith, filling_lies c.loop-left.invariant _ c.loop-left-test.true c.word_in-f.ensures.0 _ c.locate-w.ensures, c.requires.1),
-      leaf_accepts _ _ _ _ c.look_in-n.ensures under _ accepts c.if-n-lt6.true,
-      leaf-rooms _ _ _ _ c.look_in-n.ensures under _ accepts c.if-n-lt6.true _ _ _
+      leaf_accepts _ _ _ _ c.look_in-n.ensures under _ accepts (sym c.is_leaf.ensures ∙ c.if-is_leaf.true),
+      leaf-rooms _ _ _ _ c.look_in-n.ensures under _ accepts (sym c.is_leaf.ensures ∙ c.if-is_leaf.true) _ _ _
           (filling_rooms c.loop-left.invariant _ c.loop-left-test.true c.word_in-f.ensures.0 _ c.locate-w.ensures),
     )
 
@@ -72,12 +72,12 @@ unfold_fields-unfold_item-at-requires t c =
       ),
     )
 
-pub unfold_fields-loop-left-preserved-then-n-lt6 : goal.unfold_fields-loop-left-preserved-then-n-lt6
-unfold_fields-loop-left-preserved-then-n-lt6 t c =
+pub unfold_fields-loop-left-preserved-then-is_leaf : goal.unfold_fields-loop-left-preserved-then-is_leaf
+unfold_fields-loop-left-preserved-then-is_leaf t c =
     let under = row_under _ _ _ _ _ _ _ c.loop-left.invariant.row c.loop-left-test.true c.word_in-f.ensures.0 in
     let accepts = filling_accepts c.loop-left.invariant _ c.loop-left-test.true c.word_in-f.ensures.0 _ c.locate-w.ensures in
     filling_next c.loop-left.invariant _ c.loop-left-test.true c.word_in-f.ensures.0 _ c.locate-w.ensures _ _ _
-    (leaf-filled _ _ _ _ c.look_in-n.ensures under _ accepts c.if-n-lt6.true _ _ _ _ _ _ c.unfold_leaf-at.ensures)
+    (leaf-filled _ _ _ _ c.look_in-n.ensures under _ accepts (sym c.is_leaf.ensures ∙ c.if-is_leaf.true) _ _ _ _ _ _ c.unfold_leaf-at.ensures)
 
 pub unfold_fields-loop-left-preserved : goal.unfold_fields-loop-left-preserved
 unfold_fields-loop-left-preserved t c =
@@ -94,51 +94,51 @@ unfold_item-select-requires t c = omega (arith, (node_legal _ _ _ _ c.look_in-n.
 
 pub unfold_item-put_selector-requires : goal.unfold_item-put_selector-requires
 unfold_item-put_selector-requires t c = (
-  union-room _ _ _ _ c.look_in-n.ensures c.requires.0 _ c.requires.2 c.if-n-eq7.true _ _ _ c.requires.3,
-  union-long _ _ _ _ c.look_in-n.ensures c.requires.0 _ c.requires.2 c.if-n-eq7.true,
+  union-room _ _ _ _ c.look_in-n.ensures c.requires.0 _ c.requires.2 c.in-Union.is _ _ _ c.requires.3,
+  union-long _ _ _ _ c.look_in-n.ensures c.requires.0 _ c.requires.2 c.in-Union.is,
 )
 
 pub unfold_item-put_selector-inside-requires : goal.unfold_item-put_selector-inside-requires
 unfold_item-put_selector-inside-requires t c = (
-  union-room _ _ _ _ c.look_in-n.ensures c.requires.0 _ c.requires.2 c.if-n-eq7.true _ _ _ c.requires.3,
-  union-long _ _ _ _ c.look_in-n.ensures c.requires.0 _ c.requires.2 c.if-n-eq7.true,
+  union-room _ _ _ _ c.look_in-n.ensures c.requires.0 _ c.requires.2 c.in-Union.is _ _ _ c.requires.3,
+  union-long _ _ _ _ c.look_in-n.ensures c.requires.0 _ c.requires.2 c.in-Union.is,
 )
 
 pub unfold_item-slice_bounds-unfold_item-count : goal.unfold_item-slice_bounds-unfold_item-count
-unfold_item-slice_bounds-unfold_item-count t c = omega (arith, body_below _ _ _ _ c.look_in-n.ensures c.requires.0 c.if-n-eq7.true _ _ (rw c.in-Ok-Some.field-0-is at c.in-Ok-Some.ensures))
+unfold_item-slice_bounds-unfold_item-count t c = omega (arith, body_below _ _ _ _ c.look_in-n.ensures c.requires.0 c.in-Union.is _ _ (rw c.in-Ok-Some.field-0-is at c.in-Ok-Some.ensures))
 
 pub unfold_item-slice_bounds-unfold_item-start : goal.unfold_item-slice_bounds-unfold_item-start
-unfold_item-slice_bounds-unfold_item-start t c = omega (arith, body_below _ _ _ _ c.look_in-n.ensures c.requires.0 c.if-n-eq7.true _ _ (rw c.in-Ok-Some.field-0-is at c.in-Ok-Some.ensures))
+unfold_item-slice_bounds-unfold_item-start t c = omega (arith, body_below _ _ _ _ c.look_in-n.ensures c.requires.0 c.in-Union.is _ _ (rw c.in-Ok-Some.field-0-is at c.in-Ok-Some.ensures))
 
 pub unfold_item-unfold_item-requires : goal.unfold_item-unfold_item-requires
 unfold_item-unfold_item-requires t c =
-    let z = body_below _ _ _ _ c.look_in-n.ensures c.requires.0 c.if-n-eq7.true _ _ (rw c.in-Ok-Some.field-0-is at c.in-Ok-Some.ensures) in (
+    let z = body_below _ _ _ _ c.look_in-n.ensures c.requires.0 c.in-Union.is _ _ (rw c.in-Ok-Some.field-0-is at c.in-Ok-Some.ensures) in (
       omega (arith, c.decreases, z),
       (
         under-below _ _ _ _ (omega (arith, z)) c.requires.0,
         simp (length-take, length-drop) (omega (arith, c.requires.1, z)),
-        body_accepts _ _ _ _ c.look_in-n.ensures c.requires.0 _ c.requires.2 c.if-n-eq7.true _ (rw c.in-Ok-Some.field-0-is at c.in-Ok-Some.ensures),
+        body_accepts _ _ _ _ c.look_in-n.ensures c.requires.0 _ c.requires.2 c.in-Union.is _ (rw c.in-Ok-Some.field-0-is at c.in-Ok-Some.ensures),
         rooms_then _ _ _ _ _ _ _ _ _ _ _ _ c.requires.3
-            (body-words _ _ _ _ c.look_in-n.ensures c.requires.0 _ c.requires.2 c.if-n-eq7.true _ (rw c.in-Ok-Some.field-0-is at c.in-Ok-Some.ensures))
-            (body_bytes _ _ _ _ c.look_in-n.ensures c.requires.0 _ c.requires.2 c.if-n-eq7.true _ (rw c.in-Ok-Some.field-0-is at c.in-Ok-Some.ensures))
+            (body-words _ _ _ _ c.look_in-n.ensures c.requires.0 _ c.requires.2 c.in-Union.is _ (rw c.in-Ok-Some.field-0-is at c.in-Ok-Some.ensures))
+            (body_bytes _ _ _ _ c.look_in-n.ensures c.requires.0 _ c.requires.2 c.in-Union.is _ (rw c.in-Ok-Some.field-0-is at c.in-Ok-Some.ensures))
             (words-filled _ _ _ _ _ _ c.put_selector-inside.ensures.0 c.put_selector-inside.ensures.1),
       ),
     )
 
 pub unfold_item-returns-in-Ok-None : goal.unfold_item-returns-in-Ok-None
 unfold_item-returns-in-Ok-None t c =
-    bare-filled _ _ _ _ c.look_in-n.ensures c.requires.0 _ c.requires.2 c.if-n-eq7.true (rw c.in-Ok-None.field-0-is at c.in-Ok-None.ensures) _ _ _ _ _ _
+    bare-filled _ _ _ _ c.look_in-n.ensures c.requires.0 _ c.requires.2 c.in-Union.is (rw c.in-Ok-None.field-0-is at c.in-Ok-None.ensures) _ _ _ _ _ _
     (words-filled _ _ _ _ _ _ c.put_selector.ensures.0 c.put_selector.ensures.1)
 
 pub unfold_item-returns-in-Ok-Some : goal.unfold_item-returns-in-Ok-Some
 unfold_item-returns-in-Ok-Some t c =
     filled_then _ _ _ _ _ _ _ _ _ _ _ _ _ _ _
     (words-filled _ _ _ _ _ _ c.put_selector-inside.ensures.0 c.put_selector-inside.ensures.1) c.unfold_item.ensures
-    (body-words _ _ _ _ c.look_in-n.ensures c.requires.0 _ c.requires.2 c.if-n-eq7.true _ (rw c.in-Ok-Some.field-0-is at c.in-Ok-Some.ensures))
-    (body_bytes _ _ _ _ c.look_in-n.ensures c.requires.0 _ c.requires.2 c.if-n-eq7.true _ (rw c.in-Ok-Some.field-0-is at c.in-Ok-Some.ensures))
+    (body-words _ _ _ _ c.look_in-n.ensures c.requires.0 _ c.requires.2 c.in-Union.is _ (rw c.in-Ok-Some.field-0-is at c.in-Ok-Some.ensures))
+    (body_bytes _ _ _ _ c.look_in-n.ensures c.requires.0 _ c.requires.2 c.in-Union.is _ (rw c.in-Ok-Some.field-0-is at c.in-Ok-Some.ensures))
 
 pub unfold_item-returns-in-Err : goal.unfold_item-returns-in-Err
-unfold_item-returns-in-Err t c = never _ _ _ _ c.look_in-n.ensures c.requires.0 _ c.requires.2 c.if-n-eq7.true _ c.in-Err.ensures
+unfold_item-returns-in-Err t c = never _ _ _ _ c.look_in-n.ensures c.requires.0 _ c.requires.2 c.in-Union.is _ c.in-Err.ensures
 
-pub unfold_item-returns-else-n-eq7 : goal.unfold_item-returns-else-n-eq7
-unfold_item-returns-else-n-eq7 t c = filling_last c.begin-s.ensures _ _ _ c.unfold_fields.ensures
+pub unfold_item-returns-in_default : goal.unfold_item-returns-in_default
+unfold_item-returns-in_default t c = filling_last c.begin-s.ensures _ _ _ c.unfold_fields.ensures

@@ -1,8 +1,9 @@
 -- What is of fixed size is copied, a leaf is stored, and what is made of others begins with its count. Assumes nothing.
+use Rattle.std.proofs.Common.{sym, ◌∙◌}
 use Rattle.message.proofs.Rows.{node_legal}
 use Rattle.message.proofs.UnfoldLeaves.{bytes-room, bytes-filled}
 use Rattle.message.proofs.Unfolds.{no_more, item-form, all-stored, leaf_variable, leaf_accepts, leaf-rooms, leaf-filled}
-use Rattle.message.proofs.Unfolds.{parts-left, filling_last, list-below, fixed-list}
+use Rattle.message.proofs.Unfolds.{parts-left, filling_last, list-below}
 use Rattle.message.proofs.unfolding.begin.Goals as goal
 
 pub put_bytes-end-requires : goal.put_bytes-end-requires
@@ -17,26 +18,26 @@ returns-then-lens-t-gt0 c =
 pub unfold_leaf-end-requires : goal.unfold_leaf-end-requires
 unfold_leaf-end-requires c =
     let none = no_more _ c.if-lens-t-gt0.false in (
-      leaf_variable _ _ _ _ c.requires.2 c.requires.0 _ c.requires.4 c.if-n-lt6.true none,
+      leaf_variable _ _ _ _ c.requires.2 c.requires.0 _ c.requires.4 (sym c.is_leaf.ensures ∙ c.if-is_leaf.true) none,
       (node_legal _ _ _ _ c.requires.2 c.requires.0).small,
       c.requires.1,
-      leaf_accepts _ _ _ _ c.requires.2 c.requires.0 _ c.requires.4 c.if-n-lt6.true,
-      leaf-rooms _ _ _ _ c.requires.2 c.requires.0 _ c.requires.4 c.if-n-lt6.true _ _ _ c.requires.5,
+      leaf_accepts _ _ _ _ c.requires.2 c.requires.0 _ c.requires.4 (sym c.is_leaf.ensures ∙ c.if-is_leaf.true),
+      leaf-rooms _ _ _ _ c.requires.2 c.requires.0 _ c.requires.4 (sym c.is_leaf.ensures ∙ c.if-is_leaf.true) _ _ _ c.requires.5,
     )
 
-pub returns-then-n-lt6 : goal.returns-then-n-lt6
-returns-then-n-lt6 c =
-    all-stored _ _ _ c.requires.0 _ _ _ _ _ _ _ _ _ _ c.nothing_left-then-n-lt6.ensures c.requires.5
-    (leaf-filled _ _ _ _ c.requires.2 c.requires.0 _ c.requires.4 c.if-n-lt6.true _ _ _ _ _ _ c.unfold_leaf-end.ensures)
+pub returns-then-is_leaf : goal.returns-then-is_leaf
+returns-then-is_leaf c =
+    all-stored _ _ _ c.requires.0 _ _ _ _ _ _ _ _ _ _ c.nothing_left-then-is_leaf.ensures c.requires.5
+    (leaf-filled _ _ _ _ c.requires.2 c.requires.0 _ c.requires.4 (sym c.is_leaf.ensures ∙ c.if-is_leaf.true) _ _ _ _ _ _ c.unfold_leaf-end.ensures)
 
 pub fixed_elements-requires : goal.fixed_elements-requires
 fixed_elements-requires c = ((λ q. list-below _ _ _ _ c.requires.2 c.requires.0 q), c.requires.0.room)
 
 pub returns-then-fixed_elements : goal.returns-then-fixed_elements
 returns-then-fixed_elements c =
-    let q = fixed-list _ _ _ c.fixed_elements.ensures c.if-fixed_elements.true in
+    let q = c.fixed_elements.ensures c.if-fixed_elements.true in
     all-stored _ _ _ c.requires.0 _ _ _ _ _ _ _ _ _ _ c.nothing_left-then-fixed_elements.ensures c.requires.5
     (filling_last
-    (parts-left c.series_in-left.ensures c.if-n-lt6.false c.requires.5 _ _ c.put_count-inside.ensures.0 c.put_count-inside.ensures.1) _ _ _
+    (parts-left c.series_in-left.ensures (sym c.is_leaf.ensures ∙ c.if-is_leaf.false) c.requires.5 _ _ c.put_count-inside.ensures.0 c.put_count-inside.ensures.1) _ _ _
     (bytes-filled _ _ _ (c.series_in-left.ensures.copied q.0 q.1) _ _ _ _ _ c.put_bytes-end-then-fixed_elements.ensures.0
     c.put_bytes-end-then-fixed_elements.ensures.1))
