@@ -26,7 +26,7 @@ use Rattle.layout.specs.Tree.{node_of, type_with, from_node, fields, trees, tree
 use Rattle.layout.specs.Table.{count, refs, counted, many, container_end_lem, list_end_lem, vector_end_lem, leaf_end_lem, kind_end, body_end_lem}
 use Rattle.layout.specs.Steps.{Known, leaf_len_lem, sizes_of, with_len}
 use Rattle.layout.specs.declared.Kind.{Kind}
-use Rattle.layout.specs.declared.Body.{Body}
+use Rattle.layout.specs.declared.types.Body.{Body}
 use Rattle.layout.proofs.Facts.{trees-get, fields_at, fields-none, filled-set, each-kind}
 use Rattle.layout.proofs.Tables.{refs-wrong, refs-next, refs-none, refs-cut}
 use Rattle.layout.proofs.Tables.{Counted, counted-says, element-lower, known_len, known-head, known_small}

@@ -3,3 +3,4 @@ pub mod Tree
 pub mod Table
 pub mod Legal
 pub mod Steps
+pub mod Held

@@ -5,8 +5,8 @@ use Rattle.layout.specs.Tree.{leaf_with, len_of, filled}
 use Rattle.layout.specs.Table.{types_end_lem, table_of}
 use Rattle.layout.specs.Legal.{Legal}
 use Rattle.layout.specs.declared.Kind.{Kind}
-use Rattle.layout.specs.declared.Body.{Body}
-use Rattle.layout.specs.declared.Sizes.{Sizes}
+use Rattle.layout.specs.declared.types.Body.{Body}
+use Rattle.layout.specs.declared.types.Sizes.{Sizes}
 use Rattle.std.specs.declared.result.Result.{Result}
 use Rattle.std.specs.declared.result.Result.TheVariants.{Ok, Err}
 use Rattle.standard.specs.declared.Refusal.{Refusal}

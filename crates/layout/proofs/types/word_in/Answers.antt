@@ -2,7 +2,7 @@
 use Rattle.std.proofs.Common.{◌∙◌}
 use Rattle.standard.proofs.Bytes.{word-part}
 use Rattle.layout.specs.Table.{count}
-use Rattle.layout.proofs.word_in.Goals as goal
+use Rattle.layout.proofs.types.word_in.Goals as goal
 
 pub returns : goal.returns
 unfolding count
