@@ -11,7 +11,7 @@ use lib.Dec.{leb}
 use Rattle.standard.specs.Bytes.{word_at}
 use Rattle.standard.specs.Parts.{join}
 use Rattle.layout.specs.Tree.{node_of, tree_of}
-use Rattle.layout.specs.declared.Node.{Node}
+use Rattle.layout.specs.declared.Kind.{Kind}
 use Rattle.message.specs.Steps.{Row, row_of, is_plain}
 use Rattle.value.specs.Walk.{upto, with_body, walk_fields}
 use Rattle.value.specs.Write.{parts_from}
@@ -72,10 +72,10 @@ module _ (lens l : List ℕ) (t a m : ℕ) (c b : List ℕ) (i j f : ℕ) (e : f
       let x = plain-one (m - 1) 0 j (rw v (measuring_none lens l t a 0 m c b i j g)) (λ x y. plain-left (m - 1) x y) in
       rw (v, zero-add (m * k)) at x
 
-pub elements-plain : (lens l : List ℕ) (t a m f : ℕ) → Row lens l t a 0 m → 0 < m → f ≡ word_at l a → (n : Node) → n ≡ node_of l f →
-    is_plain n.kind ≡ true → AllPlain (row_of l t a 0 m) (m * get_or lens f 0)
+pub elements-plain : (lens l : List ℕ) (t a m f : ℕ) → Row lens l t a 0 m → 0 < m → f ≡ word_at l a → (x : Kind) →
+    x ≡ (node_of l f).kind → is_plain x ≡ true → AllPlain (row_of l t a 0 m) (m * get_or lens f 0)
 unfolding AllPlain
-elements-plain lens l t a m f g z e n d u =
+elements-plain lens l t a m f g z e x d u =
     let k = get_or lens f 0 in
-    let p = plain-field lens l t a 0 m f g z e k refl n d u in
+    let p = plain-field lens l t a 0 m f g z e k refl x d u in
     λ c b i j. plain-measured lens l t a m c b i j f e k refl p g z

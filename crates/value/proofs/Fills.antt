@@ -1,5 +1,6 @@
 -- Bytes stored one after another, and fields stored at two places: heads in the fixed portion, bodies behind it. Assumes nothing.
 use mathlib.Core.Path.{◌≡◌, refl, sym, ap, ◌∙◌}
+use mathlib.Core.Bool.{true}
 use mathlib.Core.List.{List, [], ◌∷◌, ◌++◌}
 use Prim.Native.Nat.{ℕ, suc, ◌+◌, ◌-◌, ◌*◌, ◌/◌, ◌%◌, ◌≤◌, ◌<◌, ◌^◌}
 use native.Mathlib.Nat.{zero-add, div-eq_of_lt}
@@ -18,6 +19,7 @@ use Rattle.standard.proofs.Store.{sets-append}
 use Rattle.standard.proofs.Join.{length-fronts, length-join}
 use Rattle.bitfield.proofs.Places.{bit-on, one_shifted}
 use Rattle.layout.specs.Tree.{node_of, leaf_of, tree_of, head_of}
+use Rattle.layout.specs.Kinds.{is_leaf}
 use Rattle.layout.specs.declared.Node.{Node}
 use Rattle.layout.proofs.Facts.{as_leaf}
 use Rattle.layout.proofs.Trees.{legal_tree}
@@ -272,7 +274,7 @@ unfolding portion
 adding-end lens l t a₀ step n a left sum g h = omega (arith, rw (heads-none l t a step left h) at g.same)
 
 -- A leaf.
-module _ (l : List ℕ) (t : ℕ) (n : Node) (e : n ≡ node_of l t) (h : n.kind < 6) (c b : List ℕ) (i j : ℕ) where
+module _ (l : List ℕ) (t : ℕ) (n : Node) (e : n ≡ node_of l t) (h : is_leaf n.kind ≡ true) (c b : List ℕ) (i j : ℕ) where
   pub tree_walk : walk_item (tree_of l t) c b i j ≡ walk_item (leaf_of 0 n) c b i j
   tree_walk = ap (λ (x : Ty). walk_item x c b i j) (as_leaf l t n e h) ∙ leaf-walk t n c b i j
 

@@ -4,16 +4,17 @@ use mathlib.Core.List.{List}
 use mathlib.Core.Bool.{Bool, true, false}
 use Prim.Native.Nat.{ℕ, ◌+◌, ◌-◌, ◌/◌, ◌≤◌, ◌<◌, ◌^◌}
 use native.Mathlib.Omega.{arith}
-use borrow.Author.Tests.{leb-true, ltb-true, eqb-true, eqb-false, ne_eqb}
+use borrow.Author.Tests.{leb-true, ltb-true}
 use lib.ListN.{length, get_or}
-use lib.Dec.{eqb, ltb, leb}
+use lib.Dec.{ltb, leb}
 use Rattle.standard.specs.Choice.{pick}
 use Rattle.standard.specs.Bytes.{Room}
 use Rattle.standard.specs.Types.{number, boolean, fixed_bytes, free_bytes, bit_vector, bit_list, head}
 use Rattle.standard.specs.declared.Head.TheVariants.{Variable}
 use Rattle.standard.specs.declared.Refusal.{Refusal}
 use Rattle.standard.specs.declared.Refusal.TheVariants.{BadValue}
-use Rattle.layout.specs.Tree.{leaf_of}
+use Rattle.layout.specs.Tree.{leaf_with, leaf_of}
+use Rattle.layout.specs.declared.Kind.{Kind}
 use Rattle.layout.specs.declared.Node.{Node}
 use Rattle.message.specs.Read.{raw_bytes_lem}
 use Rattle.value.specs.Walk.{Walked, upto, wrong, with_word, with_body, last_bits, walk_bits, walk_item}
@@ -99,41 +100,42 @@ module _ (t : ℕ) (c b : List ℕ) (i j : ℕ) where
       let q = bits-upto b k (i + 1) j (rw p.2 at h) in
       (record { walk = p.2 ∙ q.0; write = refl; there = q.1; last = q.2 }, p.0, leb-true _ _ p.1)
 
--- A leaf of variable size is of kind 3 or 5.
-leaf_variable : (t : ℕ) (n : Node) → head (leaf_of t n) ≡ Variable → (n.kind ≡ 3 → ⊥) → leaf_of t n ≡ bit_list t n.second
-unfolding leaf_of head
-leaf_variable t n h z =
-    let e = ne_eqb n.kind 3 z in
-    rw e (go (eqb n.kind 0) (eqb n.kind 1) (eqb n.kind 2) (eqb n.kind 4) (rw e at h))
-  where
-    go : (p q r s : Bool) → head (pick p (number t n.second) (pick q (boolean t) (pick r (fixed_bytes t n.second) (pick s (bit_vector t n.second)
-        (bit_list t n.second))))) ≡ Variable →
-        pick p (number t n.second) (pick q (boolean t) (pick r (fixed_bytes t n.second) (pick s (bit_vector t n.second) (bit_list t n.second))))
-        ≡ bit_list t n.second
-    go true q r s e = let w : ◌≡◌ {A = ℕ} 0 1 = cc in absurd (omega arith)
-    go false true r s e = let w : ◌≡◌ {A = ℕ} 0 1 = cc in absurd (omega arith)
-    go false false true s e = let w : ◌≡◌ {A = ℕ} 0 1 = cc in absurd (omega arith)
-    go false false false true e = let w : ◌≡◌ {A = ℕ} 0 1 = cc in absurd (omega arith)
-    go false false false false e = refl
+-- A leaf of variable size is free bytes or a bit list.
+module _ (n : Node) (v : head (leaf_of 0 n) ≡ Variable) where
+  leaf_list : (n.kind ≡ Kind.FreeBytes → ⊥) → leaf_of 0 n ≡ bit_list 0 n.second
+  unfolding leaf_of head
+  leaf_list = go n.kind v
+    where
+      go : (k : Kind) → head (leaf_with k 0 n.second) ≡ Variable → (k ≡ Kind.FreeBytes → ⊥) → leaf_with k 0 n.second ≡ bit_list 0 n.second
+      go Kind.Number e z = absurd (cc)
+      go Kind.Boolean e z = absurd (cc)
+      go Kind.FixedBytes e z = absurd (cc)
+      go Kind.FreeBytes e z = absurd (z refl)
+      go Kind.BitVector e z = absurd (cc)
+      go k e z = refl
 
--- Free bytes or a bit list: what its walk says.
-module _ (n : Node) (c b : List ℕ) (i j : ℕ) (h : IsUpto (walk_item (leaf_of 0 n) c b i j)) where
-  pub kind_free : n.kind ≡ 3 →
-      PartForm (walk_item (leaf_of 0 n) c b i j) (write_item_lem (leaf_of 0 n) c b i j) b (i + 1) j (get_or c i 0) × (i < length c)
-  unfolding leaf_of
-  kind_free k = let p = free_form 0 c b i j n.second (rw k at h) in (rw k p.0, p.1)
+  -- What its walk says
+  module _ (c b : List ℕ) (i j : ℕ) (h : IsUpto (walk_item (leaf_of 0 n) c b i j)) where
+    pub kind_free : n.kind ≡ Kind.FreeBytes →
+        PartForm (walk_item (leaf_of 0 n) c b i j) (write_item_lem (leaf_of 0 n) c b i j) b (i + 1) j (get_or c i 0)
+    unfolding leaf_of
+    kind_free k = let p = free_form 0 c b i j n.second (rw k at h) in rw k p.0
 
-  module _ (v : head (leaf_of 0 n) ≡ Variable) where
-    pub kind-bits : (n.kind ≡ 3 → ⊥) →
-        ListForm (walk_item (leaf_of 0 n) c b i j) (write_item_lem (leaf_of 0 n) c b i j) b (i + 1) j (get_or c i 0) × (i < length c)
-    kind-bits z = let e = leaf_variable 0 n v z in let p = list-form 0 c b i j n.second (rw e at h) in (rw e p.0, p.1)
+    pub kind-bits : (n.kind ≡ Kind.FreeBytes → ⊥) →
+        ListForm (walk_item (leaf_of 0 n) c b i j) (write_item_lem (leaf_of 0 n) c b i j) b (i + 1) j (get_or c i 0)
+    kind-bits z = let e = leaf_list z in let p = list-form 0 c b i j n.second (rw e at h) in rw e p.0
 
     pub kind-word : i < length c
-    kind-word = go (eqb n.kind 3) refl
+    unfolding leaf_of head
+    kind-word = go n.kind v h
       where
-        go : (p : Bool) → eqb n.kind 3 ≡ p → i < length c
-        go true e = (kind_free (eqb-true _ _ e)).1
-        go false e = (kind-bits (eqb-false _ _ e)).1
+        go : (k : Kind) → head (leaf_with k 0 n.second) ≡ Variable → IsUpto (walk_item (leaf_with k 0 n.second) c b i j) → i < length c
+        go Kind.Number e u = absurd (cc)
+        go Kind.Boolean e u = absurd (cc)
+        go Kind.FixedBytes e u = absurd (cc)
+        go Kind.FreeBytes e u = (free_form 0 c b i j n.second u).1
+        go Kind.BitVector e u = absurd (cc)
+        go k e u = (list-form 0 c b i j n.second u).1
 
 -- What storing body bytes, or a bit list, asks and gives.
 module _ {w : Walked} {x b : List ℕ} {m j n : ℕ} {o : List ℕ} {at : ℕ} where

@@ -2,20 +2,20 @@
 -- by their length alone. Assumes nothing.
 use mathlib.Core.Path.{◌≡◌, refl, sym, ap, ◌∙◌}
 use mathlib.Core.List.{List}
-use mathlib.Core.Bool.{Bool, true, false}
-use mathlib.Core.Logic.{◌⊎◌, inl, inr, ⊎_elim}
+use mathlib.Core.Bool.{true, false}
 use Prim.Native.Nat.{ℕ, ◌+◌, ◌-◌, ◌≤◌, ◌<◌}
 use native.Mathlib.Omega.{arith}
-use borrow.Author.Tests.{eqb-true, leb-true}
+use borrow.Author.Tests.{leb-true}
 use lib.ListN.{length, get_or}
-use lib.Dec.{eqb, leb}
-use Rattle.standard.specs.Choice.{pick}
+use lib.Dec.{leb}
 use Rattle.standard.specs.Bytes.{Room, word_at}
 use Rattle.standard.specs.Types.{Ty, number, fixed_bytes, head}
 use Rattle.standard.specs.Parts.{join}
 use Rattle.standard.specs.declared.Head.TheVariants.{Fixed, Variable}
 use Rattle.standard.specs.declared.Refusal.TheVariants.{BadValue}
-use Rattle.layout.specs.Tree.{node_of, tree_of, leaf_of, len_of, head_of}
+use Rattle.layout.specs.Tree.{node_of, tree_of, leaf_with, leaf_of, len_of, head_of}
+use Rattle.layout.specs.Kinds.{is_leaf}
+use Rattle.layout.specs.declared.Kind.{Kind}
 use Rattle.layout.specs.declared.Node.{Node}
 use Rattle.layout.proofs.Facts.{as_leaf}
 use Rattle.message.specs.Steps.{Under, Row, row_of, is_plain}
@@ -34,8 +34,8 @@ use Rattle.std.specs.declared.result.Result.{Result}
 use Rattle.std.specs.declared.result.Result.TheVariants.{Err}
 use Rattle.standard.specs.declared.Refusal.{Refusal}
 
--- A kind below 6 has no lower types, and the number of its type is no matter.
-module _ (l : List ℕ) (f : ℕ) (n : Node) (e : n ≡ node_of l f) (h : n.kind < 6) where
+-- A leaf has no lower types, and the number of its type is no matter.
+module _ (l : List ℕ) (f : ℕ) (n : Node) (e : n ≡ node_of l f) (h : is_leaf n.kind ≡ true) where
   module _ (c b : List ℕ) (i j : ℕ) where
     below-walk : walk_item (tree_of l f) c b i j ≡ walk_item (leaf_of 0 n) c b i j
     below-walk = tree_walk l f n e h c b i j
@@ -74,25 +74,20 @@ fixed_plain : (t k : ℕ) → Plain (fixed_bytes t k) k
 unfolding head walk_item write_item_lem
 fixed_plain t k = record { head = refl; walk = λ c b i j. refl; write = λ c b i j. refl }
 
-plain-kind : (k : ℕ) → is_plain k ≡ true → (k ≡ 0) ⊎ (k ≡ 2)
+plain-leaf : (t w : ℕ) (k : Kind) → is_plain k ≡ true → Plain (leaf_with k t w) w × (is_leaf k ≡ true)
 unfolding is_plain
-plain-kind k h = go (eqb k 0) refl h
-  where
-    go : (c : Bool) → eqb k 0 ≡ c → pick c true (eqb k 2) ≡ true → (k ≡ 0) ⊎ (k ≡ 2)
-    go true e h = inl (eqb-true _ _ e)
-    go false e h = inr (eqb-true _ _ h)
-
-plain-leaf : (t : ℕ) (n : Node) → (n.kind ≡ 0) ⊎ (n.kind ≡ 2) → Plain (leaf_of t n) n.second
-unfolding leaf_of
-plain-leaf t n h = ⊎_elim (λ (k : n.kind ≡ 0). rw k (number-plain t n.second)) (λ (k : n.kind ≡ 2). rw k (fixed_plain t n.second)) h
+plain-leaf t w Kind.Number h = (number-plain t w, refl)
+plain-leaf t w Kind.FixedBytes h = (fixed_plain t w, refl)
+plain-leaf t w k h = absurd (cc)
 
 -- The length of a plain field is what the table says.
 module _ (lens l : List ℕ) (t a step left f : ℕ) (g : Row lens l t a step left) (z : 0 < left) (e : f ≡ word_at l a) (k : ℕ) (q : k ≡ get_or lens f 0) where
-  pub plain-field : (n : Node) → n ≡ node_of l f → is_plain n.kind ≡ true → Plain (tree_of l f) k
-  plain-field n d h =
-      let s = plain-kind n.kind h in
-      let b : n.kind < 6 = ⊎_elim (λ (p : n.kind ≡ 0). omega arith) (λ (p : n.kind ≡ 2). omega arith) s in
-      let x : Plain (tree_of l f) n.second = rw (as_leaf l f n d b) (plain-leaf f n s) in
+  pub plain-field : (x : Kind) → x ≡ (node_of l f).kind → is_plain x ≡ true → Plain (tree_of l f) k
+  unfolding leaf_of
+  plain-field x d h =
+      let n = node_of l f in
+      let s = plain-leaf f n.second n.kind (rw d at h) in
+      let x : Plain (tree_of l f) n.second = rw (as_leaf l f n refl s.1) s.0 in
       let y : k ≡ n.second = q ∙ g.under.found f (row_below lens l t a step left f g z e) ∙ ap len_of x.head in
       rw y x
 

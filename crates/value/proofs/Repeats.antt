@@ -1,6 +1,7 @@
 -- A list or vector in a legal table is walked and written as a row of fields that share one word, and a container as a row of fields
 -- with a word each. Assumes nothing.
 use mathlib.Core.Path.{◌≡◌, refl, sym, ap, ◌∙◌}
+use mathlib.Core.Bool.{true, false}
 use mathlib.Core.List.{List}
 use mathlib.Core.Logic.{◌⊎◌, inl, inr}
 use Prim.Native.Nat.{ℕ, zero, suc, ◌+◌, ◌*◌, ◌<◌, ◌≤◌, ◌^◌}
@@ -15,16 +16,18 @@ use Rattle.standard.specs.declared.Head.{Head}
 use Rattle.standard.proofs.Elements.{portion-copies}
 use Rattle.layout.specs.Tree.{node_of, tree_of, filled}
 use Rattle.layout.specs.Legal.{Legal}
+use Rattle.layout.specs.Kinds.{is_leaf, has_element}
+use Rattle.layout.specs.declared.Kind.{Kind}
 use Rattle.layout.specs.declared.Node.{Node}
 use Rattle.layout.proofs.Facts.{as_list_lem, as_vector, legal_node, filled-get, length-filled}
 use Rattle.message.specs.Steps.{Under, Row, row_of}
 use Rattle.message.proofs.Rows.{row_below, row-fixed, row_variable, heads-none}
 use Rattle.message.proofs.Bodies.{container-row}
-use Rattle.message.proofs.Repeats.{else_list, element-below, element-copies, element-row, shared-copies, shared-heads}
+use Rattle.message.proofs.Repeats.{element-below, element-copies, element-row, shared-copies, shared-heads}
 use Rattle.std.specs.declared.result.Result.TheVariants.{Ok, Err}
 use Rattle.value.specs.Walk.{with_word, walk_item, walk_fields}
 use Rattle.value.specs.Write.{write_item_lem, parts_from}
-use Rattle.value.specs.Steps.{counted, LaidAs}
+use Rattle.value.specs.Steps.{counted, fields_of, elements_of, LaidAs}
 use Rattle.value.specs.Stores.{Together}
 use Rattle.value.specs.declared.laid.Laid.{Laid}
 use Rattle.standard.specs.declared.Refusal.{Refusal}
@@ -33,9 +36,9 @@ use Rattle.value.proofs.Copies.{walk-copies, parts-copies}
 use Rattle.value.proofs.Fixed.{copies-fixed}
 use Rattle.value.proofs.Rows.{container-walk, container-write}
 
-module _ (lens l : List ℕ) (t : ℕ) (n : Node) (e : n ≡ node_of l t) (g : Under lens l (t + 1)) (k : 8 ≤ n.kind) (c b : List ℕ) (i j : ℕ) where
+module _ (lens l : List ℕ) (t : ℕ) (n : Node) (e : n ≡ node_of l t) (g : Under lens l (t + 1)) (k : has_element n.kind ≡ true) (c b : List ℕ) (i j : ℕ) where
   -- A list: its count, and its elements behind it
-  module _ (q : n.kind ≡ 8) where
+  module _ (q : n.kind ≡ Kind.List) where
     list_tree : tree_of l t ≡ list t (tree_of l n.second) (word_at l (n.at + 2))
     list_tree = as_list_lem l t n e q (element-below lens l t n e g k)
 
@@ -52,7 +55,7 @@ module _ (lens l : List ℕ) (t : ℕ) (n : Node) (e : n ≡ node_of l t) (g : U
         rw (list_tree, element-copies lens l t n e g k (get_or c i 0)) (ap join (parts-copies (tree_of l n.second) c b (get_or c i 0) (i + 1) j))
 
   -- A vector: its elements alone
-  module _ (q : n.kind ≡ 9) where
+  module _ (q : n.kind ≡ Kind.Vector) where
     vector_tree : tree_of l t ≡ vector t (tree_of l n.second) (word_at l (n.at + 2))
     vector_tree = as_vector l t n e q (element-below lens l t n e g k)
 
@@ -70,7 +73,7 @@ module _ (l : List ℕ) (t : ℕ) (g : Legal l (t + 1)) (f : t < 64) (n : Node) 
   under : Under (filled l (t + 1)) l (t + 1)
   under = record { legal = g; few = omega arith; room = length-filled l (t + 1) (omega arith); found = λ x h. filled-get l (t + 1) x h }
 
-  pub laid-container : n.kind ≡ 6 → LaidAs l t c i (Ok (Laid.Row (record { of = t; first = n.at + 2; step = 1; many = n.second }) i))
+  pub laid-container : n.kind ≡ Kind.Container → LaidAs l t c i (Ok (Laid.Row (fields_of t n) i))
   laid-container q =
       record {
         own = refl;
@@ -80,39 +83,44 @@ module _ (l : List ℕ) (t : ℕ) (g : Legal l (t + 1)) (f : t < 64) (n : Node) 
         write = λ b j. container-write l t n e q c b i j;
       }
 
-  module _ (k : 8 ≤ n.kind) where
-    module _ (m : ℕ) (d : m ≡ word_at l (n.at + 2)) where
-      pub laid-vector : n.kind ≡ 9 → m < 2 ^ 32 → LaidAs l t c i (Ok (Laid.Row (record { of = t; first = n.at + 1; step = 0; many = m }) i))
-      laid-vector q h =
+  module _ (m : ℕ) (d : m ≡ word_at l (n.at + 2)) (h : m < 2 ^ 32) where
+    pub laid-vector : n.kind ≡ Kind.Vector → LaidAs l t c i (Ok (Laid.Row (elements_of t n m) i))
+    laid-vector q =
+        let k : has_element n.kind ≡ true = ap has_element q in
+        record {
+          own = refl;
+          row = λ lens u. element-row lens l t n e u k m h;
+          small = h;
+          walk = λ b j. rw d (vector-walk (filled l (t + 1)) l t n e under k c b i j q);
+          write = λ b j. rw d (vector-write (filled l (t + 1)) l t n e under k c b i j q);
+        }
+
+    module _ (q : n.kind ≡ Kind.List) where
+      has : has_element n.kind ≡ true
+      has = ap has_element q
+
+      pub laid-uncounted : (r : Refusal) → Err r ≡ counted c i m → LaidAs l t c i (Err r)
+      laid-uncounted r x b j = list-walk (filled l (t + 1)) l t n e under has c b i j q ∙ rw (← d) (counted-wrong c i m r x _)
+
+      pub laid-list : (x : ℕ) → Ok x ≡ counted c i m → LaidAs l t c i (Ok (Laid.Row (elements_of t n x) (i + 1)))
+      laid-list x y =
+          let z = counted-there c i m x y in
+          let s : x < 2 ^ 32 = omega arith in
           record {
             own = refl;
-            row = λ lens u. element-row lens l t n e u k m h;
-            small = h;
-            walk = λ b j. rw d (vector-walk (filled l (t + 1)) l t n e under k c b i j q);
-            write = λ b j. rw d (vector-write (filled l (t + 1)) l t n e under k c b i j q);
+            row = λ lens u. element-row lens l t n e u has x s;
+            small = s;
+            walk = λ b j. rw (list-walk (filled l (t + 1)) l t n e under has c b i j q, lt-ltb i (length c) z.0, ← d, ← z.1, le-leb x m z.2);
+            write = λ b j. rw z.1 (list-write (filled l (t + 1)) l t n e under has c b i j q);
           }
 
-      module _ (z : n.kind ≡ 9 → ⊥) where
-        kind-list : n.kind ≡ 8
-        kind-list = else_list (filled l (t + 1)) l t n e under k z
-
-        pub laid-uncounted : (r : Refusal) → Err r ≡ counted c i m → LaidAs l t c i (Err r)
-        laid-uncounted r h b j =
-            list-walk (filled l (t + 1)) l t n e under k c b i j kind-list ∙ rw (← d) (counted-wrong c i m r h _)
-
-        pub laid-list : (x : ℕ) → Ok x ≡ counted c i m → m < 2 ^ 32 →
-            LaidAs l t c i (Ok (Laid.Row (record { of = t; first = n.at + 1; step = 0; many = x }) (i + 1)))
-        laid-list x h g =
-            let q = counted-there c i m x h in
-            let s : x < 2 ^ 32 = omega arith in
-            record {
-              own = refl;
-              row = λ lens u. element-row lens l t n e u k x s;
-              small = s;
-              walk = λ b j.
-                  rw (list-walk (filled l (t + 1)) l t n e under k c b i j kind-list, lt-ltb i (length c) q.0, ← d, ← q.1, le-leb x m q.2);
-              write = λ b j. rw q.1 (list-write (filled l (t + 1)) l t n e under k c b i j kind-list);
-            }
+-- What has lower types and is no container, union or vector is a list.
+pub other_list : (k : Kind) → is_leaf k ≡ false → (k ≡ Kind.Container → ⊥) → (k ≡ Kind.Union → ⊥) → (k ≡ Kind.Vector → ⊥) → k ≡ Kind.List
+other_list Kind.Container h x y z = absurd (x refl)
+other_list Kind.Union h x y z = absurd (y refl)
+other_list Kind.List h x y z = refl
+other_list Kind.Vector h x y z = absurd (z refl)
+other_list k h x y z = absurd (cc)
 
 -- Elements of fixed size are of their length together, others have an offset each.
 some_factor : (n k : ℕ) → 0 < n * k → 0 < k

@@ -13,6 +13,7 @@ use Rattle.standard.specs.declared.Head.TheVariants.{Fixed, Variable}
 use Rattle.standard.specs.declared.Refusal.{Refusal}
 use Rattle.standard.proofs.Join.{length-join}
 use Rattle.layout.specs.Tree.{node_of, tree_of, head_of}
+use Rattle.layout.specs.declared.Kind.{Kind}
 use Rattle.layout.specs.declared.Node.{Node}
 use Rattle.message.specs.Steps.{Row, row_of}
 use Rattle.message.proofs.Rows.{row-none, row_first, row_next, row-head, container_tree}
@@ -104,7 +105,7 @@ measuring_end lens l t a₀ step n c b i₀ j₀ sum a left i j g h =
     ∙ rw (none_walk l t a step left c b i j h, none-parts l t a step left c b i j h) at g.same
 
 -- A container.
-module _ (l : List ℕ) (t : ℕ) (r : Node) (e : r ≡ node_of l t) (k : r.kind ≡ 6) (c b : List ℕ) (i j : ℕ) where
+module _ (l : List ℕ) (t : ℕ) (r : Node) (e : r ≡ node_of l t) (k : r.kind ≡ Kind.Container) (c b : List ℕ) (i j : ℕ) where
   pub container-walk : walk_item (tree_of l t) c b i j ≡ walk_fields (row_of l t (r.at + 2) 1 r.second) c b i j
   unfolding walk_item
   container-walk = rw (container_tree l t r e k)

@@ -11,8 +11,9 @@ use Rattle.standard.specs.Choice.{pick}
 use Rattle.standard.specs.Bytes.{word_at}
 use Rattle.standard.specs.Types.{Ty, Opts, number, boolean, fixed_bytes, free_bytes, bit_vector, bit_list, over, bare, body, head}
 use Rattle.standard.specs.declared.Refusal.TheVariants.{BadValue}
-use Rattle.layout.specs.Tree.{node_of, leaf_of, options, trees, tree_of}
+use Rattle.layout.specs.Tree.{node_of, leaf_with, leaf_of, options, trees, tree_of}
 use Rattle.layout.specs.Legal.{LowerOrBare, LegalNode, Legal}
+use Rattle.layout.specs.declared.Kind.{Kind}
 use Rattle.layout.specs.declared.Node.{Node}
 use Rattle.layout.proofs.Facts.{trees-get, as_union, legal_node}
 use Rattle.std.specs.declared.result.Result.{Result}
@@ -159,7 +160,7 @@ module _ (l : List ℕ) (a n : ℕ) (c : List ℕ) (i : ℕ) where
       go false q r = refl
 
 -- A union of the table: what `select` answers is what its item is made of.
-module _ (l : List ℕ) (t : ℕ) (r : Node) (e : r ≡ node_of l t) (k : r.kind ≡ 7) (g : Legal l (t + 1)) (c : List ℕ) (i : ℕ) where
+module _ (l : List ℕ) (t : ℕ) (r : Node) (e : r ≡ node_of l t) (k : r.kind ≡ Kind.Union) (g : Legal l (t + 1)) (c : List ℕ) (i : ℕ) where
   union-walk : (b : List ℕ) (j : ℕ) → walk_item (tree_of l t) c b i j ≡ pick (ltb i (length c))
       (walk_found c b i j (pick (ltb (get_or c i 0) r.second) (found_at (trees l t) (word_at l (r.at + 2 + get_or c i 0))) nothing))
       (wrong (BadValue 0 (length c)))
@@ -215,20 +216,15 @@ module _ (t : ℕ) (n : Node) where
       ((w : ℕ) → f (fixed_bytes t w) ≡ f (fixed_bytes 0 w)) → ((w : ℕ) → f (free_bytes t w) ≡ f (free_bytes 0 w)) →
       ((w : ℕ) → f (bit_vector t w) ≡ f (bit_vector 0 w)) → ((w : ℕ) → f (bit_list t w) ≡ f (bit_list 0 w)) → f (leaf_of t n) ≡ f (leaf_of 0 n)
   unfolding leaf_of
-  leaf_any f x0 x1 x2 x3 x4 x5 = go (eqb n.kind 0) (eqb n.kind 1) (eqb n.kind 2) (eqb n.kind 3) (eqb n.kind 4)
+  leaf_any f x0 x1 x2 x3 x4 x5 = go n.kind
     where
-      s : ℕ
-      s = n.second
-
-      go : (p q r u v : Bool) → f (pick p (number t s) (pick q (boolean t)
-          (pick r (fixed_bytes t s) (pick u (free_bytes t s) (pick v (bit_vector t s) (bit_list t s)))))) ≡
-          f (pick p (number 0 s) (pick q (boolean 0) (pick r (fixed_bytes 0 s) (pick u (free_bytes 0 s) (pick v (bit_vector 0 s) (bit_list 0 s))))))
-      go true q r u v = x0 s
-      go false true r u v = x1
-      go false false true u v = x2 s
-      go false false false true v = x3 s
-      go false false false false true = x4 s
-      go false false false false false = x5 s
+      go : (k : Kind) → f (leaf_with k t n.second) ≡ f (leaf_with k 0 n.second)
+      go Kind.Number = x0 n.second
+      go Kind.Boolean = x1
+      go Kind.FixedBytes = x2 n.second
+      go Kind.FreeBytes = x3 n.second
+      go Kind.BitVector = x4 n.second
+      go k = x5 n.second
 
   pub leaf-walk : (c b : List ℕ) (i j : ℕ) → walk_item (leaf_of t n) c b i j ≡ walk_item (leaf_of 0 n) c b i j
   unfolding walk_item

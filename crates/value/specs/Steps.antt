@@ -8,6 +8,7 @@ use Rattle.standard.specs.declared.Head.{Head}
 use Rattle.standard.specs.declared.Head.TheVariants.{Fixed, Variable}
 use Rattle.standard.specs.declared.Refusal.TheVariants.{BadValue}
 use Rattle.layout.specs.Tree.{tree_of}
+use Rattle.layout.specs.declared.Node.{Node}
 use Rattle.message.specs.Steps.{Under, Row, row_of}
 use Rattle.value.specs.Walk.{Walked, upto, wrong, with_body, walk_item, walk_fields}
 use Rattle.value.specs.Write.{write_item_lem, parts_from}
@@ -66,6 +67,13 @@ choose l a n c i =
 abbrev pub IsUpto : Walked → Type 0
 IsUpto (upto i j) = Unit {0}
 IsUpto (wrong r) = ⊥
+
+-- The fields of a container t of which the table says n, and m elements of a list or vector
+abbrev pub fields_of : ℕ → Node → Members
+fields_of t n = record { of = t; first = n.at + 2; step = 1; many = n.second }
+
+abbrev pub elements_of : ℕ → Node → ℕ → Members
+elements_of t n m = record { of = t; first = n.at + 1; step = 0; many = m }
 
 -- Fields or elements that can be read, their types, and the heads of those
 abbrev pub InRow : List ℕ → List ℕ → Members → Type 0

@@ -1,13 +1,14 @@
 // What an item of a type with lower types is made of: a container, list or vector is a row of fields or elements, a union one option.
-ghost use Rattle.std.specs.Prelude.{◌≡◌, ◌+◌, ◌≤◌, ◌<◌, ◌^◌};
+ghost use Rattle.std.specs.Prelude.{◌≡◌, ◌+◌, ◌≤◌, ◌<◌, ◌^◌, false};
 ghost use Rattle.layout.specs.Tree.{node_of};
+ghost use Rattle.layout.specs.Kinds.{is_leaf};
 ghost use Rattle.layout.specs.Legal.{Legal};
 ghost use Rattle.value.specs.Steps.{choose, laid_of, laid_at, LaidAs};
 
 use crate::form::Form;
 use crate::table::{Members, Table};
 use decode::union_selector::UnionSelector;
-use layout::{NO_BODY, Node};
+use layout::{Kind, NO_BODY, Node};
 use standard::Refusal;
 use standard::words::word_at;
 
@@ -63,45 +64,26 @@ fn select(layout: &[u8], a: usize, n: usize, form: Form, i: usize) -> Result<Lai
 // What the item of the type t is made of, whose words are n: t only says whose. A vector's count is in the table, a list's is the contents
 // word before its elements.
 pub(crate) fn lay(table: Table, t: usize, n: Node, form: Form, i: usize) -> Result<Laid, Refusal>
-    requires { Legal table.layout.now (t + 1) × (t < 64) × (n ≡ node_of table.layout.now t) × (6 ≤ n.kind) }
+    requires { Legal table.layout.now (t + 1) × (t < 64) × (n ≡ node_of table.layout.now t) × (is_leaf n.kind ≡ false) }
     ensures { LaidAs table.entry.layout.now t form.entry.contents.now i result }
 {
     let third = n.at + 2;
-    if n.kind == 6 {
-        return Ok(Laid::Row {
-            members: Members {
-                of: t,
-                first: third,
-                step: 1,
-                many: n.second,
-            },
+    match n.kind {
+        Kind::Container => Ok(Laid::Row {
+            members: Members::fields(t, n),
             word: i,
-        });
-    }
-    if n.kind == 7 {
-        return select(table.layout, third, n.second, form, i);
-    }
-    let most = table.word(third);
-    let first = n.at + 1;
-    if n.kind == 9 {
-        return Ok(Laid::Row {
-            members: Members {
-                of: t,
-                first,
-                step: 0,
-                many: most,
-            },
+        }),
+        Kind::Union => select(table.layout, third, n.second, form, i),
+        Kind::Vector => Ok(Laid::Row {
+            members: Members::elements(t, n, table.word(third)),
             word: i,
-        });
+        }),
+        _ => {
+            let many = form.count_at(i, table.word(third))?;
+            Ok(Laid::Row {
+                members: Members::elements(t, n, many),
+                word: i + 1,
+            })
+        }
     }
-    let many = form.count_at(i, most)?;
-    Ok(Laid::Row {
-        members: Members {
-            of: t,
-            first,
-            step: 0,
-            many,
-        },
-        word: i + 1,
-    })
 }

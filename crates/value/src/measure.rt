@@ -11,8 +11,8 @@ ghost use Rattle.value.specs.Steps.{InRow, types_in, cap, measured, measured_ite
 
 use crate::form::{Form, Place};
 use crate::laid::{Laid, lay};
-use crate::table::{Members, Table};
-use layout::Node;
+use crate::table::{Members, Table, is_leaf};
+use layout::{Kind, Node};
 use standard::Refusal;
 
 // From here on a length is too large, whatever it is.
@@ -40,10 +40,10 @@ pub(crate) fn raw_bytes(bits: usize) -> usize
 
 // A number or fixed bytes: as many body bytes as the type's length says, and no contents word.
 #[tactic(auto, unfolding(message::specs::Steps::is_plain))]
-fn is_plain(kind: usize) -> bool
+fn is_plain(kind: Kind) -> bool
     ensures { result ≡ is_plain kind }
 {
-    kind == 0 || kind == 2
+    matches!(kind, Kind::Number | Kind::FixedBytes)
 }
 
 // A number or fixed bytes: n bytes.
@@ -134,10 +134,10 @@ fn measure_leaf(n: Node, form: Form, at: Place) -> Result<Mark, Refusal>
 {
     let second = n.second;
     match n.kind {
-        0 | 2 => measure_exact(form, at, second),
-        1 => measure_boolean(form, at),
-        3 => measure_free(form, at, second),
-        4 => measure_bits(form, second, at, raw_bytes(second)),
+        Kind::Number | Kind::FixedBytes => measure_exact(form, at, second),
+        Kind::Boolean => measure_boolean(form, at),
+        Kind::FreeBytes => measure_free(form, at, second),
+        Kind::BitVector => measure_bits(form, second, at, raw_bytes(second)),
         _ => measure_list(form, at, second),
     }
 }
@@ -170,8 +170,7 @@ fn plain_bytes(table: Table, row: Members) -> usize
         return 0;
     }
     let f = table.word(row.first);
-    let e = table.look(f);
-    if !is_plain(e.kind) {
+    if !is_plain(table.kind(f)) {
         return 0;
     }
     row.many * (table.lens[f] as usize)
@@ -184,7 +183,7 @@ pub(crate) fn measure_item(table: Table, t: usize, form: Form, at: Place) -> Res
     ensures { result ≡ measured_item (tree_of table.entry.layout.now t) form.entry.contents.now form.entry.bodies.now at.word at.byte }
 {
     let n = table.look(t);
-    if n.kind < 6 {
+    if is_leaf(n.kind) {
         return measure_leaf(n, form, at);
     }
     match lay(table, t, n, form, at.word)? {
@@ -214,8 +213,8 @@ pub(crate) fn measure_item(table: Table, t: usize, form: Form, at: Place) -> Res
     }
 }
 
-// Measures the forms of the fields or elements, from the place `start` on. Most are numbers or fixed bytes, which need no call, and another
-// kind below 6 has no lower types: only what has lower types is measured as an item.
+// Measures the forms of the fields or elements, from the place `start` on. Most are numbers or fixed bytes, which need no call: only what has
+// lower types is measured as an item.
 #[cycle(measure_fields_measure_item)]
 fn measure_fields(table: Table, row: Members, form: Form, start: Place) -> Result<Mark, Refusal>
     requires { InRow table.lens.now table.layout.now row }
@@ -226,10 +225,9 @@ fn measure_fields(table: Table, row: Members, form: Form, start: Place) -> Resul
     let mut at = start;
     for _ in 0..row.many {
         let f = table.word(a);
-        let n = table.look(f);
         let k = table.lens[f] as usize;
         a += row.step;
-        if is_plain(n.kind) {
+        if is_plain(table.kind(f)) {
             if !form.has(at.byte, k) {
                 return Err(form.short());
             }
@@ -237,7 +235,8 @@ fn measure_fields(table: Table, row: Members, form: Form, start: Place) -> Resul
             len = add(len, k);
             continue;
         }
-        let r = if n.kind < 6 {
+        let n = table.look(f);
+        let r = if is_leaf(n.kind) {
             measure_leaf(n, form, at)
         } else {
             measure_item(table, f, form, at)

@@ -17,8 +17,8 @@ ghost use Rattle.value.specs.Stores.{Put, Together, Fields};
 use crate::form::{Form, Place};
 use crate::laid::{Laid, lay};
 use crate::measure::raw_bytes;
-use crate::table::{Members, Table};
-use layout::Node;
+use crate::table::{Members, Table, is_leaf};
+use layout::{Kind, Node};
 use standard::words::put_four;
 
 // How far the form is used, and where what was written ends.
@@ -88,10 +88,10 @@ fn put_leaf(out: &mut [u8], to: usize, n: Node, form: Form, at: Place) -> Stop
         word: at.word + 1,
         ..at
     };
-    if n.kind == 3 {
-        return put_part(out, to, form, body, k);
+    match n.kind {
+        Kind::FreeBytes => put_part(out, to, form, body, k),
+        _ => put_list(out, to, form, body, k),
     }
-    put_list(out, to, form, body, k)
 }
 
 // Stores the selector of a union.
@@ -163,7 +163,7 @@ pub(crate) fn write_item(
         return put_part(out, to, form, at, own);
     }
     let n = table.look(t);
-    if n.kind < 6 {
+    if is_leaf(n.kind) {
         return put_leaf(out, to, n, form, at);
     }
     let Ok(made) = lay(table, t, n, form, at.word) else {
@@ -187,7 +187,7 @@ pub(crate) fn write_item(
 }
 
 // Stores the fields or elements from `start` on, whose forms start at the place `from`: each head in the fixed portion, each body of variable
-// size behind it. A field of fixed size is copied without a look at its type, and a kind below 6 has no lower types: only what has lower
+// size behind it. A field of fixed size is copied without a look at its type, and a leaf has no lower types: only what has lower
 // types is stored as an item.
 #[cycle(write_fields_write_item)]
 fn write_fields(
@@ -219,7 +219,7 @@ fn write_fields(
         put_four(out, p, q - start);
         p += 4;
         let n = table.look(f);
-        let s = if n.kind < 6 {
+        let s = if is_leaf(n.kind) {
             put_leaf(out, q, n, form, at)
         } else {
             write_item(out, q, table, f, form, at)

@@ -7,8 +7,8 @@ use Rattle.value.proofs.measure.plain_bytes.Goals as goal
 pub word-f-requires : goal.word-f-requires
 word-f-requires c = row-there _ _ _ _ _ _ c.requires.0 (omega arith)
 
-pub look-e-requires : goal.look-e-requires
-look-e-requires c = row-legal _ _ _ _ _ _ _ c.requires.0 (omega arith) c.word-f.ensures.0
+pub kind-requires : goal.kind-requires
+kind-requires c = row-legal _ _ _ _ _ _ _ c.requires.0 (omega arith) c.word-f.ensures.0
 
 pub bounds-table-f : goal.bounds-table-f
 bounds-table-f c = row-few _ _ _ _ _ _ _ c.requires.0 (omega arith) c.word-f.ensures.0
@@ -17,5 +17,5 @@ pub returns : goal.returns
 returns c =
     let step : c.args.row.step ≡ 0 = omega arith in
     λ h. rw step
-    (elements-plain _ _ _ _ _ _ (rw step at c.requires.0) (omega arith) c.word-f.ensures.0 _ c.look-e.ensures
+    (elements-plain _ _ _ _ _ _ (rw step at c.requires.0) (omega arith) c.word-f.ensures.0 _ c.kind.ensures
     (sym c.is_plain.ensures ∙ c.if-not-is_plain.false))

@@ -1,5 +1,5 @@
 -- Items and fields call each other; the type number falls. The loop over the fields keeps `Writing`. Assumes nothing.
-use Rattle.std.proofs.Common.{refl, arith}
+use Rattle.std.proofs.Common.{◌∙◌, refl, sym, arith}
 use Rattle.std.proofs.Math.Nat.{sub-zero, sub-add-eq}
 use Rattle.message.proofs.Rows.{row-there, row-legal, row_below, row_under, row-few, under-below}
 use Rattle.value.proofs.Leaves.{part_need, part-done}
@@ -8,7 +8,7 @@ use Rattle.value.proofs.Fills.{writing-room, writing-next, writing-end, fields_f
 use Rattle.value.proofs.Plain.{below-asked, below_put}
 use Rattle.value.proofs.Made.{laid-below, row-all, body_ready}
 use Rattle.value.proofs.store.+write_fields_write_item.Goals as goal
-use Rattle.value.proofs.store.+write_fields_write_item.Goals.{write_fields-then-n-lt6, write_fields-else-n-lt6}
+use Rattle.value.proofs.store.+write_fields_write_item.Goals.{write_fields-then-is_leaf, write_fields-else-is_leaf}
 
 pub write_fields-portion_of-own-requires : goal.write_fields-portion_of-own-requires
 write_fields-portion_of-own-requires t c = (c.requires.row, omega (arith, fields_fit c.requires refl), c.requires.offsets)
@@ -37,7 +37,7 @@ write_fields-look-n-requires t c = row-legal _ _ _ _ _ _ _ c.loop.invariant.row 
 
 pub write_fields-put_leaf-s-requires : goal.write_fields-put_leaf-s-requires
 write_fields-put_leaf-s-requires t c =
-    below-asked _ _ _ c.look-n.ensures c.if-n-lt6.true _ _ _ _ _ _ _
+    below-asked _ _ _ c.look-n.ensures (sym c.is_leaf.ensures ∙ c.if-is_leaf.true) _ _ _ _ _ _ _
     (row_under _ _ _ _ _ _ _ c.loop.invariant.row (omega arith) c.word-f.ensures.0) c.if-k-gt0.false
     (writing-upto c.loop.invariant (omega arith) c.word-f.ensures.0)
     (writing-room c.loop.invariant (omega arith) c.word-f.ensures.0 refl c.if-k-gt0.false c.put_four.ensures)
@@ -57,10 +57,10 @@ pub write_fields-loop-preserved : goal.write_fields-loop-preserved
 write_fields-loop-preserved t c =
     rw sub-add-eq
     (writing-next c.loop.invariant (omega arith) c.word-f.ensures.0 refl c.if-k-gt0.false c.put_four.ensures
-    (elim c.if-n-lt6.branch [
-      | write_fields-then-n-lt6 w ↦
-          rw (w.s-is, w.out-is) (below_put _ _ _ c.look-n.ensures w.if-n-lt6.true _ _ _ _ _ _ _ _ w.put_leaf-s.ensures)
-      | write_fields-else-n-lt6 w ↦ rw (w.s-is, w.out-is) w.write_item-s.ensures
+    (elim c.if-is_leaf.branch [
+      | write_fields-then-is_leaf w ↦
+          rw (w.s-is, w.out-is) (below_put _ _ _ c.look-n.ensures (sym c.is_leaf.ensures ∙ w.if-is_leaf.true) _ _ _ _ _ _ _ _ w.put_leaf-s.ensures)
+      | write_fields-else-is_leaf w ↦ rw (w.s-is, w.out-is) w.write_item-s.ensures
     ]))
 
 pub write_fields-returns : goal.write_fields-returns
@@ -74,10 +74,10 @@ write_item-returns-then-own-gt0 t c = part-done (item-own _ _ _ _ _ _ _ c.requir
 
 pub write_item-put_leaf-requires : goal.write_item-put_leaf-requires
 write_item-put_leaf-requires t c =
-    below-asked _ _ _ c.look-n.ensures c.if-n-lt6.true _ _ _ _ _ _ _ c.requires.0 c.if-own-gt0.false c.requires.1 c.requires.2
+    below-asked _ _ _ c.look-n.ensures (sym c.is_leaf.ensures ∙ c.if-is_leaf.true) _ _ _ _ _ _ _ c.requires.0 c.if-own-gt0.false c.requires.1 c.requires.2
 
-pub write_item-returns-then-n-lt6 : goal.write_item-returns-then-n-lt6
-write_item-returns-then-n-lt6 t c = below_put _ _ _ c.look-n.ensures c.if-n-lt6.true _ _ _ _ _ _ _ _ c.put_leaf.ensures
+pub write_item-returns-then-is_leaf : goal.write_item-returns-then-is_leaf
+write_item-returns-then-is_leaf t c = below_put _ _ _ c.look-n.ensures (sym c.is_leaf.ensures ∙ c.if-is_leaf.true) _ _ _ _ _ _ _ _ c.put_leaf.ensures
 
 pub write_item-put_part-requires-then-all-gt0 : goal.write_item-put_part-requires-then-all-gt0
 write_item-put_part-requires-then-all-gt0 t c =

@@ -12,9 +12,6 @@ overflow_add-t c = omega (arith, legal-words _ _ c.requires)
 pub word-at-requires : goal.word-at-requires
 word-at-requires c = (legal-words _ _ c.requires).0
 
-pub word-kind-requires : goal.word-kind-requires
-word-kind-requires c = rw c.word-at.ensures.0 (legal-words _ _ c.requires).1
-
 pub returns : goal.returns
 unfolding node_of
-returns c = rw (← c.word-at.ensures.0, c.word-kind.ensures.0, c.word_at-second.ensures.0)
+returns c = rw (c.kind-kind.ensures, ← c.word-at.ensures.0, c.word_at-second.ensures.0)
