@@ -14,7 +14,9 @@ use Rattle.standard.specs.Types.{Ty, boolean, container, union, list, vector, en
 use Rattle.standard.specs.declared.Head.{Head}
 use Rattle.standard.specs.declared.Head.TheVariants.{Fixed, Variable}
 use Rattle.standard.proofs.Laws.{fixed-some}
-use Rattle.layout.specs.Kinds.{is_leaf}
+use Rattle.std.specs.Prelude.{unwrap_or}
+use Rattle.std.specs.declared.option.Option.TheVariants.{Some}
+use Rattle.layout.specs.Kinds.{kind_of, is_leaf}
 use Rattle.layout.specs.declared.Kind.{Kind}
 use Rattle.layout.specs.Tree.{node_of, leaf_with, leaf_of, type_with, from_node, fields, options, trees, tree_of, len_of, head_of, lengths, filled}
 use Rattle.layout.specs.Table.{count}
@@ -138,6 +140,11 @@ module _ (l : List ℕ) (t : ℕ) (r : Node) (e : r ≡ node_of l t) where
 pub legal-words : (l : List ℕ) (t : ℕ) → Legal l (t + 1) → (1 + t < count l) × (word_at l (1 + t) < count l)
 unfolding node_of
 legal-words l t g = let n = legal_node l t (node_of l t) refl g in (n.listed, n.begun)
+
+-- Its kind word names its kind.
+pub legal_known : (l : List ℕ) (t : ℕ) → Legal l (t + 1) → kind_of (word_at l (word_at l (1 + t))) ≡ Some (unwrap_or (kind_of (word_at l (word_at l (1 + t)))) Kind.BitList)
+unfolding node_of
+legal_known l t g = (legal_node l t (node_of l t) refl g).known
 
 pub legal-below : (l : List ℕ) (t f : ℕ) → f ≤ t → Legal l t → Legal l f
 unfolding Legal

@@ -10,13 +10,13 @@ use native.Mathlib.Omega.{arith}
 use borrow.Author.Tests.{lt-ltb, le-ltb, lt-leb, le-leb, ne_eqb}
 use lib.ListN.{get_or, set}
 use lib.Dec.{leb, ltb}
-use Rattle.std.specs.Result.{IsErr}
+use Rattle.std.specs.Result.{IsOk, IsErr}
 use Rattle.std.specs.declared.option.Option.TheVariants.{Some}
 use Rattle.std.specs.declared.result.Result.{Result}
 use Rattle.std.specs.declared.result.Result.TheVariants.{Ok, Err}
 use Rattle.standard.specs.Choice.{pick}
 use Rattle.standard.specs.Bytes.{word_at}
-use Rattle.standard.specs.Types.{Tys, boolean, field, head, head_all, heads, joined, width, portion}
+use Rattle.standard.specs.Types.{Ty, Tys, boolean, field, head, head_all, heads, joined, width, portion}
 use Rattle.standard.specs.declared.Head.{Head}
 use Rattle.standard.specs.declared.Head.TheVariants.{Fixed, Variable}
 use Rattle.standard.specs.declared.Refusal.{Refusal}
@@ -24,13 +24,16 @@ use Rattle.standard.specs.declared.Refusal.TheVariants.{BadLayout}
 use Rattle.layout.specs.Kinds.{kind_of, is_leaf}
 use Rattle.layout.specs.Tree.{node_of, type_with, from_node, fields, trees, tree_of, len_of, head_of, filled}
 use Rattle.layout.specs.Table.{count, refs, counted, many, container_end_lem, list_end_lem, vector_end_lem, leaf_end_lem, kind_end, body_end_lem}
-use Rattle.layout.specs.Steps.{Known, leaf_len_lem, sizes_of, with_len}
+use Rattle.layout.specs.Steps.{Known, Lengthened, leaf_len_lem, sizes_of, with_len}
+use Rattle.layout.specs.Legal.{Legal}
 use Rattle.layout.specs.declared.Kind.{Kind}
+use Rattle.layout.specs.declared.Node.{Node}
+use Rattle.layout.specs.declared.types.Sizes.{Sizes}
 use Rattle.layout.specs.declared.types.Body.{Body}
-use Rattle.layout.proofs.Facts.{trees-get, fields_at, fields-none, filled-set, each-kind}
-use Rattle.layout.proofs.Tables.{refs-wrong, refs-next, refs-none, refs-cut}
+use Rattle.layout.proofs.Facts.{trees-get, fields_at, fields-none, filled-set, each-kind, head_len, legal_node, as_vector, as_container}
+use Rattle.layout.proofs.Tables.{refs-wrong, refs-next, refs-none, refs-cut, refs-lower}
 use Rattle.layout.proofs.Tables.{Counted, counted-says, element-lower, known_len, known-head, known_small}
-use Rattle.layout.proofs.Trees.{leaf-number, vector_len}
+use Rattle.layout.proofs.Trees.{legal_tree, len_small, leaf-number, vector_len}
 
 width_small : (m : ℕ) → m < 2 ^ 32 → width (head_of m) < 2 ^ 32
 unfolding width
@@ -76,7 +79,7 @@ pub taking_start : (l : List ℕ) (t a₀ n left : ℕ) → left ≡ n → Takin
 taking_start l t a₀ n left e =
     rw e (record { tests = refl; bound = omega arith; taken = omega arith; same = joined-zero _ })
 
-module _ (lens l : List ℕ) (t a₀ n a left rest sum : ℕ) (fixed : Bool) (f : ℕ) (g : Known lens l t) (s : Taking l t a₀ n a left sum fixed)
+module _ (l : List ℕ) (t a₀ n a left rest sum : ℕ) (fixed : Bool) (f : ℕ) (g : Legal l t) (s : Taking l t a₀ n a left sum fixed)
     (p : left ≡ suc rest) (e : f ≡ word_at l a) (j : a < count l) where
   -- a word that names no lower type
   pub taking_wrong : (ts : Tys) → t ≤ f → Err (BadLayout a) ≡ sizes_of (refs l t false a₀ n) ts
@@ -85,21 +88,26 @@ module _ (lens l : List ℕ) (t a₀ n a left rest sum : ℕ) (fixed : Bool) (f 
       let m : ltb (word_at l a) t ≡ false = rw (← e) (le-ltb f t u) in
       rw (← refs-wrong l t false a left rest _ p s.tests j (rw m))
 
-  module _ (h : f < t) where
+  -- a field whose length is k
+  module _ (h : f < t) (k : ℕ) (q : k ≡ len_of (head (tree_of l f))) where
     taking_first : fields l (trees l t) a left ≡ field (tree_of l f) (fields l (trees l t) (a + 1) rest)
     taking_first = rw (p, e) (fields_at l t a rest (rw (← e) h))
 
-    taking_head : head (tree_of l f) ≡ head_of (get_or lens f 0)
-    taking_head = sym (known-head lens l t g f h)
+    taking_head : head (tree_of l f) ≡ head_of k
+    taking_head = rw q (sym (head_len (tree_of l f) (legal_tree l t f g h)))
+
+    taking_small : k < 2 ^ 32
+    unfolding Legal
+    taking_small = rw q (len_small l f (g f h))
 
     taking_tests : refs l t false (a + 1) rest ≡ refs l t false a₀ n
     taking_tests =
         let m : ltb (word_at l a) t ≡ true = rw (← e) (lt-ltb f t h) in
         refs-next l t false a left rest _ p s.tests j (rw m)
 
-    module _ (w : ℕ) (v : w ≡ width (head_of (get_or lens f 0))) where
+    module _ (w : ℕ) (v : w ≡ width (head_of k)) where
       pub taking_width : w < 2 ^ 32
-      taking_width = rw v (width_small _ (known_small lens l t g f h))
+      taking_width = rw v (width_small k taking_small)
 
       taking_bound : sum + w + 4294967296 * rest ≤ 4294967296 * n
       taking_bound = omega (arith, s.bound, taking_width)
@@ -108,15 +116,14 @@ module _ (lens l : List ℕ) (t a₀ n a left rest sum : ℕ) (fixed : Bool) (f 
       unfolding heads portion
       taking_sum = let x = rw (taking_first, taking_head, ← v) at s.taken in omega arith
 
-      taking_rest : (x : Head) → head_of (get_or lens f 0) ≡ x → with_rest fixed sum (joined x (head_all (fields l (trees l t) (a + 1) rest))) ≡
+      taking_rest : (x : Head) → head_of k ≡ x → with_rest fixed sum (joined x (head_all (fields l (trees l t) (a + 1) rest))) ≡
           head_all (fields l (trees l t) a₀ n)
       unfolding head
-      taking_rest x q = rw (taking_first, taking_head, q) at s.same
+      taking_rest x z = rw (taking_first, taking_head, z) at s.same
 
-      pub taking_fixed : (get_or lens f 0 ≡ 0 → ⊥) → Taking l t a₀ n (a + 1) rest (sum + w) fixed
+      pub taking_fixed : (k ≡ 0 → ⊥) → Taking l t a₀ n (a + 1) rest (sum + w) fixed
       unfolding width
       taking_fixed z =
-          let k = get_or lens f 0 in
           let y : w ≡ k = rw (ne_eqb k 0 z) at v in
           record {
             tests = taking_tests;
@@ -125,7 +132,7 @@ module _ (lens l : List ℕ) (t a₀ n a left rest sum : ℕ) (fixed : Bool) (f 
             same = rw y (sym (with_next fixed sum k _) ∙ taking_rest (Fixed k) (rw (ne_eqb k 0 z)));
           }
 
-      pub taking_variable : get_or lens f 0 ≡ 0 → Taking l t a₀ n (a + 1) rest (sum + w) false
+      pub taking_variable : k ≡ 0 → Taking l t a₀ n (a + 1) rest (sum + w) false
       taking_variable z =
           record { tests = taking_tests; bound = taking_bound; taken = taking_sum; same = sym (with_variable fixed sum _) ∙ taking_rest Variable (rw z) }
 
@@ -252,6 +259,70 @@ module _ (l : List ℕ) (t at : ℕ) (k : Kind) (x : ℕ) (w : at ≡ word_at l 
 -- A legal type's length is remembered.
 pub found-set : (l : List ℕ) (t v : ℕ) (lens : List ℕ) → lens ≡ filled l t → t < 64 → v ≡ len_of (head (tree_of l t)) → set lens t v ≡ filled l (t + 1)
 found-set l t v lens f b h = rw (h, f, add-one) (filled-set l t b)
+
+-- What the call for a lower type leaves: nothing new is remembered.
+pub kept_lower : (l : List ℕ) (t f : ℕ) (lens : List ℕ) → f < t → lens ≡ filled l (pick (ltb f t) t (t + 1)) → lens ≡ filled l t
+kept_lower l t f lens h e = rw (lt-ltb f t h) at e
+
+-- The length of a type that is no container and no vector
+alone_len : (k : Kind) (l : List ℕ) (lower : List Ty) (t at w : ℕ) → (k ≡ Kind.Vector → ⊥) → (k ≡ Kind.Container → ⊥) →
+    leaf_len_lem k w ≡ len_of (head (type_with k l lower t at w))
+unfolding head
+alone_len Kind.Vector l lower t at w f g = absurd (f refl)
+alone_len Kind.Container l lower t at w f g = absurd (g refl)
+alone_len Kind.Union l lower t at w f g = refl
+alone_len Kind.List l lower t at w f g = refl
+alone_len Kind.Number l lower t at w f g = refl
+alone_len Kind.Boolean l lower t at w f g = refl
+alone_len Kind.FixedBytes l lower t at w f g = refl
+alone_len Kind.FreeBytes l lower t at w f g = refl
+alone_len Kind.BitVector l lower t at w f g = refl
+alone_len Kind.BitList l lower t at w f g = refl
+
+-- A legal type's length, worked out from those of its lower types.
+module _ (l : List ℕ) (t : ℕ) (r : Node) (e : r ≡ node_of l t) (g : Legal l (t + 1)) where
+  pub worked_alone : (v : ℕ) → v ≡ leaf_len_lem r.kind r.second → (r.kind ≡ Kind.Vector → ⊥) → (r.kind ≡ Kind.Container → ⊥) →
+      v ≡ len_of (head (tree_of l t))
+  unfolding tree_of from_node
+  worked_alone v h x y = rw (← e, h) (alone_len r.kind l (trees l t) t r.at r.second x y)
+
+  pub element_lower : r.kind ≡ Kind.Vector → r.second < t
+  element_lower k = (legal_node l t r e g).element (rw k)
+
+  pub worked_vector : (n k : ℕ) → r.kind ≡ Kind.Vector → n ≡ word_at l (r.at + 2) → k ≡ len_of (head (tree_of l r.second)) →
+      n * k ≡ len_of (head (tree_of l t))
+  worked_vector n k h q m = rw (q, m, as_vector l t r e h (element_lower h)) (sym (vector_len t (word_at l (r.at + 2)) (tree_of l r.second)))
+
+  -- of a legal container the words are accepted
+  sized : (x : Result Sizes Refusal) → r.kind ≡ Kind.Container →
+      x ≡ sizes_of (refs l t false (r.at + 2) r.second) (fields l (trees l t) (r.at + 2) r.second) →
+      x ≡ Ok (record {
+        end = r.at + 2 + r.second;
+        portion = portion (heads (fields l (trees l t) (r.at + 2) r.second));
+        length = len_of (head_all (fields l (trees l t) (r.at + 2) r.second));
+      })
+  unfolding sizes_of
+  sized x h q =
+      let n = legal_node l t r e g in
+      q ∙ rw (refs-lower l t r.second (r.at + 2) (n.lower h) (n.within (rw h)))
+
+  pub worked_sizes : (x : Result Sizes Refusal) → r.kind ≡ Kind.Container →
+      x ≡ sizes_of (refs l t false (r.at + 2) r.second) (fields l (trees l t) (r.at + 2) r.second) → IsOk x
+  worked_sizes x h q = rw (sized x h q)
+
+  pub worked_container : (s : Sizes) → r.kind ≡ Kind.Container →
+      Ok s ≡ sizes_of (refs l t false (r.at + 2) r.second) (fields l (trees l t) (r.at + 2) r.second) → s.length ≡ len_of (head (tree_of l t))
+  unfolding head
+  worked_container s h q =
+      let z : s.length ≡ len_of (head_all (fields l (trees l t) (r.at + 2) r.second)) = cc (sized (Ok s) h q) in
+      rw (as_container l t r e h) z
+
+  pub worked_small : (v : ℕ) → v ≡ len_of (head (tree_of l t)) → v < 2 ^ 32
+  worked_small v h = rw h (len_small l t (legal_node l t (node_of l t) refl g))
+
+-- A length that is worked out is remembered.
+pub lengthened : (l : List ℕ) (t r : ℕ) (lens : List ℕ) → lens ≡ filled l t → t < 64 → r ≡ len_of (head (tree_of l t)) → Lengthened l t t r (set lens t r)
+lengthened l t r lens f b h = record { gives = h; found = rw (le-ltb t t (omega arith)) (found-set l t r lens f b h) }
 
 -- A body that ends, beside its type's length.
 pub record Stands (x : Result ℕ Refusal) (n : ℕ) (b : Body) : Type 0 where

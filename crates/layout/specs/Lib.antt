@@ -3,4 +3,3 @@ pub mod Tree
 pub mod Table
 pub mod Legal
 pub mod Steps
-pub mod Held

@@ -1,7 +1,8 @@
 -- What the steps of the table check ask and give, one to another. Assumes nothing: these are definitions.
-use Rattle.std.specs.Prelude.{ℕ, ◌+◌, ◌≤◌, ◌≡◌, List}
+use Rattle.std.specs.Prelude.{ℕ, ◌+◌, ◌≤◌, ◌≡◌, List, ltb}
+use Rattle.standard.specs.Choice.{pick}
 use Rattle.standard.specs.Types.{Tys, head, head_all, heads, portion}
-use Rattle.layout.specs.Tree.{leaf_with, len_of, filled}
+use Rattle.layout.specs.Tree.{leaf_with, tree_of, len_of, filled}
 use Rattle.layout.specs.Table.{types_end_lem, table_of}
 use Rattle.layout.specs.Legal.{Legal}
 use Rattle.layout.specs.declared.Kind.{Kind}
@@ -26,6 +27,11 @@ leaf_len_lem k w = len_of (head (leaf_with k 0 w))
 unfoldable pub sizes_of : Result ℕ Refusal → Tys → Result Sizes Refusal
 sizes_of (Err r) ts = Err r
 sizes_of (Ok e) ts = Ok (record { end = e; portion = portion (heads ts); length = len_of (head_all ts) })
+
+-- r is the length of the type t, and lens' has it.
+pub record Lengthened (l : List ℕ) (known t r : ℕ) (lens' : List ℕ) : Type 0 where
+  pub gives : r ≡ len_of (head (tree_of l t))
+  pub found : lens' ≡ filled l (pick (ltb t known) known (known + 1))
 
 -- Where a body ends, with its type's length beside it
 abbrev pub with_len : Result ℕ Refusal → ℕ → Result Body Refusal

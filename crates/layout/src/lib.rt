@@ -8,7 +8,7 @@ ghost use Rattle.layout.specs.Steps.{Known, Typed, Tabled};
 
 mod types;
 
-use crate::types::{Types, word_in};
+use crate::types::{body_end, word_in};
 use standard::Refusal;
 use standard::words::word_at;
 
@@ -70,12 +70,7 @@ fn types_end(lens: &mut [u32; 64], layout: &[u8], n: usize) -> Result<usize, Ref
         if word_in(layout, 1 + t) != at {
             return Err(Refusal::BadLayout(1 + t));
         }
-        let types = Types {
-            layout,
-            lens,
-            known: t,
-        };
-        let body = types.body_end(at)?;
+        let body = body_end(lens, layout, t, at)?;
         lens[t] = body.len as u32;
         at = body.end;
     }

@@ -2,7 +2,7 @@
 use Rattle.std.proofs.Common.{◌≡◌, sym, ◌∙◌, ◌+◌, ◌-◌, arith}
 use Rattle.layout.specs.Table.{count}
 use Rattle.layout.proofs.Tables.{refs_missing, refs-wrong, refs-next, refs-none}
-use Rattle.layout.proofs.types.Types.refs_end.Goals as goal
+use Rattle.layout.proofs.types.refs_end.Goals as goal
 
 pub returns-then-a-words : goal.returns-then-a-words
 unfolding count

@@ -3,7 +3,7 @@ use Rattle.std.proofs.Common.{sym, arith}
 use Rattle.layout.specs.Table.{count}
 use Rattle.layout.proofs.Tables.{counted-says}
 use Rattle.layout.proofs.Lengths.{cut-short}
-use Rattle.layout.proofs.types.Types.container_end.Goals as goal
+use Rattle.layout.proofs.types.container_end.Goals as goal
 
 pub unwrap_err-requires : goal.unwrap_err-requires
 unfolding count
@@ -12,4 +12,4 @@ unwrap_err-requires c =
 
 pub fields_len-requires : goal.fields_len-requires
 unfolding count
-fields_len-requires c = (c.in_ok-n.ensures.few, c.if-first-n.false)
+fields_len-requires c = (c.requires.0, c.in_ok-n.ensures.few, c.if-first-n.false)

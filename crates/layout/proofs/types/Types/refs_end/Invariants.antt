@@ -1,7 +1,0 @@
--- What is left gives the whole. Assumes nothing.
-use Rattle.std.proofs.Common.{◌≡◌, ◌+◌, ◌-◌}
-use Rattle.layout.specs.Table.{refs}
-use Rattle.layout.proofs.types.Types.refs_end.Given as goal
-
-abbrev pub invariant-loop-a : goal.invariant-loop-a
-invariant-loop-a l = refs l.self.layout.now l.self.known l.none l.a (l.a0 + l.n - l.a) ≡ refs l.self.layout.now l.self.known l.none l.a0 l.n
