@@ -29,13 +29,14 @@ use Rattle.message.proofs.Rows.{len_head, row_under, row_next, row-head, row-hea
 use Rattle.value.specs.Walk.{Walked, upto, walk_item, walk_fields}
 use Rattle.value.specs.Write.{word_after, byte_after, bytes_at, with_mark, write_item_lem, parts_from}
 use Rattle.value.specs.Steps.{types_in, heads_in, IsUpto}
-use Rattle.value.specs.declared.table.Members.{Members}
+use Rattle.value.specs.declared.laid.Members.{Members}
 use Rattle.value.specs.Stores.{Put, Fields}
 use Rattle.value.specs.declared.store.Stop.{Stop}
 use Rattle.value.proofs.Walks.{length-bytes_at}
 use Rattle.value.proofs.Leaves.{PartForm, part_need, part-done}
 use Rattle.value.proofs.Unions.{leaf-walk, leaf-write}
-use Rattle.value.proofs.Rows.{fields-walk, fields-parts, none_walk, none-parts}
+use Rattle.layout.specs.Steps.{Known}
+use Rattle.value.proofs.Rows.{row-known, fields-walk, fields-parts, none_walk, none-parts}
 use Rattle.value.proofs.Fixed.{onward-first, item-part, row-portion}
 
 -- n bytes of the bodies.
@@ -222,25 +223,28 @@ module _ {lens l : List ℕ} {t step : ℕ} {c b : List ℕ} {start own e : ℕ}
           writing-behind r o₁ q o₂ offset_long x (p + 4) r.to
           (two_variable _ _ o p q start own e z variable_parts_lem o₂ r.to (rw d at x.stored))
 
-module _ {lens l : List ℕ} {m : Members} {c b : List ℕ} {i j : ℕ} {o : List ℕ} {start own : ℕ} (g : Fields lens l m c b i j o start)
-    (e : own ≡ portion (heads_in l m)) where
+module _ {lens l : List ℕ} {k : ℕ} {m : Members} {c b : List ℕ} {i j : ℕ} {o : List ℕ} {start own : ℕ} (y : Known lens l k)
+    (g : Fields l k m c b i j o start) (e : own ≡ portion (heads_in l m)) where
+  known-row : Row lens l m.of m.first m.step m.many
+  known-row = row-known lens l k m y g.row
+
   pub writing-none : Writing lens l m.of m.step c b start own (start + length (join (parts_from (types_in l m) c b i j)))
       (walk_fields (types_in l m) c b i j) (sets o start (join (parts_from (types_in l m) c b i j))) o o start (start + own) m.first m.many i j
   writing-none =
       record {
         well = g.walk;
         long = refl;
-        row = g.row;
+        row = known-row;
         walk = refl;
         room = g.room.room;
         two =
             two-start (parts_from (types_in l m) c b i j) o start own
-            (e ∙ sym (row-portion lens l m.of m.first m.step m.many c b i j g.row g.walk));
+            (e ∙ sym (row-portion lens l m.of m.first m.step m.many c b i j known-row g.walk));
       }
 
   pub fields_fit : start + own ≤ length o
   fields_fit =
-      let p = row-portion lens l m.of m.first m.step m.many c b i j g.row g.walk in
+      let p = row-portion lens l m.of m.first m.step m.many c b i j known-row g.walk in
       omega (arith, g.room.room, p, length-join (parts_from (types_in l m) c b i j))
 
 pub writing-end : {lens l : List ℕ} {t step : ℕ} {c b : List ℕ} {start own e : ℕ} {w : Walked} {x o₀ o : List ℕ} {p q a left i j : ℕ} →

@@ -14,12 +14,11 @@ use Rattle.standard.specs.Types.{list, vector, head, head_all, width, portion}
 use Rattle.standard.specs.Parts.{join}
 use Rattle.standard.specs.declared.Head.{Head}
 use Rattle.standard.proofs.Elements.{portion-copies}
-use Rattle.layout.specs.Tree.{node_of, tree_of, filled}
-use Rattle.layout.specs.Legal.{Legal}
+use Rattle.layout.specs.Tree.{node_of, tree_of}
 use Rattle.layout.specs.Kinds.{is_leaf, has_element}
 use Rattle.layout.specs.declared.Kind.{Kind}
 use Rattle.layout.specs.declared.Node.{Node}
-use Rattle.layout.proofs.Facts.{as_list_lem, as_vector, legal_node, filled-get, length-filled}
+use Rattle.layout.proofs.Facts.{as_list_lem, as_vector, legal_node}
 use Rattle.message.specs.Steps.{Under, Row, row_of}
 use Rattle.message.proofs.Rows.{row_below, row-fixed, row_variable, heads-none}
 use Rattle.message.proofs.Bodies.{container-row}
@@ -34,7 +33,7 @@ use Rattle.standard.specs.declared.Refusal.{Refusal}
 use Rattle.value.proofs.Walks.{counted-there, counted-wrong}
 use Rattle.value.proofs.Copies.{walk-copies, parts-copies}
 use Rattle.value.proofs.Fixed.{copies-fixed}
-use Rattle.value.proofs.Rows.{container-walk, container-write}
+use Rattle.value.proofs.Rows.{in-row, container-walk, container-write}
 
 module _ (lens l : List ℕ) (t : ℕ) (n : Node) (e : n ≡ node_of l t) (g : Under lens l (t + 1)) (k : has_element n.kind ≡ true) (c b : List ℕ) (i j : ℕ) where
   -- A list: its count, and its elements behind it
@@ -69,16 +68,13 @@ module _ (lens l : List ℕ) (t : ℕ) (n : Node) (e : n ≡ node_of l t) (g : U
         rw (vector_tree, element-copies lens l t n e g k (word_at l (n.at + 2))) (ap join (parts-copies (tree_of l n.second) c b (word_at l (n.at + 2)) i j))
 
 -- What `lay` answers of the type t, whose words are n.
-module _ (l : List ℕ) (t : ℕ) (g : Legal l (t + 1)) (f : t < 64) (n : Node) (e : n ≡ node_of l t) (c : List ℕ) (i : ℕ) where
-  under : Under (filled l (t + 1)) l (t + 1)
-  under = record { legal = g; few = omega arith; room = length-filled l (t + 1) (omega arith); found = λ x h. filled-get l (t + 1) x h }
-
+module _ (lens l : List ℕ) (t : ℕ) (u : Under lens l (t + 1)) (n : Node) (e : n ≡ node_of l t) (c : List ℕ) (i : ℕ) where
   pub laid-container : n.kind ≡ Kind.Container → LaidAs l t c i (Ok (Laid.Row (fields_of t n) i))
   laid-container q =
       record {
         own = refl;
-        row = λ lens u. container-row lens l t n e u q;
-        small = (legal_node l t n e g).small;
+        row = in-row lens l (fields_of t n) (container-row lens l t n e u q);
+        small = (legal_node l t n e u.legal).small;
         walk = λ b j. container-walk l t n e q c b i j;
         write = λ b j. container-write l t n e q c b i j;
       }
@@ -89,10 +85,10 @@ module _ (l : List ℕ) (t : ℕ) (g : Legal l (t + 1)) (f : t < 64) (n : Node) 
         let k : has_element n.kind ≡ true = ap has_element q in
         record {
           own = refl;
-          row = λ lens u. element-row lens l t n e u k m h;
+          row = in-row lens l (elements_of t n m) (element-row lens l t n e u k m h);
           small = h;
-          walk = λ b j. rw d (vector-walk (filled l (t + 1)) l t n e under k c b i j q);
-          write = λ b j. rw d (vector-write (filled l (t + 1)) l t n e under k c b i j q);
+          walk = λ b j. rw d (vector-walk lens l t n e u k c b i j q);
+          write = λ b j. rw d (vector-write lens l t n e u k c b i j q);
         }
 
     module _ (q : n.kind ≡ Kind.List) where
@@ -100,7 +96,7 @@ module _ (l : List ℕ) (t : ℕ) (g : Legal l (t + 1)) (f : t < 64) (n : Node) 
       has = ap has_element q
 
       pub laid-uncounted : (r : Refusal) → Err r ≡ counted c i m → LaidAs l t c i (Err r)
-      laid-uncounted r x b j = list-walk (filled l (t + 1)) l t n e under has c b i j q ∙ rw (← d) (counted-wrong c i m r x _)
+      laid-uncounted r x b j = list-walk lens l t n e u has c b i j q ∙ rw (← d) (counted-wrong c i m r x _)
 
       pub laid-list : (x : ℕ) → Ok x ≡ counted c i m → LaidAs l t c i (Ok (Laid.Row (elements_of t n x) (i + 1)))
       laid-list x y =
@@ -108,10 +104,10 @@ module _ (l : List ℕ) (t : ℕ) (g : Legal l (t + 1)) (f : t < 64) (n : Node) 
           let s : x < 2 ^ 32 = omega arith in
           record {
             own = refl;
-            row = λ lens u. element-row lens l t n e u has x s;
+            row = in-row lens l (elements_of t n x) (element-row lens l t n e u has x s);
             small = s;
-            walk = λ b j. rw (list-walk (filled l (t + 1)) l t n e under has c b i j q, lt-ltb i (length c) z.0, ← d, ← z.1, le-leb x m z.2);
-            write = λ b j. rw z.1 (list-write (filled l (t + 1)) l t n e under has c b i j q);
+            walk = λ b j. rw (list-walk lens l t n e u has c b i j q, lt-ltb i (length c) z.0, ← d, ← z.1, le-leb x m z.2);
+            write = λ b j. rw z.1 (list-write lens l t n e u has c b i j q);
           }
 
 -- What has lower types and is no container, union or vector is a list.

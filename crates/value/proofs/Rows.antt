@@ -15,11 +15,13 @@ use Rattle.standard.proofs.Join.{length-join}
 use Rattle.layout.specs.Tree.{node_of, tree_of, head_of}
 use Rattle.layout.specs.declared.Kind.{Kind}
 use Rattle.layout.specs.declared.Node.{Node}
-use Rattle.message.specs.Steps.{Row, row_of}
-use Rattle.message.proofs.Rows.{row-none, row_first, row_next, row-head, container_tree}
+use Rattle.message.specs.Steps.{Under, Row, row_of}
+use Rattle.layout.specs.Steps.{Known}
+use Rattle.message.proofs.Rows.{under_table, under-below, row-none, row_first, row_next, row-head, container_tree}
 use Rattle.value.specs.Walk.{upto, onward, walk_item, walk_fields}
 use Rattle.value.specs.Write.{word_after, byte_after, write_item_lem, parts_from}
-use Rattle.value.specs.Steps.{cap, measured, extra}
+use Rattle.value.specs.Steps.{InRow, cap, measured, extra}
+use Rattle.value.specs.declared.laid.Members.{Members}
 use Rattle.value.specs.declared.measure.Mark.{Mark}
 use Rattle.value.proofs.Walks.{measured-says, measured-wrong, measured-cap}
 use Rattle.std.specs.declared.result.Result.TheVariants.{Ok, Err}
@@ -29,6 +31,22 @@ pub join_more : (h : Head) (s : List ℕ) (xs : List Part) → length (join (pie
 unfolding fixed_lengths backs
 join_more (Fixed n) s xs = length-join (piece (Fixed n) s ∷ xs) ∙ omega (arith, length-join xs)
 join_more Variable s xs = length-join (piece Variable s ∷ xs) ∙ simp length-append (omega (arith, length-join xs))
+
+-- What a table that is known says of one of its types, and of its fields
+pub under-known : (lens l : List ℕ) (k t : ℕ) → Known lens l k → t < k → Under lens l (t + 1)
+under-known lens l k t g h = under-below lens l k (t + 1) (omega arith) (under_table lens l k g)
+
+pub row-known : (lens l : List ℕ) (k : ℕ) (m : Members) → Known lens l k → InRow l k m → Row lens l m.of m.first m.step m.many
+row-known lens l k m g r =
+    record {
+      under = under-below lens l k m.of (omega (arith, r.own)) (under_table lens l k g);
+      near = r.near;
+      steps = r.steps;
+      named = r.named;
+    }
+
+pub in-row : (lens l : List ℕ) (m : Members) → Row lens l m.of m.first m.step m.many → (k : ℕ) → m.of < k → InRow l k m
+in-row lens l m r k h = record { own = h; near = r.near; steps = r.steps; named = r.named }
 
 -- The first field and the rest.
 module _ (lens l : List ℕ) (t a step left f : ℕ) (g : Row lens l t a step left) (z : 0 < left) (e : f ≡ word_at l a) (c b : List ℕ) (i j : ℕ) where

@@ -1,8 +1,8 @@
 -- Walks and what is measured of them, leaf by leaf. Assumes nothing.
 use mathlib.Core.Path.{◌≡◌, refl, ap}
-use mathlib.Core.List.{List, ◌∷◌}
+use mathlib.Core.List.{List}
 use mathlib.Core.Bool.{Bool, true, false}
-use Prim.Native.Nat.{ℕ, suc, ◌+◌, ◌/◌, ◌≤◌, ◌<◌}
+use Prim.Native.Nat.{ℕ, ◌+◌, ◌/◌, ◌≤◌, ◌<◌}
 use native.Mathlib.Omega.{arith}
 use borrow.Author.Tests.{ltb-true, leb-true}
 use lib.ListN.{length, get_or, length-take, length-drop, length-append}
@@ -13,7 +13,7 @@ use Rattle.standard.specs.declared.Refusal.TheVariants.{BadValue}
 use Rattle.message.specs.Read.{raw_bytes_lem}
 use Rattle.value.specs.Walk.{Walked, upto, wrong, with_word}
 use Rattle.value.specs.Write.{bytes_at, with_mark}
-use Rattle.value.specs.Steps.{cap, counted, measured, selected}
+use Rattle.value.specs.Steps.{cap, counted, measured}
 use Rattle.value.specs.declared.measure.Mark.{Mark}
 use Rattle.std.specs.declared.result.Result.TheVariants.{Ok, Err}
 
@@ -53,13 +53,6 @@ counted-wrong c i limit r h x = go (ltb i (length c)) (leb (get_or c i 0) limit)
     go true true h = cc
     go true false h = let z : r ≡ BadValue 0 i = cc in rw z
     go false q h = let z : r ≡ BadValue 0 (length c) = cc in rw z
-
--- With a selector byte before it.
-pub selected-measured : (w : Walked) (k : ℕ) (s : List ℕ) → selected (measured w (length s)) ≡ measured w (length (k ∷ s))
-selected-measured (upto i j) k s =
-    let e : cap (1 + cap (length s)) ≡ cap (suc (length s)) = omega arith in
-    ap (λ (n : ℕ). Ok (record { end = record { word = i; byte = j }; len = n })) e
-selected-measured (wrong r) k s = refl
 
 pub length-bytes_at : (b : List ℕ) (j n : ℕ) → j + n ≤ length b → length (bytes_at b j n) ≡ n
 length-bytes_at b j n h = simp (length-take, length-drop) (omega arith)

@@ -2,3 +2,4 @@ pub mod Walk
 pub mod Write
 pub mod Steps
 pub mod Stores
+pub mod Held

@@ -1,5 +1,5 @@
 -- What the steps of the writer ask and give, one to another. Assumes nothing: these are definitions.
-use Rattle.std.specs.Prelude.{ℕ, ◌+◌, ◌<◌, ◌^◌, min, ◌≡◌, List, ◌∷◌, [], length, get_or, eqb, ltb, leb}
+use Rattle.std.specs.Prelude.{ℕ, ◌+◌, ◌≤◌, ◌<◌, ◌^◌, min, ◌≡◌, List, ◌∷◌, [], length, get_or, eqb, ltb, leb}
 use Rattle.standard.specs.Choice.{pick}
 use Rattle.standard.specs.Bytes.{word_at}
 use Rattle.standard.specs.Types.{Ty, Tys, heads}
@@ -9,11 +9,11 @@ use Rattle.standard.specs.declared.Head.TheVariants.{Fixed, Variable}
 use Rattle.standard.specs.declared.Refusal.TheVariants.{BadValue}
 use Rattle.layout.specs.Tree.{tree_of}
 use Rattle.layout.specs.declared.Node.{Node}
-use Rattle.message.specs.Steps.{Under, Row, row_of}
+use Rattle.message.specs.Steps.{Named, row_of}
 use Rattle.value.specs.Walk.{Walked, upto, wrong, with_body, walk_item, walk_fields}
 use Rattle.value.specs.Write.{write_item_lem, parts_from}
 use Rattle.value.specs.declared.laid.Laid.{Laid}
-use Rattle.value.specs.declared.table.Members.{Members}
+use Rattle.value.specs.declared.laid.Members.{Members}
 use Rattle.value.specs.declared.measure.Mark.{Mark}
 use Rattle.std.specs.declared.result.Result.{Result}
 use Rattle.std.specs.declared.result.Result.TheVariants.{Ok, Err}
@@ -75,10 +75,14 @@ fields_of t n = record { of = t; first = n.at + 2; step = 1; many = n.second }
 abbrev pub elements_of : ℕ → Node → ℕ → Members
 elements_of t n m = record { of = t; first = n.at + 1; step = 0; many = m }
 
--- Fields or elements that can be read, their types, and the heads of those
-abbrev pub InRow : List ℕ → List ℕ → Members → Type 0
-InRow lens l m = Row lens l m.of m.first m.step m.many
+-- Fields or elements of one of the first k types that can be read: the words that name them are near, and name lower types.
+pub record InRow (l : List ℕ) (k : ℕ) (m : Members) : Type 0 where
+  pub own : m.of < k
+  pub near : m.first + m.many < 2 ^ 34
+  pub steps : m.step ≤ 1
+  pub named : Named l m.of m.first m.step m.many
 
+-- Their types, and the heads of those
 abbrev pub types_in : List ℕ → Members → Tys
 types_in l m = row_of l m.of m.first m.step m.many
 
@@ -89,7 +93,7 @@ heads_in l m = heads (types_in l m)
 -- fields from the contents word p on.
 pub record AsRow (l : List ℕ) (t : ℕ) (c : List ℕ) (i : ℕ) (m : Members) (p : ℕ) : Type 0 where
   pub own : m.of ≡ t
-  pub row : (lens : List ℕ) → Under lens l (t + 1) → InRow lens l m
+  pub row : (k : ℕ) → t < k → InRow l k m
   pub small : m.many < 2 ^ 32
   pub walk : (b : List ℕ) (j : ℕ) → walk_item (tree_of l t) c b i j ≡ walk_fields (types_in l m) c b p j
   pub write : (b : List ℕ) (j : ℕ) → write_item_lem (tree_of l t) c b i j ≡ join (parts_from (types_in l m) c b p j)

@@ -7,7 +7,7 @@ use Rattle.standard.specs.declared.Head.TheVariants.{Fixed}
 use Rattle.value.specs.Walk.{Walked, walk_fields}
 use Rattle.value.specs.Write.{word_after, byte_after, parts_from}
 use Rattle.value.specs.Steps.{InRow, types_in, heads_in, IsUpto}
-use Rattle.value.specs.declared.table.Members.{Members}
+use Rattle.value.specs.declared.laid.Members.{Members}
 use Rattle.value.specs.declared.store.Stop.{Stop}
 
 -- The bytes x of an item with this walk were stored in o from at on, which gives o'.
@@ -23,8 +23,8 @@ pub record Together (ts : Tys) (step n r : ℕ) : Type 0 where
 
 -- What storing these fields asks: elements have an offset each, their form is well, and there is room for them. So there is room for their
 -- fixed portion, however many they are.
-pub record Fields (lens l : List ℕ) (m : Members) (c b : List ℕ) (i j : ℕ) (o : List ℕ) (at : ℕ) : Type 0 where
-  pub row : InRow lens l m
+pub record Fields (l : List ℕ) (k : ℕ) (m : Members) (c b : List ℕ) (i j : ℕ) (o : List ℕ) (at : ℕ) : Type 0 where
+  pub row : InRow l k m
   pub offsets : m.step ≡ 0 → portion (heads_in l m) ≡ 4 * m.many
   pub walk : IsUpto (walk_fields (types_in l m) c b i j)
   pub room : Room o at (join (parts_from (types_in l m) c b i j))

@@ -2,15 +2,52 @@
 ghost use Rattle.std.specs.Prelude.{◌≡◌, ◌+◌, ◌≤◌, ◌<◌, ◌^◌, false};
 ghost use Rattle.layout.specs.Tree.{node_of};
 ghost use Rattle.layout.specs.Kinds.{is_leaf};
-ghost use Rattle.layout.specs.Legal.{Legal};
-ghost use Rattle.value.specs.Steps.{choose, laid_of, laid_at, LaidAs};
+ghost use Rattle.value.specs.Steps.{fields_of, elements_of, choose, laid_of, laid_at, LaidAs};
 
 use crate::form::Form;
-use crate::table::{Members, Table};
+use crate::table::Table;
 use decode::union_selector::UnionSelector;
 use layout::{Kind, NO_BODY, Node};
 use standard::Refusal;
 use standard::words::word_at;
+
+// Fields of the type `of`, or its elements: the word at `first` names the first, each next one is named `step` words behind. Fields have a
+// word each, elements share one.
+#[derive(Clone, Copy)]
+pub(crate) struct Members {
+    pub of: usize,
+    pub first: usize,
+    pub step: usize,
+    pub many: usize,
+}
+
+impl Members {
+    // The fields of the container t of which the table says n.
+    pub(crate) fn fields(t: usize, n: Node) -> Members
+        requires { n.at < 2 ^ 32 }
+        ensures { result ≡ fields_of t n }
+    {
+        Members {
+            of: t,
+            first: n.at + 2,
+            step: 1,
+            many: n.second,
+        }
+    }
+
+    // So many elements of the list or vector t of which the table says n.
+    pub(crate) fn elements(t: usize, n: Node, many: usize) -> Members
+        requires { n.at < 2 ^ 32 }
+        ensures { result ≡ elements_of t n many }
+    {
+        Members {
+            of: t,
+            first: n.at + 1,
+            step: 0,
+            many,
+        }
+    }
+}
 
 // A row of fields or elements, whose forms start at the contents word `word`. Or of a union: an option without body, the type of a body.
 #[derive(Clone, Copy)]
@@ -64,7 +101,7 @@ fn select(layout: &[u8], a: usize, n: usize, form: Form, i: usize) -> Result<Lai
 // What the item of the type t is made of, whose words are n: t only says whose. A vector's count is in the table, a list's is the contents
 // word before its elements.
 pub(crate) fn lay(table: Table, t: usize, n: Node, form: Form, i: usize) -> Result<Laid, Refusal>
-    requires { Legal table.layout.now (t + 1) × (t < 64) × (n ≡ node_of table.layout.now t) × (is_leaf n.kind ≡ false) }
+    requires { (t < table.types) × (n ≡ node_of table.layout.now t) × (is_leaf n.kind ≡ false) }
     ensures { LaidAs table.entry.layout.now t form.entry.contents.now i result }
 {
     let third = n.at + 2;

@@ -7,8 +7,7 @@ mod measure;
 mod store;
 mod table;
 
-ghost use Rattle.std.specs.Prelude.{◌≡◌, ◌≤◌};
-ghost use Rattle.message.specs.Steps.{Under};
+ghost use Rattle.std.specs.Prelude.{◌≡◌};
 ghost use Rattle.value.specs.Write.{written_under, stored_under, write_message, written_bytes};
 
 use form::{Form, Place};
@@ -18,13 +17,12 @@ use standard::Refusal;
 use store::write_item;
 use table::Table;
 
-// Writes under a legal table of n types.
-fn write_under(out: &mut [u8], table: Table, n: usize, form: Form) -> Result<usize, Refusal>
-    requires { Under table.lens.now table.layout.now n × (1 ≤ n) }
-    ensures value { result ≡ written_under (Ok n) table.entry.layout.now form.entry.contents.now form.entry.bodies.now out.old }
-    ensures out_after { out.new ≡ stored_under (Ok n) table.entry.layout.now form.entry.contents.now form.entry.bodies.now out.old }
+// Writes under a legal table.
+fn write_under(out: &mut [u8], table: Table, form: Form) -> Result<usize, Refusal>
+    ensures value { result ≡ written_under (Ok table.entry.types) table.entry.layout.now form.entry.contents.now form.entry.bodies.now out.old }
+    ensures out_after { out.new ≡ stored_under (Ok table.entry.types) table.entry.layout.now form.entry.contents.now form.entry.bodies.now out.old }
 {
-    let last = n - 1;
+    let last = table.types - 1;
     let start = Place { word: 0, byte: 0 };
     let m = measure_item(table, last, form, start)?;
     if m.end.word < form.contents.len() {
@@ -57,10 +55,11 @@ pub fn write(
     ensures out_after { out.new ≡ written_bytes layout.now contents.now bodies.now out.old }
 {
     let mut lens = [0u32; 64];
-    let n = table_of(&mut lens, layout)?;
+    let types = table_of(&mut lens, layout)?;
     let table = Table {
         lens: &lens,
         layout,
+        types,
     };
-    write_under(out, table, n, Form { contents, bodies })
+    write_under(out, table, Form { contents, bodies })
 }

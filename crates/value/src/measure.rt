@@ -5,13 +5,13 @@ ghost use Rattle.standard.specs.Types.{free_bytes, bit_list};
 ghost use Rattle.standard.specs.declared.Refusal.TheVariants.{BadValue};
 ghost use Rattle.layout.specs.Tree.{leaf_of, tree_of, head_of};
 ghost use Rattle.message.specs.Read.{raw_bytes_lem};
-ghost use Rattle.message.specs.Steps.{Under, is_plain};
+ghost use Rattle.message.specs.Steps.{is_plain};
 ghost use Rattle.value.specs.Walk.{upto, wrong, with_body, walk_bits, walk_item};
 ghost use Rattle.value.specs.Steps.{InRow, types_in, cap, measured, measured_item, measured_row, selected, extra, AllPlain};
 
 use crate::form::{Form, Place};
-use crate::laid::{Laid, lay};
-use crate::table::{Members, Table, is_leaf};
+use crate::laid::{Laid, Members, lay};
+use crate::table::{Table, is_leaf};
 use layout::{Kind, Node};
 use standard::Refusal;
 
@@ -163,7 +163,7 @@ fn with_offset(k: usize, len: usize) -> usize
 // How many bytes the elements are, if they are numbers or fixed bytes: those are measured at once. 0 stands for other elements, and for
 // fields.
 fn plain_bytes(table: Table, row: Members) -> usize
-    requires { InRow table.lens.now table.layout.now row × (row.many < 2 ^ 32) }
+    requires { InRow table.layout.now table.types row × (row.many < 2 ^ 32) }
     ensures { 0 < result → AllPlain (types_in table.entry.layout.now row) result }
 {
     if row.step > 0 || row.many == 0 {
@@ -179,7 +179,7 @@ fn plain_bytes(table: Table, row: Members) -> usize
 // Measures the form of an item of the type t, which starts at the place `at`.
 #[cycle(measure_fields_measure_item)]
 pub(crate) fn measure_item(table: Table, t: usize, form: Form, at: Place) -> Result<Mark, Refusal>
-    requires { Under table.lens.now table.layout.now (t + 1) }
+    requires { t < table.types }
     ensures { result ≡ measured_item (tree_of table.entry.layout.now t) form.entry.contents.now form.entry.bodies.now at.word at.byte }
 {
     let n = table.look(t);
@@ -217,7 +217,7 @@ pub(crate) fn measure_item(table: Table, t: usize, form: Form, at: Place) -> Res
 // lower types is measured as an item.
 #[cycle(measure_fields_measure_item)]
 fn measure_fields(table: Table, row: Members, form: Form, start: Place) -> Result<Mark, Refusal>
-    requires { InRow table.lens.now table.layout.now row }
+    requires { InRow table.layout.now table.types row }
     ensures { result ≡ measured_row (types_in table.entry.layout.now row) form.entry.contents.now form.entry.bodies.now start.word start.byte }
 {
     let mut len = 0;

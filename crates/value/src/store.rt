@@ -8,16 +8,15 @@ ghost use Rattle.standard.specs.Parts.{join};
 ghost use Rattle.standard.specs.declared.Head.TheVariants.{Variable};
 ghost use Rattle.layout.specs.Tree.{leaf_of, tree_of, head_of};
 ghost use Rattle.message.specs.Read.{raw_bytes_lem};
-ghost use Rattle.message.specs.Steps.{Under};
 ghost use Rattle.value.specs.Walk.{upto, last_bits, walk_item, walk_fields};
 ghost use Rattle.value.specs.Write.{bytes_at, with_mark, write_item_lem, parts_from};
 ghost use Rattle.value.specs.Steps.{InRow, types_in, heads_in, IsUpto};
 ghost use Rattle.value.specs.Stores.{Put, Together, Fields};
 
 use crate::form::{Form, Place};
-use crate::laid::{Laid, lay};
+use crate::laid::{Laid, Members, lay};
 use crate::measure::raw_bytes;
-use crate::table::{Members, Table, is_leaf};
+use crate::table::{Table, is_leaf};
 use layout::{Kind, Node};
 use standard::words::put_four;
 
@@ -117,7 +116,7 @@ fn width_of(len: usize) -> usize
 
 // The fixed portion of the fields or elements. Elements have an offset each: there may be very many, so they are not added up one by one.
 fn portion_of(table: Table, row: Members) -> usize
-    requires { InRow table.lens.now table.layout.now row × (portion (heads_in table.layout.now row) < 2 ^ 64) × (row.step ≡ 0 → portion (heads_in table.layout.now row) ≡ 4 * row.many) }
+    requires { InRow table.layout.now table.types row × (portion (heads_in table.layout.now row) < 2 ^ 64) × (row.step ≡ 0 → portion (heads_in table.layout.now row) ≡ 4 * row.many) }
     ensures { result ≡ portion (heads_in table.entry.layout.now row) }
 {
     if row.step == 0 {
@@ -135,7 +134,7 @@ fn portion_of(table: Table, row: Members) -> usize
 
 // How many bytes the elements are, if each is of fixed size: those are copied at once. 0 stands for other elements, and for fields.
 fn copied_bytes(table: Table, row: Members) -> usize
-    requires { InRow table.lens.now table.layout.now row × (row.many < 2 ^ 32) }
+    requires { InRow table.layout.now table.types row × (row.many < 2 ^ 32) }
     ensures { Together (types_in table.entry.layout.now row) row.step row.many result }
 {
     if row.step > 0 || row.many == 0 {
@@ -155,7 +154,7 @@ pub(crate) fn write_item(
     form: Form,
     at: Place,
 ) -> Stop
-    requires { Under table.lens.now table.layout.now (t + 1) × IsUpto (walk_item (tree_of table.layout.now t) form.contents.now form.bodies.now at.word at.byte) × Room out.old to (write_item_lem (tree_of table.layout.now t) form.contents.now form.bodies.now at.word at.byte) }
+    requires { (t < table.types) × IsUpto (walk_item (tree_of table.layout.now t) form.contents.now form.bodies.now at.word at.byte) × Room out.old to (write_item_lem (tree_of table.layout.now t) form.contents.now form.bodies.now at.word at.byte) }
     ensures { Put out.old to (write_item_lem (tree_of table.entry.layout.now t) form.entry.contents.now form.entry.bodies.now at.word at.byte) (walk_item (tree_of table.entry.layout.now t) form.entry.contents.now form.entry.bodies.now at.word at.byte) result out.new }
 {
     let own = table.lens[t] as usize;
@@ -198,7 +197,7 @@ fn write_fields(
     form: Form,
     from: Place,
 ) -> Stop
-    requires { Fields table.lens.now table.layout.now row form.contents.now form.bodies.now from.word from.byte out.old start }
+    requires { Fields table.layout.now table.types row form.contents.now form.bodies.now from.word from.byte out.old start }
     ensures { Put out.old start (join (parts_from (types_in table.entry.layout.now row) form.entry.contents.now form.entry.bodies.now from.word from.byte)) (walk_fields (types_in table.entry.layout.now row) form.entry.contents.now form.entry.bodies.now from.word from.byte) result out.new }
 {
     let own = portion_of(table, row);

@@ -1,20 +1,23 @@
 // A table that is known to be legal. Its words are there, so none is compared with the table's length.
-ghost use Rattle.std.specs.Prelude.{◌≡◌, ◌+◌, ◌<◌, ◌^◌};
+ghost use Rattle.std.specs.Prelude.{◌≡◌, ◌+◌, ◌≤◌, ◌<◌, ◌^◌};
 ghost use Rattle.standard.specs.Bytes.{word_at};
 ghost use Rattle.layout.specs.Table.{count};
 ghost use Rattle.layout.specs.Tree.{node_of};
-ghost use Rattle.layout.specs.Legal.{Legal};
+ghost use Rattle.layout.specs.Steps.{Known};
+ghost use Rattle.value.specs.Held.{known_prop};
 ghost use Rattle.layout.specs.Kinds.{is_leaf};
-ghost use Rattle.value.specs.Steps.{fields_of, elements_of};
 
 use layout::{Kind, Node};
 use standard::words::{four_at, word_at};
 
-// The table, and the fixed length of each of its types: 0 stands for variable size.
+// The table, the fixed length of each of its types, where 0 stands for variable size, and how many these are.
 #[derive(Clone, Copy)]
 pub(crate) struct Table<'a> {
     pub lens: &'a [u32; 64],
     pub layout: &'a [u8],
+    pub types: usize,
+    ghost known: { Known lens.now layout.now types } by { known_prop lens.now layout.now types },
+    ghost some: { 1 ≤ types },
 }
 
 // A leaf names no other type.
@@ -25,44 +28,6 @@ pub(crate) fn is_leaf(kind: Kind) -> bool
         kind,
         Kind::Container | Kind::Union | Kind::List | Kind::Vector
     )
-}
-
-// Fields of the type `of`, or its elements: the word at `first` names the first, each next one is named `step` words behind. Fields have a
-// word each, elements share one.
-#[derive(Clone, Copy)]
-pub(crate) struct Members {
-    pub of: usize,
-    pub first: usize,
-    pub step: usize,
-    pub many: usize,
-}
-
-impl Members {
-    // The fields of the container t of which the table says n.
-    pub(crate) fn fields(t: usize, n: Node) -> Members
-        requires { n.at < 2 ^ 32 }
-        ensures { result ≡ fields_of t n }
-    {
-        Members {
-            of: t,
-            first: n.at + 2,
-            step: 1,
-            many: n.second,
-        }
-    }
-
-    // So many elements of the list or vector t of which the table says n.
-    pub(crate) fn elements(t: usize, n: Node, many: usize) -> Members
-        requires { n.at < 2 ^ 32 }
-        ensures { result ≡ elements_of t n many }
-    {
-        Members {
-            of: t,
-            first: n.at + 1,
-            step: 0,
-            many,
-        }
-    }
 }
 
 impl<'a> Table<'a> {
@@ -78,7 +43,7 @@ impl<'a> Table<'a> {
 
     // The kind of the type t.
     pub(crate) fn kind(self, t: usize) -> Kind
-        requires { Legal self.layout.now (t + 1) }
+        requires { t < self.types }
         ensures { result ≡ (node_of self.entry.layout.now t).kind }
     {
         let at = self.word(1 + t);
@@ -87,7 +52,7 @@ impl<'a> Table<'a> {
 
     // What the table says of the type t. The word behind the kind may be missing: a boolean has none.
     pub(crate) fn look(self, t: usize) -> Node
-        requires { Legal self.layout.now (t + 1) }
+        requires { t < self.types }
         ensures { result ≡ node_of self.entry.layout.now t }
     {
         let at = self.word(1 + t);

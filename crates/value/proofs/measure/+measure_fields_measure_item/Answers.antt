@@ -1,22 +1,25 @@
 -- Items and fields call each other; the type number falls. The loop over the fields keeps `Measuring`. Assumes nothing.
 use Rattle.std.proofs.Common.{◌∙◌, sym, refl, arith}
 use Rattle.std.proofs.lemmas.Result.{err_from_is_err_and}
-use Rattle.std.proofs.Math.Nat.{sub-add-eq}
-use Rattle.message.proofs.Rows.{row-there, row-legal, row_below, row_under, row-few, under-below}
-use Rattle.value.proofs.Rows.{measuring_next, measuring_stop, measuring_end}
+use Rattle.std.proofs.Math.Nat.{sub-zero, sub-add-eq}
+use Rattle.message.proofs.Rows.{row-there, row_below, row-few}
+use Rattle.value.proofs.Rows.{row-known, measuring_none, measuring_next, measuring_stop, measuring_end}
 use Rattle.value.proofs.Plain.{below-measured, plain-field, measuring_plain, measuring_short}
-use Rattle.value.proofs.Made.{laid-below, plain-measured}
+use Rattle.value.proofs.Made.{laid-below, laid-row, plain-measured}
 use Rattle.value.proofs.measure.+measure_fields_measure_item.Goals as goal
 use Rattle.value.proofs.measure.+measure_fields_measure_item.Goals.{measure_fields-then-is_leaf, measure_fields-else-is_leaf}
+
+pub measure_fields-loop-init : goal.measure_fields-loop-init
+measure_fields-loop-init t c = rw sub-zero (measuring_none _ _ _ _ _ _ _ _ _ _ (row-known _ _ _ _ c.args.table.known c.requires))
 
 pub measure_fields-word-f-requires : goal.measure_fields-word-f-requires
 measure_fields-word-f-requires t c = row-there _ _ _ _ _ _ c.loop.invariant.row (omega arith)
 
 pub measure_fields-kind-requires : goal.measure_fields-kind-requires
-measure_fields-kind-requires t c = row-legal _ _ _ _ _ _ _ c.loop.invariant.row (omega arith) c.word-f.ensures.0
+measure_fields-kind-requires t c = omega (arith, c.requires.own, row_below _ _ _ _ _ _ _ c.loop.invariant.row (omega arith) c.word-f.ensures.0)
 
 pub measure_fields-look-n-requires : goal.measure_fields-look-n-requires
-measure_fields-look-n-requires t c = row-legal _ _ _ _ _ _ _ c.loop.invariant.row (omega arith) c.word-f.ensures.0
+measure_fields-look-n-requires t c = omega (arith, c.requires.own, row_below _ _ _ _ _ _ _ c.loop.invariant.row (omega arith) c.word-f.ensures.0)
 
 pub measure_fields-bounds-table-f : goal.measure_fields-bounds-table-f
 measure_fields-bounds-table-f t c = row-few _ _ _ _ _ _ _ c.loop.invariant.row (omega arith) c.word-f.ensures.0
@@ -38,7 +41,7 @@ measure_fields-loop-preserved-then-is_plain t c =
 pub measure_fields-measure_item-r-requires : goal.measure_fields-measure_item-r-requires
 measure_fields-measure_item-r-requires t c =
     let below = row_below _ _ _ _ _ _ _ c.loop.invariant.row (omega arith) c.word-f.ensures.0 in
-    (omega (arith, below, c.decreases), row_under _ _ _ _ _ _ _ c.loop.invariant.row (omega arith) c.word-f.ensures.0)
+    (omega (arith, below, c.decreases), omega (arith, below, c.requires.own))
 
 pub measure_fields-loop-preserved : goal.measure_fields-loop-preserved
 measure_fields-loop-preserved t c =
@@ -78,4 +81,14 @@ measure_item-returns-then-all-gt0 t c =
 pub measure_item-measure_item-requires : goal.measure_item-measure_item-requires
 measure_item-measure_item-requires t c =
     let below = laid-below _ _ _ _ _ c.in_ok-members.ensures _ c.in-Body.is in
-    (omega (arith, below, c.decreases), under-below _ _ _ _ (omega (arith, below)) c.requires)
+    (omega (arith, below, c.decreases), omega (arith, below))
+
+pub measure_item-plain_bytes-all-requires : goal.measure_item-plain_bytes-all-requires
+measure_item-plain_bytes-all-requires t c =
+    let r = laid-row _ _ _ _ _ c.in_ok-members.ensures _ _ c.in-Row.is _ c.requires in
+    (r.0, r.2)
+
+pub measure_item-measure_fields-requires : goal.measure_item-measure_fields-requires
+measure_item-measure_fields-requires t c =
+    let r = laid-row _ _ _ _ _ c.in_ok-members.ensures _ _ c.in-Row.is _ c.requires in
+    (omega (arith, r.1, c.decreases), r.0)

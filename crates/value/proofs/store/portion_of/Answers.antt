@@ -2,11 +2,12 @@
 use Rattle.std.proofs.Common.{arith}
 use Rattle.std.proofs.Math.Nat.{sub-zero, sub-add-eq}
 use Rattle.message.proofs.Rows.{row-there, row-few}
+use Rattle.value.proofs.Rows.{row-known}
 use Rattle.value.proofs.Fills.{adding-none, adding-same, adding-next, adding-end}
 use Rattle.value.proofs.store.portion_of.Goals as goal
 
 pub loop-init : goal.loop-init
-loop-init c = rw sub-zero (adding-none _ _ _ _ _ _ c.requires.0)
+loop-init c = rw sub-zero (adding-none _ _ _ _ _ _ (row-known _ _ _ _ c.args.table.known c.requires.0))
 
 pub word-f-requires : goal.word-f-requires
 word-f-requires c = row-there _ _ _ _ _ _ c.loop.invariant.row (omega arith)
