@@ -52,9 +52,9 @@ whole-taken : (c : Bool) (n e : ℕ) → pick c (Some n) None ≡ Some e → (c 
 whole-taken true n e h = (refl, (cc))
 whole-taken false n e h = let z : ◌≡◌ {A = ℕ} 0 1 = cc in absurd (omega arith)
 
-pub end-within : (b : List ℕ) (p e : ℕ) → Some e ≡ end_of b p → (p + 4 ≤ e) × (e ≤ length b)
+pub end_within : (b : List ℕ) (p e : ℕ) → Some e ≡ end_of b p → (p + 4 ≤ e) × (e ≤ length b)
 unfolding end_of
-end-within b p e h =
+end_within b p e h =
     let w = whole-taken (leb (p + 4 + four b p) (length b)) (p + 4 + four b p) e (sym h) in
     let k : p + 4 + four b p ≤ length b = leb-true _ _ w.0 in
     omega (arith, w.1)
@@ -81,7 +81,7 @@ part-behind b k i h e =
 
 -- Before the end each step goes on, and not past the end.
 next-step : (b : List ℕ) (p : ℕ) (x : Option ℕ) → x ≡ end_of b p → p < length b → (p < reach x (length b)) × (reach x (length b) ≤ length b)
-next-step b p (Some e) h k = let w = end-within b p e h in omega arith
+next-step b p (Some e) h k = let w = end_within b p e h in omega arith
 next-step b p None h k = omega arith
 
 pub next-further : (b : List ℕ) (p : ℕ) → p < length b → (p < next_of b p) × (next_of b p ≤ length b)
@@ -110,7 +110,7 @@ row_step : (b : List ℕ) (n p e : ℕ) (x : Option ℕ) →
     ((q : ℕ) → q ≤ length b → Some e ≡ row_end b n q → (q ≤ e) × (e ≤ length b)) →
     (p ≤ e) × (e ≤ length b)
 row_step b n p e (Some q) h k f =
-    let w = end-within b p q h in
+    let w = end_within b p q h in
     let v = f q w.1 k in
     omega arith
 row_step b n p e None h k f = let z : ◌≡◌ {A = ℕ} 0 1 = cc in absurd (omega arith)
@@ -126,9 +126,9 @@ record-step : (c : Bool) (b : List ℕ) (n e : ℕ) → (c ≡ false → 8 ≤ l
 record-step true b n e h k = let z : ◌≡◌ {A = ℕ} 0 1 = cc in absurd (omega arith)
 record-step false b n e h k = row_within b n 8 e (h refl) k
 
-pub record-within : (b : List ℕ) (e : ℕ) → Some e ≡ record_end_lem b → (8 ≤ e) × (e ≤ length b)
+pub record_within : (b : List ℕ) (e : ℕ) → Some e ≡ record_end_lem b → (8 ≤ e) × (e ≤ length b)
 unfolding record_end_lem
-record-within b e h = record-step (ltb (length b) 8) b (word_at b 1) e (ltb-false (length b) 8) h
+record_within b e h = record-step (ltb (length b) 8) b (word_at b 1) e (ltb-false (length b) 8) h
 
 pub then-pick : (c : Bool) (n : ℕ) → then_some c n ≡ pick c (Some n) None
 then-pick true n = refl

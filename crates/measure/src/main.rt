@@ -5,13 +5,13 @@
 // Messages: layout and message; what is to be written is unfolded first. No buffer is cleared between rounds.
 #![tactic(auto)]
 
-mod lists;
+mod bits;
 mod messages;
-mod sums;
-mod vectors;
+mod rounds;
 
 ghost use Rattle.std.specs.Prelude.{◌≡◌, ◌≤◌, length};
 
+use bitfield::{Fixed, Variable};
 use cases::{number, part, record_end};
 use standard::words::word_at;
 use std::io::Read;
@@ -19,6 +19,8 @@ use std::rt::Files;
 use std::{fs, io};
 
 // Room for a message of 1 MiB, or for what comes of it.
+// kept: in `main` the check would count the array's elements, which are too many for it (tried: its stack of 1 GiB runs out); here the
+// length is a law.
 fn room() -> [u8; 1310720]
     ensures { 1310720 ≡ length result }
 {
@@ -30,12 +32,8 @@ fn read_full<R: Read>(reader: &mut R, b: &mut [u8]) -> usize
     ensures { result ≤ length b.new }
 {
     let mut done = 0;
-    while done < b.len() {
-        match reader.read(&mut b[done..]) {
-            Ok(0) => break,
-            Ok(n) => done += n,
-            Err(_) => break,
-        }
+    while let Ok(n @ 1..) = reader.read(&mut b[done..]) {
+        done += n;
     }
     done
 }
@@ -51,26 +49,12 @@ fn read_plan(rt: &impl Files, b: &mut [u8]) -> usize
 }
 
 fn run(plan: &[u8], contents: &mut [u32], bodies: &mut [u8], out: &mut [u8]) -> Option<usize> {
-    let Some(_) = record_end(plan) else {
-        return None;
-    };
-    let Some(rounds) = number(part(plan, 0)) else {
-        return None;
-    };
-    let op = word_at(plan, 0);
-    if op < 30 {
-        return lists::run(op, plan, out, rounds);
-    }
-    if op < 50 {
-        return vectors::run(op, plan, out, rounds);
-    }
-    messages::run(op, plan, contents, bodies, out, rounds)
-}
-
-fn print(rt: &impl Print, sum: Option<usize>) -> io::Result<()> {
-    match sum {
-        Some(n) => println!(rt; "{n}"),
-        None => println!(rt; "bad plan"),
+    record_end(plan)?;
+    let rounds = number(part(plan, 0))?;
+    match word_at(plan, 0) {
+        op @ ..30 => bits::run::<Variable>(op, plan, out, rounds),
+        op @ 30..50 => bits::run::<Fixed>(op - 20, plan, out, rounds),
+        op => messages::run(op, plan, contents, bodies, out, rounds),
     }
 }
 
@@ -80,6 +64,8 @@ fn main(rt: HostRuntime) -> io::Result<()> {
     let mut out = room();
     let mut contents = [0u32; 65536];
     let n = read_plan(&rt, &mut plan);
-    let sum = run(&plan[..n], &mut contents, &mut bodies, &mut out);
-    print(&rt, sum)
+    match run(&plan[..n], &mut contents, &mut bodies, &mut out) {
+        Some(sum) => println!(rt; "{sum}"),
+        None => println!(rt; "bad plan"),
+    }
 }

@@ -1,88 +1,8 @@
 // Operations 71 to 74: the message check, the listing, the unfolding and the value writer.
-use crate::sums::{byte_in, least, plus};
+use crate::rounds::{byte_in, repeat};
 use cases::part;
-use message::{Answer, Listed, Unfolded};
-
-fn checked(layout: &[u8], message: &[u8]) -> usize {
-    let answer = message::check(layout, message);
-    match answer {
-        Answer::Accepted(c) => plus(c.records, plus(c.words, c.bytes)),
-        Answer::Refused(_, _, _) => 0,
-    }
-}
-
-fn listed(layout: &[u8], message: &[u8], out: &mut [u8], round: usize) -> usize {
-    let answer = message::list(layout, message, out);
-    match answer {
-        Listed::Records(n) => plus(n, byte_in(out, round)),
-        Listed::Refused(_, _, _) => 0,
-    }
-}
-
-fn unfolded(
-    layout: &[u8],
-    message: &[u8],
-    contents: &mut [u32],
-    bodies: &mut [u8],
-    round: usize,
-) -> usize {
-    let answer = message::unfold(layout, message, contents, bodies);
-    match answer {
-        Unfolded::Sizes(w, b) => plus(plus(w, b), byte_in(bodies, round)),
-        Unfolded::Refused(_, _, _) => 0,
-    }
-}
-
-fn written(layout: &[u8], contents: &[u32], bodies: &[u8], out: &mut [u8], round: usize) -> usize {
-    let answer = value::write(layout, contents, bodies, out);
-    match answer {
-        Ok(n) => plus(n, byte_in(out, round)),
-        Err(_) => 0,
-    }
-}
-
-fn once(
-    op: usize,
-    layout: &[u8],
-    message: &[u8],
-    contents: &mut [u32],
-    bodies: &mut [u8],
-    round: usize,
-) -> usize {
-    match op {
-        71 => checked(layout, message),
-        72 => listed(layout, message, bodies, round),
-        73 => unfolded(layout, message, contents, bodies, round),
-        _ => 0,
-    }
-}
-
-fn read(
-    op: usize,
-    layout: &[u8],
-    message: &[u8],
-    contents: &mut [u32],
-    bodies: &mut [u8],
-    rounds: usize,
-) -> usize {
-    let mut sum = 0;
-    let mut left = rounds;
-    while left > 0 {
-        sum = plus(sum, once(op, layout, message, contents, bodies, left));
-        left -= 1;
-    }
-    sum
-}
-
-fn write(layout: &[u8], contents: &[u32], bodies: &[u8], out: &mut [u8], rounds: usize) -> usize {
-    let mut sum = 0;
-    let mut left = rounds;
-    while left > 0 {
-        sum = plus(sum, written(layout, contents, bodies, out, left));
-        left -= 1;
-    }
-    sum
-}
+use message::{check, list, unfold};
+use value::write;
 
 pub(crate) fn run(
     op: usize,
@@ -94,14 +14,33 @@ pub(crate) fn run(
 ) -> Option<usize> {
     let layout = part(plan, 1);
     let message = part(plan, 2);
-    if op < 74 {
-        return Some(read(op, layout, message, contents, bodies, rounds));
+    match op {
+        71 => Some(repeat(rounds, |_| match check(layout, message) {
+            Ok(c) => c.records.wrapping_add(c.words.wrapping_add(c.bytes)),
+            Err(_) => 0,
+        })),
+        72 => Some(repeat(rounds, |round| match list(layout, message, bodies) {
+            Ok(n) => n.wrapping_add(byte_in(bodies, round)),
+            Err(_) => 0,
+        })),
+        73 => Some(repeat(rounds, |round| {
+            match unfold(layout, message, contents, bodies) {
+                Ok(n) => n
+                    .words
+                    .wrapping_add(n.bytes)
+                    .wrapping_add(byte_in(bodies, round)),
+                Err(_) => 0,
+            }
+        })),
+        ..74 => Some(0),
+        _ => {
+            let form = unfold(layout, message, contents, bodies).ok()?;
+            let contents = contents.get(..form.words)?;
+            let bodies = bodies.get(..form.bytes)?;
+            Some(repeat(rounds, |round| match write(layout, contents, bodies, out) {
+                Ok(n) => n.wrapping_add(byte_in(out, round)),
+                Err(_) => 0,
+            }))
+        }
     }
-    let form = message::unfold(layout, message, contents, bodies);
-    let Unfolded::Sizes(w, b) = form else {
-        return None;
-    };
-    let words = least(w, contents.len());
-    let bytes = least(b, bodies.len());
-    Some(write(layout, &contents[..words], &bodies[..bytes], out, rounds))
 }

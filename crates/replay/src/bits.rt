@@ -1,79 +1,186 @@
-// What the operations on bit lists and on bit vectors share: held bitfields in parts, and the answers.
+// Operations 10 to 45: bit lists and bit vectors.
 //
 // A held bitfield is its 256 bytes, its length and its N.
-use crate::answers::{fine, least, refused, room_for};
-use bitfield::HighestBit;
-use cases::{Verdict, is_number, number_at};
+use crate::case::Case;
+use crate::room::{Room, lend};
+use bitfield::{BitList, BitVector, Bitfield, BitfieldBehaviour};
+use cases::{is_number, number, number_at};
+use standard::{Refusal, Refused};
 
-const HELD: usize = 272;
-
-pub(crate) fn is_held(part: &[u8]) -> bool {
-    part.len() == HELD
+// What is asked of lists and of vectors alike.
+#[derive(Clone, Copy)]
+pub(crate) enum Operation {
+    Intersection,
+    Union,
+    IsSubset,
+    Set,
+    Get,
+    HighestSetBit,
+    IsZero,
+    NumSetBits,
+    Difference,
+    Not,
+    ShiftUp,
 }
 
-pub(crate) fn len_of(held: &[u8]) -> usize {
-    number_at(held, 32)
-}
-
-pub(crate) fn n_of(held: &[u8]) -> usize {
-    number_at(held, 33)
-}
-
-pub(crate) fn bytes_of(held: &[u8]) -> [u8; 256] {
-    let mut bytes = [0u8; 256];
-    let n = least(held.len(), 256);
-    let mut i = 0;
-    while i < n {
-        bytes[i] = held[i];
-        i += 1;
+impl Operation {
+    // By a list's number; a vector's is 20 above.
+    pub(crate) fn of(number: usize) -> Option<Operation> {
+        match number {
+            13 => Some(Operation::Intersection),
+            14 => Some(Operation::Union),
+            15 => Some(Operation::IsSubset),
+            18 => Some(Operation::Set),
+            19 => Some(Operation::Get),
+            20 => Some(Operation::HighestSetBit),
+            21 => Some(Operation::IsZero),
+            22 => Some(Operation::NumSetBits),
+            23 => Some(Operation::Difference),
+            24 => Some(Operation::Not),
+            25 => Some(Operation::ShiftUp),
+            _ => None,
+        }
     }
-    bytes
 }
 
-fn first_bytes(held: &[u8]) -> &[u8] {
-    let n = room_for(256, held);
-    &held[..n]
+fn held<T: BitfieldBehaviour>(part: &[u8]) -> Option<Bitfield<T>> {
+    let (bytes, numbers) = part.split_first_chunk::<256>()?;
+    if numbers.len() != 16 {
+        return None;
+    }
+    Some(Bitfield::from_parts(*bytes, number_at(numbers, 0), number_at(numbers, 1)))
 }
 
 // Whether the part is just this held bitfield.
-pub(crate) fn has(part: &[u8], bytes: [u8; 256], len: usize, n: usize) -> bool {
-    is_held(part)
-        && check::same(&bytes, first_bytes(part))
-        && len_of(part) == len
-        && n_of(part) == n
+fn is_held<T: BitfieldBehaviour>(part: &[u8], field: Bitfield<T>) -> bool {
+    held::<T>(part).is_some_and(|x| x.bytes == field.bytes && x.len == field.len && x.n == field.n)
 }
 
-// Whether the part is 0 or 1.
-pub(crate) fn is_bit(part: &[u8]) -> bool {
-    is_number(part, 0) || is_number(part, 1)
+// The value of a part that is 0 or 1.
+fn bit(part: &[u8]) -> Option<bool> {
+    if is_number(part, 0) {
+        Some(false)
+    } else {
+        is_number(part, 1).then_some(true)
+    }
 }
 
-pub(crate) fn bit(head: &[u8], res: &[u8], answer: Result<bool, Refusal>) -> Verdict {
+fn is_made<T: BitfieldBehaviour>(case: Case<'_>, answer: Result<Bitfield<T>, Refusal>) -> bool {
+    case.has(answer, |field| is_held(case.value(0), field))
+}
+
+// The same of a bitfield of the question, which a refusal leaves as it was.
+fn is_changed<T: BitfieldBehaviour>(
+    case: Case<'_>,
+    answer: Result<Bitfield<T>, Refused<Bitfield<T>>>,
+) -> bool {
     match answer {
-        Ok(x) => {
-            let expected = if x { 1 } else { 0 };
-            fine(head, is_number(res, expected))
+        Ok(field) => case.is_fine() && is_held(case.value(0), field),
+        Err(e) => case.is_refusal(e.refusal, 0) && is_held(case.part(0), e.state),
+    }
+}
+
+// Whether the part is 0 for no bit, else the bit's index plus 1.
+fn is_place(part: &[u8], highest: Option<usize>) -> bool {
+    number(part).is_some_and(|n| n.checked_sub(1) == highest)
+}
+
+fn is_told(case: Case<'_>, answer: Result<bool, Refusal>) -> bool {
+    case.has(answer, |x| is_number(case.value(0), usize::from(x)))
+}
+
+// 10: bits, N. Held.
+pub(crate) fn with_capacity(b: &[u8]) -> Option<bool> {
+    let case = Case::new(b, 2, 1, 0)?;
+    Some(is_made(
+        case,
+        BitList::with_capacity(case.number(0)?, case.number(1)?),
+    ))
+}
+
+// 16: held, M. Held.
+pub(crate) fn resize(b: &[u8]) -> Option<bool> {
+    let case = Case::new(b, 2, 1, 0)?;
+    let field: BitList = held(case.part(0))?;
+    Some(is_changed(case, field.resize(case.number(1)?)))
+}
+
+// 17: held. Held.
+pub(crate) fn clone_zeroed(b: &[u8]) -> Option<bool> {
+    let case = Case::new(b, 1, 1, 0)?;
+    let field: BitList = held(case.part(0))?;
+    Some(is_changed(case, field.clone_zeroed()))
+}
+
+// 30: N. Held.
+pub(crate) fn new(b: &[u8]) -> Option<bool> {
+    let case = Case::new(b, 1, 1, 0)?;
+    Some(is_made(case, BitVector::new(case.number(0)?)))
+}
+
+// 11, 31: bytes, N. Held.
+pub(crate) fn from_bytes<T: BitfieldBehaviour, F: Fn(&[u8], usize) -> Result<Bitfield<T>, Refusal>>(
+    b: &[u8],
+    read: F,
+) -> Option<bool>
+    requires { F.IsAlwaysCallable read }
+{
+    let case = Case::new(b, 2, 1, 0)?;
+    Some(is_made(case, read(case.part(0), case.number(1)?)))
+}
+
+// 12, 32: held, buffer. Bytes written, buffer.
+pub(crate) fn into_bytes<
+    T: BitfieldBehaviour,
+    F: Fn(Bitfield<T>, &mut [u8]) -> Result<usize, Refusal>,
+>(b: &[u8], room: &mut Room, write: F) -> Option<bool>
+    requires { F.IsAlwaysCallable write }
+{
+    let case = Case::new(b, 2, 1, 1)?;
+    let field = held(case.part(0))?;
+    let out = lend(&mut room.first, case.part(1));
+    let answer = write(field, out);
+    Some(case.has(answer, |n| is_number(case.value(0), n)) && *out == *case.buffer(0))
+}
+
+// 13, 14, 15, 23: held, held. 18: held, i, 0 or 1. 19, 25: held, number. 20, 21, 22, 24: held. Those that change a bitfield of the
+// caller's own are asked by value and behind a reference.
+pub(crate) fn alike<T: BitfieldBehaviour>(b: &[u8], operation: Operation) -> Option<bool> {
+    let questions = match operation {
+        Operation::Set => 3,
+        Operation::HighestSetBit | Operation::IsZero | Operation::NumSetBits | Operation::Not => 1,
+        _ => 2,
+    };
+    let case = Case::new(b, questions, 1, 0)?;
+    let field: Bitfield<T> = held(case.part(0))?;
+    let is_answer = match operation {
+        Operation::Intersection => is_changed(case, field.intersection(held(case.part(1))?)),
+        Operation::Union => is_changed(case, field.union(held(case.part(1))?)),
+        Operation::IsSubset => is_told(case, field.is_subset(held(case.part(1))?)),
+        Operation::Difference => {
+            let other = held(case.part(1))?;
+            is_changed(case, field.difference(other))
+                && is_changed(case, lent::after_difference(field, other))
         }
-        Err(e) => refused(head, e, res),
-    }
-}
-
-pub(crate) fn count(head: &[u8], res: &[u8], answer: Result<usize, Refusal>) -> Verdict {
-    match answer {
-        Ok(n) => fine(head, is_number(res, n)),
-        Err(e) => refused(head, e, res),
-    }
-}
-
-// The index plus 1, so that 0 is none.
-fn is_place(res: &[u8], i: usize) -> bool {
-    i < usize::MAX && is_number(res, i + 1)
-}
-
-pub(crate) fn highest(head: &[u8], res: &[u8], answer: HighestBit) -> Verdict {
-    match answer {
-        HighestBit::At(i) => fine(head, is_place(res, i)),
-        HighestBit::Nothing => fine(head, is_number(res, 0)),
-        HighestBit::Refused(e) => refused(head, e, res),
-    }
+        Operation::Set => {
+            let i = case.number(1)?;
+            let value = bit(case.part(2))?;
+            is_changed(case, field.set(i, value))
+                && is_changed(case, lent::after_set(field, i, value))
+        }
+        Operation::Get => is_told(case, field.get(case.number(1)?)),
+        Operation::ShiftUp => is_changed(case, field.shift_up(case.number(1)?)),
+        Operation::HighestSetBit => {
+            case.has(
+                field.highest_set_bit(),
+                |highest| is_place(case.value(0), highest),
+            )
+        }
+        Operation::IsZero => is_told(case, field.is_zero()),
+        Operation::NumSetBits => { case.has(field.num_set_bits(), |n| is_number(case.value(0), n)) }
+        Operation::Not => {
+            is_changed(case, field.not()) && is_changed(case, lent::after_not(field))
+        }
+    };
+    Some(is_answer)
 }

@@ -1,18 +1,23 @@
-// Operations 50 and 51: the builder and the reader.
-use crate::answers::{fine, is_empty, is_fine, is_refusal, refused};
+// Operations 50 to 52: the builder and the reader.
+use crate::case::Case;
 use crate::walked;
-use cases::{ANY, Verdict, is_formed, is_number, number, number_at, part};
-use decode::decoder::{Built, Registered, SszDecoder, SszDecoderBuilder};
-use standard::Refusal;
+use cases::{ANY, is_number, number, number_at};
+use decode::decoder::{SszDecoder, SszDecoderBuilder};
+use standard::{Refusal, Refused};
 
-// How many registrations were accepted, and what came of the builder.
-#[derive(Clone, Copy)]
-pub(crate) struct Ran {
-    accepted: usize,
-    built: Built,
+// A builder's state is its count, its position, 64 starts and 64 ends.
+const BUILDER: usize = 1040;
+
+// What a registration gives: the next state, or the one before.
+type Registered = Result<SszDecoderBuilder, Refused<SszDecoderBuilder>>;
+
+// By document 01's one name for either kind. A variable item's length is of no account.
+fn by_name(state: SszDecoderBuilder, item: usize, bytes: &[u8]) -> Registered {
+    state.register_type_parameterized(item != ANY, item, bytes)
 }
 
-fn register_apart(state: SszDecoderBuilder, item: usize, bytes: &[u8]) -> Registered {
+// By the function of the kind.
+fn by_kind(state: SszDecoderBuilder, item: usize, bytes: &[u8]) -> Registered {
     if item == ANY {
         state.register_variable(bytes)
     } else {
@@ -20,159 +25,158 @@ fn register_apart(state: SszDecoderBuilder, item: usize, bytes: &[u8]) -> Regist
     }
 }
 
-// By document 01's one name for either kind, or by the function of the kind. A variable item's length is of no account.
-pub(crate) fn register(
-    state: SszDecoderBuilder,
-    item: usize,
-    named: bool,
-    bytes: &[u8],
-) -> Registered {
-    if named {
-        state.register_type_parameterized(item != ANY, item, bytes)
-    } else {
-        register_apart(state, item, bytes)
-    }
-}
-
-fn stopped(accepted: usize, refusal: Refusal) -> Ran {
-    Ran {
-        accepted,
-        built: Built {
-            told: Err(refusal),
-            decoder: SszDecoder {
-                count: 0,
-                starts: [0; 64],
-                ends: [0; 64],
-            },
-        },
-    }
+// How many registrations were accepted, and what came of the builder.
+#[derive(Clone, Copy)]
+struct Ran {
+    accepted: usize,
+    built: Result<SszDecoder, Refusal>,
 }
 
 // The registrations in order up to the first refusal, then the end.
-fn register_all(bytes: &[u8], row: &[u8], named: bool) -> Ran {
+fn register_all<F: Fn(SszDecoderBuilder, usize, &[u8]) -> Registered>(
+    bytes: &[u8],
+    row: &[u8],
+    register: F,
+) -> Ran
+    requires { F.IsAlwaysCallable register }
+{
     let mut state = SszDecoderBuilder::new();
-    let n = row.len() / 8;
-    let mut i = 0;
-    while i < n {
-        let next = register(state, number_at(row, i), named, bytes);
-        let said = next.told;
-        match said {
-            Ok(()) => {
-                let after = next.state;
-                state = after;
+    for (accepted, item) in row.chunks_exact(8).enumerate() {
+        match register(state, number_at(item, 0), bytes) {
+            Ok(next) => state = next,
+            Err(e) => {
+                return Ran {
+                    accepted,
+                    built: Err(e.refusal),
+                };
             }
-            Err(e) => return stopped(i, e),
         }
-        i += 1;
     }
     Ran {
-        accepted: n,
+        accepted: row.len() / 8,
         built: state.build(bytes),
     }
 }
 
 // Whether the row has just these ranges.
-pub(crate) fn is_ranges(row: &[u8], decoder: SszDecoder) -> bool {
-    let count = decoder.count;
-    let starts = decoder.starts;
-    let ends = decoder.ends;
-    if count > 64 {
-        return false;
-    }
-    if row.len() != 16 * count {
-        return false;
-    }
-    let mut i = 0;
-    while i < count {
-        if number_at(row, 2 * i) != starts[i] {
-            return false;
-        }
-        if number_at(row, 2 * i + 1) != ends[i] {
-            return false;
-        }
-        i += 1;
-    }
-    true
+fn is_ranges(row: &[u8], decoder: SszDecoder) -> bool {
+    decoder.count <= 64
+        && row.len() == 16 * decoder.count
+        && row
+            .chunks_exact(16)
+            .zip(decoder.starts.iter().zip(&decoder.ends))
+            .all(|(range, (start, end))| {
+                number_at(range, 0) == *start && number_at(range, 1) == *end
+            })
 }
 
-// Whether this is the expected answer.
-fn is_ran(b: &[u8], ran: Ran) -> bool {
-    if !is_number(part(b, 3), ran.accepted) {
-        return false;
-    }
-    let built = ran.built;
-    let said = built.told;
-    match said {
-        Ok(()) => is_fine(part(b, 2)) && is_ranges(part(b, 4), built.decoder),
-        Err(e) => is_refusal(part(b, 2), e) && is_empty(part(b, 4)),
-    }
+// Whether this is the expected answer: the number accepted stands beside a refusal too.
+fn is_ran(case: Case<'_>, ran: Ran) -> bool {
+    let is_end = match ran.built {
+        Ok(decoder) => case.is_fine() && is_ranges(case.value(1), decoder),
+        Err(e) => case.is_refusal(e, 1),
+    };
+    is_number(case.value(0), ran.accepted) && is_end
 }
 
 // 50: bytes, registrations. How many were accepted, ranges. Both ways to register are asked.
-pub(crate) fn build(b: &[u8]) -> Verdict {
-    if !is_formed(b, 2, 5) {
-        return Verdict::Malformed;
-    }
-    let row = part(b, 1);
+pub(crate) fn build(b: &[u8]) -> Option<bool> {
+    let case = Case::new(b, 2, 2, 0)?;
+    let bytes = case.part(0);
+    let row = case.part(1);
     if row.len() % 8 != 0 {
-        return Verdict::Malformed;
+        return None;
     }
-    let bytes = part(b, 0);
-    cases::told(
-        is_ran(b, register_all(bytes, row, true)) && is_ran(b, register_all(bytes, row, false)),
-    )
+    let named = register_all(bytes, row, by_name);
+    let apart = register_all(bytes, row, by_kind);
+    Some(is_ran(case, named) && is_ran(case, apart))
 }
 
-// The reader with these ranges.
-fn decoder_of(row: &[u8]) -> SszDecoder {
+// The reader with these ranges, at most 64.
+fn decoder_of(row: &[u8]) -> Option<SszDecoder> {
+    if row.len() % 16 != 0 || row.len() > 1024 {
+        return None;
+    }
     let mut starts = [0usize; 64];
     let mut ends = [0usize; 64];
-    let mut i = 0;
-    while i < 64 {
-        starts[i] = number_at(row, 2 * i);
-        ends[i] = number_at(row, 2 * i + 1);
-        i += 1;
+    for ((start, end), range) in starts.iter_mut().zip(&mut ends).zip(row.chunks_exact(16)) {
+        *start = number_at(range, 0);
+        *end = number_at(range, 1);
     }
-    SszDecoder {
+    Some(SszDecoder {
         count: row.len() / 16,
         starts,
         ends,
-    }
-}
-
-fn item_asked(b: &[u8], decoder: SszDecoder, index: usize) -> Verdict {
-    let bytes = part(b, 0);
-    let said = decoder.item_told(index, bytes.len());
-    match said {
-        Ok(()) => {
-            if !walked::hands_out(decoder, index, bytes, part(b, 4)) {
-                return Verdict::Differs;
-            }
-            fine(
-                part(b, 3),
-                check::same(decoder.item(index, bytes), part(b, 4)),
-            )
-        }
-        Err(e) => {
-            if !walked::refuses(decoder, index, bytes, part(b, 3)) {
-                return Verdict::Differs;
-            }
-            refused(part(b, 3), e, part(b, 4))
-        }
-    }
+    })
 }
 
 // 51: bytes, ranges, item number. The item.
-pub(crate) fn item(b: &[u8]) -> Verdict {
-    if !is_formed(b, 3, 5) {
-        return Verdict::Malformed;
-    }
-    let row = part(b, 1);
-    if row.len() % 16 != 0 || row.len() > 1024 {
-        return Verdict::Malformed;
-    }
-    let Some(index) = number(part(b, 2)) else {
-        return Verdict::Malformed;
+pub(crate) fn item(b: &[u8]) -> Option<bool> {
+    let case = Case::new(b, 3, 1, 0)?;
+    let bytes = case.part(0);
+    let decoder = decoder_of(case.part(1))?;
+    let index = case.number(2)?;
+    let expected = case.value(0);
+    let answer = decoder.item_told(index, bytes.len());
+    let is_walked = match answer {
+        Ok(()) => walked::hands_out(decoder, index, bytes, expected),
+        Err(_) => walked::refuses(decoder, index, bytes, case.head()),
     };
-    item_asked(b, decoder_of(row), index)
+    Some(is_walked && case.has(answer, |()| decoder.item(index, bytes) == expected))
+}
+
+// The row's first 64 numbers.
+fn numbers(row: &[u8]) -> [usize; 64] {
+    let mut found = [0usize; 64];
+    for (slot, bytes) in found.iter_mut().zip(row.chunks_exact(8)) {
+        *slot = number_at(bytes, 0);
+    }
+    found
+}
+
+fn builder_of(row: &[u8]) -> Option<SszDecoderBuilder> {
+    if row.len() != BUILDER {
+        return None;
+    }
+    Some(SszDecoderBuilder {
+        count: number_at(row, 0),
+        pos: number_at(row, 1),
+        starts: numbers(&row[16..]),
+        ends: numbers(&row[528..]),
+    })
+}
+
+// Whether the part is just this state.
+fn is_builder(row: &[u8], state: SszDecoderBuilder) -> bool {
+    builder_of(row).is_some_and(|x| {
+        x.count == state.count
+            && x.pos == state.pos
+            && x.starts == state.starts
+            && x.ends == state.ends
+    })
+}
+
+// Whether a registration gives the expected state, beside a refusal the old one.
+fn is_registered(case: Case<'_>, answer: Registered) -> bool {
+    let is_state = match answer {
+        Ok(state) => case.is_fine() && is_builder(case.value(0), state),
+        Err(e) => case.is_refusal(e.refusal, 1) && is_builder(case.value(0), e.state),
+    };
+    is_state && case.value(1).is_empty()
+}
+
+// 52: bytes, state, registration or nothing for the end. State, ranges. Both ways to register are asked.
+pub(crate) fn builder(b: &[u8]) -> Option<bool> {
+    let case = Case::new(b, 3, 2, 0)?;
+    let bytes = case.part(0);
+    let state = builder_of(case.part(1))?;
+    if case.part(2).is_empty() {
+        let answer = state.build(bytes);
+        let is_end = case.has(answer, |decoder| is_ranges(case.value(1), decoder));
+        return Some(is_end && case.value(0).is_empty());
+    }
+    let item = number(case.part(2))?;
+    let named = by_name(state, item, bytes);
+    let apart = by_kind(state, item, bytes);
+    Some(is_registered(case, named) && is_registered(case, apart))
 }

@@ -1,107 +1,136 @@
-// Operation 60: the encoder.
-ghost use Rattle.std.specs.Prelude.{◌+◌, ◌<◌, length};
-ghost use Rattle.replay.specs.Steps.{Past};
+// Operations 60 and 61: the encoder. Operation 60 begins with a fresh one, so none of its states is a bad one.
+ghost use Rattle.std.specs.Prelude.{◌+◌, ◌≤◌, length, IfSome};
 
-use crate::answers::{fine, lend, refused, room_for};
-use cases::{Verdict, is_formed, is_number, number, part, part_end, told};
+use crate::case::Case;
+use crate::room::{Room, lend};
+use cases::{is_number, number_at, part_end};
 use encode::encoder::SszEncoder;
-use standard::words::four_at;
 use standard::Refusal;
+use standard::words::four_at;
+
+// An encoder's state is its fixed size, and how much of each buffer is used.
+const ENCODER: usize = 24;
+
+// An item of a row: a word for its kind, then a part. Behind it are the other items.
+#[derive(Clone, Copy)]
+struct Item<'a> {
+    is_fixed: bool,
+    body: &'a [u8],
+    rest: &'a [u8],
+}
+
+// The first item of the row.
+#[tactic(auto, using(cases::proofs::Laws::end_within))]
+fn first_item(items: &[u8]) -> Option<Item<'_>>
+    ensures { IfSome result (λ x. length x.rest.now + 8 ≤ length items.now) }
+{
+    let kind = four_at(items, 0);
+    if kind > 1 {
+        return None;
+    }
+    let end = part_end(items, 4)?;
+    Some(Item {
+        is_fixed: kind == 0,
+        body: &items[8..end],
+        rest: &items[end..],
+    })
+}
 
 // How many items were accepted, and the whole length or a refusal.
 #[derive(Clone, Copy)]
-pub(crate) enum Encoding {
-    Whole(usize, usize),
-    Stopped(usize, Refusal),
-    Malformed,
-}
-
-// Where the item that begins at a place ends: a word for its kind, then a part.
-pub(crate) fn item_end(items: &[u8], at: usize) -> Option<usize>
-    requires { at < length items.now }
-    ensures { Past (at + 8) (length items.now) result }
-{
-    if four_at(items, at) > 1 {
-        return None;
-    }
-    part_end(items, at + 4)
-}
-
-fn end(state: SszEncoder, accepted: usize, fixed: &mut [u8], variable: &[u8]) -> Encoding {
-    let ended = state.finalize(fixed, variable);
-    match ended {
-        Ok(n) => Encoding::Whole(accepted, n),
-        Err(e) => Encoding::Stopped(accepted, e),
-    }
+struct Encoded {
+    accepted: usize,
+    ended: Result<usize, Refusal>,
 }
 
 // The items in order up to the first refusal, then the end.
-fn append_all(size: usize, items: &[u8], fixed: &mut [u8], variable: &mut [u8]) -> Encoding {
+fn append_all(size: usize, items: &[u8], fixed: &mut [u8], variable: &mut [u8]) -> Option<Encoded> {
     let mut state = SszEncoder::container(size);
-    let mut at = 0;
     let mut accepted = 0;
-    while at < items.len() {
-        let Some(to) = item_end(items, at) else {
-            return Encoding::Malformed;
-        };
-        let from = at + 8;
-        let is_fixed = four_at(items, at) == 0;
-        let next = state.append_parameterized(is_fixed, &items[from..to], fixed, variable);
-        match next {
-            Ok(after) => state = after,
-            Err(e) => return Encoding::Stopped(accepted, e),
+    let mut rest = items;
+    while !rest.is_empty() {
+        let item = first_item(rest)?;
+        match state.append_parameterized(item.is_fixed, item.body, fixed, variable) {
+            Ok(next) => state = next,
+            Err(e) => {
+                return Some(Encoded {
+                    accepted,
+                    ended: Err(e),
+                });
+            }
         }
-        at = to;
         accepted += 1;
+        rest = item.rest;
     }
-    end(state, accepted, fixed, variable)
-}
-
-// Whether the answer is expected: how many items were accepted, the whole length.
-fn is_expected(b: &[u8], encoding: Encoding) -> Verdict {
-    match encoding {
-        Encoding::Whole(accepted, n) => {
-            if !is_number(part(b, 5), accepted) {
-                return Verdict::Differs;
-            }
-            fine(part(b, 4), is_number(part(b, 6), n))
-        }
-        Encoding::Stopped(accepted, e) => {
-            if !is_number(part(b, 5), accepted) {
-                return Verdict::Differs;
-            }
-            refused(part(b, 4), e, part(b, 6))
-        }
-        Encoding::Malformed => Verdict::Malformed,
-    }
-}
-
-// The verdict on an expected answer, with both buffers.
-pub(crate) fn with_lent(b: &[u8], verdict: Verdict, fixed: &[u8], variable: &[u8]) -> Verdict {
-    if let Verdict::Same = verdict {
-        told(check::same(fixed, part(b, 7)) && check::same(variable, part(b, 8)))
-    } else {
-        verdict
-    }
-}
-
-fn encode_in(b: &[u8], size: usize, fixed: &mut [u8], variable: &mut [u8]) -> Verdict {
-    lend(fixed, part(b, 2));
-    lend(variable, part(b, 3));
-    let encoding = append_all(size, part(b, 1), fixed, variable);
-    with_lent(b, is_expected(b, encoding), fixed, variable)
+    Some(Encoded {
+        accepted,
+        ended: state.finalize(fixed, variable),
+    })
 }
 
 // 60: fixed size, items, fixed buffer, variable buffer. How many items were accepted, whole length, fixed buffer, variable
-// buffer.
-pub(crate) fn encode(b: &[u8], first: &mut [u8], second: &mut [u8]) -> Verdict {
-    if !is_formed(b, 4, 9) {
-        return Verdict::Malformed;
-    }
-    let Some(size) = number(part(b, 0)) else {
-        return Verdict::Malformed;
+// buffer. The number accepted stands beside a refusal too.
+pub(crate) fn encode(b: &[u8], room: &mut Room) -> Option<bool> {
+    let case = Case::new(b, 4, 2, 2)?;
+    let fixed = lend(&mut room.first, case.part(2));
+    let variable = lend(&mut room.second, case.part(3));
+    let encoded = append_all(case.number(0)?, case.part(1), fixed, variable)?;
+    let is_end = match encoded.ended {
+        Ok(n) => case.is_fine() && is_number(case.value(1), n),
+        Err(e) => case.is_refusal(e, 1),
     };
-    let n = room_for(part(b, 2).len(), first);
-    let m = room_for(part(b, 3).len(), second);
-    encode_in(b, size, &mut first[..n], &mut second[..m])
+    Some(
+        is_end
+            && is_number(case.value(0), encoded.accepted)
+            && *fixed == *case.buffer(0)
+            && *variable == *case.buffer(1),
+    )
+}
+
+fn encoder_of(row: &[u8]) -> Option<SszEncoder> {
+    if row.len() != ENCODER {
+        return None;
+    }
+    Some(SszEncoder {
+        offset: number_at(row, 0),
+        fixed_used: number_at(row, 1),
+        variable_used: number_at(row, 2),
+    })
+}
+
+// Whether the part is just this state.
+fn is_encoder(row: &[u8], state: SszEncoder) -> bool {
+    encoder_of(row).is_some_and(|x| {
+        x.offset == state.offset
+            && x.fixed_used == state.fixed_used
+            && x.variable_used == state.variable_used
+    })
+}
+
+// The row's only item.
+fn only_item(items: &[u8]) -> Option<Item<'_>> {
+    first_item(items).filter(|item| item.rest.is_empty())
+}
+
+// 61: state, item or nothing for the end, fixed buffer, variable buffer. State, whole length, fixed buffer, variable buffer.
+pub(crate) fn encoder(b: &[u8], room: &mut Room) -> Option<bool> {
+    let case = Case::new(b, 4, 2, 2)?;
+    let state = encoder_of(case.part(0))?;
+    let fixed = lend(&mut room.first, case.part(2));
+    let variable = lend(&mut room.second, case.part(3));
+    let is_answer = if case.part(1).is_empty() {
+        let answer = state.finalize(fixed, variable);
+        case.has(
+            answer,
+            |n| case.value(0).is_empty() && is_number(case.value(1), n),
+        )
+    } else {
+        let item = only_item(case.part(1))?;
+        let answer = state.append_parameterized(item.is_fixed, item.body, fixed, variable);
+        case.has(
+            answer,
+            |next| is_encoder(case.value(0), next) && case.value(1).is_empty(),
+        )
+    };
+    Some(is_answer && *fixed == *case.buffer(0) && *variable == *case.buffer(1))
 }

@@ -1,72 +1,53 @@
-// Operations 70 to 72: the layout check, the message check and the listing.
-use crate::answers::{fine, is_empty, is_fine, is_refusal, lend, room_for};
-use cases::{Verdict, head_matches, is_formed, is_number, part, told};
-use message::{Answer, Counts, Listed};
-use standard::Refusal;
-
-// Whether the expected head is that of a refusal at an item.
-pub(crate) fn is_refusal_at(head: &[u8], refusal: Refusal, kind: usize, start: usize) -> bool {
-    let said = refusal.numbers();
-    head_matches(head, said.number, said.a, said.b, kind, start)
-}
+// Operations 70 to 74: the layout check, the message check, the listing, the unfolding and the value writer.
+//
+// Contents are words in a record and are lent as `u32`.
+use crate::case::Case;
+use crate::room::{Room, has_words, lend, lend_words};
+use cases::is_number;
 
 // 70: layout. Nothing but the head.
-pub(crate) fn layout_check(b: &[u8]) -> Verdict {
-    if !is_formed(b, 1, 2) {
-        return Verdict::Malformed;
-    }
-    let said = layout::layout_check(part(b, 0));
-    match said {
-        Ok(()) => told(is_fine(part(b, 1))),
-        Err(e) => told(is_refusal(part(b, 1), e)),
-    }
-}
-
-fn has_counts(b: &[u8], counts: Counts) -> bool {
-    is_number(part(b, 3), counts.records)
-        && is_number(part(b, 4), counts.words)
-        && is_number(part(b, 5), counts.bytes)
-}
-
-fn has_none(b: &[u8]) -> bool {
-    is_empty(part(b, 3)) && is_empty(part(b, 4)) && is_empty(part(b, 5))
+pub(crate) fn layout_check(b: &[u8]) -> Option<bool> {
+    let case = Case::new(b, 1, 0, 0)?;
+    let answer = layout::layout_check(case.part(0));
+    Some(case.has(answer, |()| true))
 }
 
 // 71: layout, message. Records, contents words, body bytes.
-pub(crate) fn check(b: &[u8]) -> Verdict {
-    if !is_formed(b, 2, 6) {
-        return Verdict::Malformed;
-    }
-    let answer = message::check(part(b, 0), part(b, 1));
-    match answer {
-        Answer::Accepted(counts) => fine(part(b, 2), has_counts(b, counts)),
-        Answer::Refused(e, kind, start) => told(
-            is_refusal_at(part(b, 2), e, kind, start) && has_none(b),
-        ),
-    }
-}
-
-fn list(b: &[u8], room: &mut [u8]) -> Verdict {
-    lend(room, part(b, 2));
-    let answer = message::list(part(b, 0), part(b, 1), room);
-    if !check::same(room, part(b, 5)) {
-        return Verdict::Differs;
-    }
-    let head = part(b, 3);
-    let result = part(b, 4);
-    match answer {
-        Listed::Records(n) => fine(head, is_number(result, n)),
-        Listed::Refused(e, kind, start) => {
-            told(is_refusal_at(head, e, kind, start) && is_empty(result))
-        }
-    }
+pub(crate) fn check(b: &[u8]) -> Option<bool> {
+    let case = Case::new(b, 2, 3, 0)?;
+    let answer = message::check(case.part(0), case.part(1));
+    Some(case.has(answer, |counts| {
+        is_number(case.value(0), counts.records)
+            && is_number(case.value(1), counts.words)
+            && is_number(case.value(2), counts.bytes)
+    }))
 }
 
 // 72: layout, message, buffer. Records, buffer.
-pub(crate) fn listing(b: &[u8], room: &mut [u8]) -> Verdict {
-    if !is_formed(b, 3, 6) {
-        return Verdict::Malformed;
-    }
-    let n = room_for(part(b, 2).len(), room);
-    list(b, &mut room[..n])
+pub(crate) fn listing(b: &[u8], room: &mut Room) -> Option<bool> {
+    let case = Case::new(b, 3, 1, 1)?;
+    let records = lend(&mut room.first, case.part(2));
+    let answer = message::list(case.part(0), case.part(1), records);
+    Some(case.has(answer, |n| is_number(case.value(0), n)) && *records == *case.buffer(0))
+}
+
+// 73: layout, message, contents buffer, bodies buffer. Contents words, body bytes, contents buffer, bodies buffer.
+pub(crate) fn unfolding(b: &[u8], room: &mut Room) -> Option<bool> {
+    let case = Case::new(b, 4, 2, 2)?;
+    let contents = lend_words(&mut room.words, case.part(2))?;
+    let bodies = lend(&mut room.first, case.part(3));
+    let answer = message::unfold(case.part(0), case.part(1), contents, bodies);
+    let is_answer = case.has(answer, |sizes| {
+        is_number(case.value(0), sizes.words) && is_number(case.value(1), sizes.bytes)
+    });
+    Some(is_answer && has_words(case.buffer(0), contents) && *bodies == *case.buffer(1))
+}
+
+// 74: layout, contents, bodies, buffer. Length, buffer.
+pub(crate) fn writing(b: &[u8], room: &mut Room) -> Option<bool> {
+    let case = Case::new(b, 4, 1, 1)?;
+    let contents = lend_words(&mut room.words, case.part(1))?;
+    let out = lend(&mut room.first, case.part(3));
+    let answer = value::write(case.part(0), contents, case.part(2), out);
+    Some(case.has(answer, |n| is_number(case.value(0), n)) && *out == *case.buffer(0))
 }

@@ -1,9 +1,9 @@
--- Each item ends further on. Assumes nothing.
-use Rattle.std.proofs.Common.{◌-◌, ◌≤◌, length}
+-- Each item takes bytes of the row, so fewer are accepted than there are bytes. Assumes nothing.
+use Rattle.std.proofs.Common.{◌+◌, ◌≤◌, length}
 use Rattle.replay.proofs.encoder.append_all.Given as goal
 
-abbrev pub invariant-loop-at : goal.invariant-loop-at
-invariant-loop-at l = (l.at ≤ length l.items) × (l.accepted ≤ l.at)
+abbrev pub invariant-loop-rest : goal.invariant-loop-rest
+invariant-loop-rest l = l.accepted + length l.rest ≤ length l.items
 
-abbrev pub decreases-loop-at : goal.decreases-loop-at
-decreases-loop-at l = length l.items - l.at
+abbrev pub decreases-loop-rest : goal.decreases-loop-rest
+decreases-loop-rest l = length l.rest

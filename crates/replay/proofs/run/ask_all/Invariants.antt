@@ -1,9 +1,9 @@
--- Each record that is asked ends further on. Assumes nothing.
-use Rattle.std.proofs.Common.{◌-◌, ◌≤◌, length}
+-- What is left is of the bytes, and each record takes some of it. Assumes nothing.
+use Rattle.std.proofs.Common.{◌≤◌, length}
 use Rattle.replay.proofs.run.ask_all.Given as goal
 
-abbrev pub invariant-loop-at : goal.invariant-loop-at
-invariant-loop-at g l = l.at ≤ length l.b
+abbrev pub invariant-loop-n : goal.invariant-loop-n
+invariant-loop-n g l = length l.rest ≤ length l.b
 
-abbrev pub decreases-loop-at : goal.decreases-loop-at
-decreases-loop-at g l = length l.b - l.at
+abbrev pub decreases-loop-n : goal.decreases-loop-n
+decreases-loop-n g l = length l.rest
