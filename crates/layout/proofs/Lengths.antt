@@ -30,10 +30,10 @@ use Rattle.layout.specs.declared.Kind.{Kind}
 use Rattle.layout.specs.declared.Node.{Node}
 use Rattle.layout.specs.declared.types.Sizes.{Sizes}
 use Rattle.layout.specs.declared.types.Body.{Body}
-use Rattle.layout.proofs.Facts.{trees-get, fields_at, fields-none, filled-set, each-kind, head_len, legal_node, as_vector, as_container}
+use Rattle.layout.proofs.Facts.{trees-get, fields_at, fields-none, filled-get, filled-set, each-kind, head_len, legal_node, as_container}
 use Rattle.layout.proofs.Tables.{refs-wrong, refs-next, refs-none, refs-cut, refs-lower}
 use Rattle.layout.proofs.Tables.{Counted, counted-says, element-lower, known_len, known-head, known_small}
-use Rattle.layout.proofs.Trees.{legal_tree, len_small, leaf-number, vector_len}
+use Rattle.layout.proofs.Trees.{legal_tree, len_small, leaf-number, vector-length, vector_len}
 
 width_small : (m : ℕ) → m < 2 ^ 32 → width (head_of m) < 2 ^ 32
 unfolding width
@@ -253,12 +253,18 @@ module _ (l : List ℕ) (t at : ℕ) (k : Kind) (x : ℕ) (w : at ≡ word_at l 
       with_len (vector_end_lem l t at) (word_at l (at + 2) * len_of (head (get_or (trees l t) (word_at l (at + 1)) (boolean 0)))) ≡
       with_len (body_end_lem l t at) (len_of (head (tree_of l t)))
   vector_here h =
-      ap (with_len (vector_end_lem l t at)) (sym (vector_len t (word_at l (at + 2)) (get_or (trees l t) (word_at l (at + 1)) (boolean 0))))
+      ap (with_len (vector_end_lem l t at)) (sym (vector-length t (word_at l (at + 2)) (get_or (trees l t) (word_at l (at + 1)) (boolean 0))))
       ∙ rw h at body_here
 
 -- A legal type's length is remembered.
 pub found-set : (l : List ℕ) (t v : ℕ) (lens : List ℕ) → lens ≡ filled l t → t < 64 → v ≡ len_of (head (tree_of l t)) → set lens t v ≡ filled l (t + 1)
 found-set l t v lens f b h = rw (h, f, add-one) (filled-set l t b)
+
+-- A type whose kind word names a kind
+named_here : (l : List ℕ) (t : ℕ) (k : Kind) → kind_of (word_at l (word_at l (1 + t))) ≡ Some k →
+    tree_of l t ≡ type_with k l (trees l t) t (word_at l (1 + t)) (word_at l (word_at l (1 + t) + 1))
+unfolding tree_of from_node node_of
+named_here l t k q = rw q
 
 -- What the call for a lower type leaves: nothing new is remembered.
 pub kept_lower : (l : List ℕ) (t f : ℕ) (lens : List ℕ) → f < t → lens ≡ filled l (pick (ltb f t) t (t + 1)) → lens ≡ filled l t
@@ -291,7 +297,7 @@ module _ (l : List ℕ) (t : ℕ) (r : Node) (e : r ≡ node_of l t) (g : Legal 
 
   pub worked_vector : (n k : ℕ) → r.kind ≡ Kind.Vector → n ≡ word_at l (r.at + 2) → k ≡ len_of (head (tree_of l r.second)) →
       n * k ≡ len_of (head (tree_of l t))
-  worked_vector n k h q m = rw (q, m, as_vector l t r e h (element_lower h)) (sym (vector_len t (word_at l (r.at + 2)) (tree_of l r.second)))
+  worked_vector n k h q m = rw (q, m) (sym (vector_len l t r e h (element_lower h)))
 
   -- of a legal container the words are accepted
   sized : (x : Result Sizes Refusal) → r.kind ≡ Kind.Container →
@@ -324,14 +330,59 @@ module _ (l : List ℕ) (t : ℕ) (r : Node) (e : r ≡ node_of l t) (g : Legal 
 pub lengthened : (l : List ℕ) (t r : ℕ) (lens : List ℕ) → lens ≡ filled l t → t < 64 → r ≡ len_of (head (tree_of l t)) → Lengthened l t t r (set lens t r)
 lengthened l t r lens f b h = record { gives = h; found = rw (le-ltb t t (omega arith)) (found-set l t r lens f b h) }
 
+-- What a container's length, and a vector's, make of the lengths before it.
+pub container_filled : (l : List ℕ) (t : ℕ) → t < 64 → kind_of (word_at l (word_at l (1 + t))) ≡ Some Kind.Container →
+    filled l (t + 1) ≡
+    set (filled l t) t (len_of (head_all (fields l (trees l t) (word_at l (1 + t) + 2) (word_at l (word_at l (1 + t) + 1)))))
+unfolding head
+container_filled l t b k = sym (found-set l t _ _ refl b (rw (named_here l t Kind.Container k)))
+
+-- An end that is none has no number.
+abbrev upto : Result ℕ Refusal → ℕ
+upto (Err r) = 0
+upto (Ok e) = e
+
+abbrev ends : Result ℕ Refusal → Bool
+ends (Err r) = false
+ends (Ok e) = true
+
+ended_at : (x : Result ℕ Refusal) → ends x ≡ true → x ≡ Ok (upto x)
+ended_at (Err r) h = absurd (cc)
+ended_at (Ok e) h = refl
+
+module _ (l : List ℕ) (t : ℕ) where
+  below : (a : ℕ) → ends (refs l t false a 1) ≡ true → word_at l a < t
+  below a h = (element-lower l t a _ (ended_at _ h)).0
+
+  pub element_head : (a : ℕ) → Legal l t → ends (refs l t false a 1) ≡ true →
+      head (get_or (trees l t) (word_at l a) (boolean 0)) ≡ head_of (get_or (filled l t) (word_at l a) 0)
+  element_head a g h =
+      let k = below a h in
+      rw (trees-get l t (word_at l a) (boolean 0) k, filled-get l t (word_at l a) k)
+      (sym (head_len (tree_of l (word_at l a)) (legal_tree l t (word_at l a) g k)))
+
+  pub vector_filled : t < 64 → kind_of (word_at l (word_at l (1 + t))) ≡ Some Kind.Vector →
+      ends (refs l t false (word_at l (1 + t) + 1) 1) ≡ true → ends (counted l (word_at l (1 + t) + 1) 4294967295) ≡ true →
+      filled l (t + 1) ≡
+      set (filled l t) t (upto (counted l (word_at l (1 + t) + 1) 4294967295) * get_or (filled l t) (word_at l (word_at l (1 + t) + 1)) 0)
+  vector_filled b z h k =
+      let i = below (word_at l (1 + t) + 1) h in
+      let two : word_at l (1 + t) + 1 + 1 ≡ word_at l (1 + t) + 2 = omega arith in
+      let m = rw two at (counted-says l (word_at l (1 + t) + 1) 4294967295 _ (ended_at _ k)).word in
+      let x = get_or (trees l t) (word_at l (word_at l (1 + t) + 1)) (boolean 0) in
+      let len = ap (λ (y : Ty). len_of (head y)) (named_here l t Kind.Vector z) ∙ vector-length t (word_at l (word_at l (1 + t) + 2)) x in
+      rw (m, filled-get l t _ i, ← trees-get l t _ (boolean 0) i, ← len) (sym (found-set l t _ _ refl b refl))
+
+pub ruleset vector_rules = (element_head, vector_filled)
+
 -- A body that ends, beside its type's length.
 pub record Stands (x : Result ℕ Refusal) (n : ℕ) (b : Body) : Type 0 where
-  pub ends : x ≡ Ok b.end
+  pub reached : x ≡ Ok b.end
   pub long : b.len ≡ n
 
 pub stands : (x : Result ℕ Refusal) (n : ℕ) (b : Body) → Ok b ≡ with_len x n → Stands x n b
 stands (Err r) n b e = let z : ◌≡◌ {A = ℕ} 0 1 = cc in absurd (omega arith)
-stands (Ok i) n b e = let q : b ≡ record { end = i; len = n } = cc in rw q (record { ends = refl; long = refl })
+stands (Ok i) n b e = let q : b ≡ record { end = i; len = n } = cc in rw q (record { reached = refl; long = refl })
 
 pub stands-not : (x : Result ℕ Refusal) (n : ℕ) (r : Refusal) → Err r ≡ with_len x n → Err r ≡ x
 stands-not (Err q) n r e = cc

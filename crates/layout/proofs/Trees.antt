@@ -207,7 +207,15 @@ leaf-number Kind.FreeBytes t w = refl
 leaf-number Kind.BitVector t w = refl
 leaf-number k t w = refl
 
--- The length of a vector is its count times that of an element, 0 if that is of variable size.
-pub vector_len : (t n : ℕ) (x : Ty) → len_of (head (vector t x n)) ≡ n * len_of (head x)
+-- The length of a vector is its count times that of an element, 0 if that is of variable size: of a vector alone, and of one that a table has.
+pub vector-length : (t n : ℕ) (x : Ty) → len_of (head (vector t x n)) ≡ n * len_of (head x)
 unfolding head
-vector_len t n x = times_len n (head x)
+vector-length t n x = times_len n (head x)
+
+pub vector_len : (l : List ℕ) (t : ℕ) (r : Node) → r ≡ node_of l t → r.kind ≡ Kind.Vector → r.second < t →
+    len_of (head (tree_of l t)) ≡ word_at l (r.at + 2) * len_of (head (tree_of l r.second))
+vector_len l t r e h i = rw (as_vector l t r e h i) (vector-length t (word_at l (r.at + 2)) (tree_of l r.second))
+
+pub leaf_len-small : (k : Kind) (m r : ℕ) → r ≡ leaf_len_lem k m → m < 2 ^ 32 → r < 2 ^ 32
+unfolding leaf_of
+leaf_len-small k m r e h = rw e (leaf-small 0 (record { kind = k; at = 0; second = m }) h)

@@ -151,6 +151,7 @@ fn look(layout: &[u8], t: usize) -> Node
     Node { kind, at, second }
 }
 
+// kept: `lens` and `layout` as parameters: a struct's invariant over a lent array is refused between the two writes that remember a length.
 // The fixed length of the type t: remembered below `known`, or worked out.
 // kept: the rule of docs/DECISIONS.md, "Fixed lengths": it calls itself on lower types, and remembers what it finds in an array lent to it.
 #[cycle(fields_len_fixed_len_work_out)]

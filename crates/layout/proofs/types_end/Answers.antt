@@ -19,7 +19,7 @@ pub overflow_cast-lens : goal.overflow_cast-lens
 overflow_cast-lens c =
     let b = bytes-known _ (λ i. (c.type_inv.layout i).fits) in
     let s = stands _ _ _ c.in_ok-body.ensures.value in
-    let m = checking_small _ _ _ _ _ c.loop-t.invariant (omega arith) _ c.word_in.ensures.0 c.if-word_in-at.false b _ (sym s.ends) _ s.long in
+    let m = checking_small _ _ _ _ _ c.loop-t.invariant (omega arith) _ c.word_in.ensures.0 c.if-word_in-at.false b _ (sym s.reached) _ s.long in
     omega arith
 
 pub loop-t-preserved : goal.loop-t-preserved
@@ -27,7 +27,7 @@ loop-t-preserved c =
     let b = bytes-known _ (λ i. (c.type_inv.layout i).fits) in
     let s = stands _ _ _ c.in_ok-body.ensures.value in
     checking_next _ _ _ _ _ c.loop-t.invariant (omega arith) _ c.word_in.ensures.0 c.if-word_in-at.false b _
-    (sym s.ends) _ c.requires.1 (found-set _ _ _ _ (c.in_ok-body.ensures.lens_unchanged ∙ c.loop-t.invariant.known.found) (omega arith) s.long)
+    (sym s.reached) _ c.requires.1 (found-set _ _ _ _ (c.in_ok-body.ensures.lens_unchanged ∙ c.loop-t.invariant.known.found) (omega arith) s.long)
 
 pub returns : goal.returns
 returns c =
