@@ -4,12 +4,14 @@ use mathlib.Core.List.{List, [], ◌∷◌, ◌++◌}
 use Prim.Native.Nat.{ℕ, zero, suc, ◌+◌, ◌-◌, ◌*◌, ◌/◌, ◌%◌, ◌≤◌, ◌<◌, ◌^◌}
 use native.Mathlib.Nat.{add-zero, pow-succ', one-le-pow}
 use native.Mathlib.Omega.{arith}
-use lib.ListN.{length, get_or, take, drop, length-take, length-drop, drop_of_length-le}
+use lib.ListN.{length, get_or, take, drop, replicate, length-take, length-drop, drop_of_length-le}
 use lib.Seq.{get_or-drop, take_at, take_all}
 use lib.Dec.{ltb}
 use mathlib.Core.Bool.{Bool, true, false}
 use borrow.Author.Tests.{lt-ltb, le-ltb}
-use Rattle.std.specs.Int.{w32, to_le_bytes}
+use Rattle.std.specs.Int.{w32, from_le_bytes, to_le_bytes}
+use Rattle.std.specs.Simd.{first_chunks}
+use Rattle.std.proofs.Common.{drop-drop}
 use Rattle.standard.specs.Choice.{pick}
 use Rattle.standard.specs.Bytes.{Bytes, le, num, num_at, four, word_at}
 
@@ -75,6 +77,34 @@ le_bytes n =
     let f : n / 256 / 256 / 256 ≡ n / 16777216 = omega arith in
     rw (f, e)
 
+pub low_bytes : (n : ℕ) → to_le_bytes w32 (n % 4294967296) ≡ le 4 n
+unfolding le
+low_bytes n =
+    let e : n % 4294967296 % 256 ≡ n % 256 = omega arith in
+    let f : n % 4294967296 / 256 % 256 ≡ n / 256 % 256 = omega arith in
+    let g : n % 4294967296 / 65536 % 256 ≡ n / 256 / 256 % 256 = omega arith in
+    let h : n % 4294967296 / 16777216 % 256 ≡ n / 256 / 256 / 256 % 256 = omega arith in
+    rw (e, f, g, h)
+
+-- The number in four bytes, as std has it.
+pub le_number : (l : List ℕ) → length l ≡ 4 → from_le_bytes w32 l ≡ num l
+unfolding num
+le_number [] h = absurd (omega arith)
+le_number (a ∷ []) h = absurd (omega arith)
+le_number (a ∷ b ∷ []) h = absurd (omega arith)
+le_number (a ∷ b ∷ c ∷ []) h = absurd (omega arith)
+le_number (a ∷ b ∷ c ∷ d ∷ []) h = omega arith
+le_number (a ∷ b ∷ c ∷ d ∷ e ∷ l) h = absurd (omega arith)
+
+-- Less than four bytes, in a word of zeros
+pub num_short : (l : List ℕ) → length l < 4 → num (l ++ drop (length l) (replicate 4 0)) ≡ num l
+unfolding num
+num_short [] h = omega arith
+num_short (a ∷ []) h = omega arith
+num_short (a ∷ b ∷ []) h = omega arith
+num_short (a ∷ b ∷ c ∷ []) h = omega arith
+num_short (a ∷ b ∷ c ∷ d ∷ l) h = absurd (omega arith)
+
 -- Two lists of bytes of one length that say one number are equal.
 pub num-injective : (a b : List ℕ) → Bytes a → Bytes b → length a ≡ length b → num a ≡ num b → a ≡ b
 num-injective a b h k l e = sym (le-num a h) ∙ rw (l, e) (le-num b k)
@@ -117,6 +147,17 @@ pub four-past : (b : List ℕ) (p : ℕ) → length b ≤ p → 0 ≡ four b p
 unfolding num num_at
 four-past b p h = rw (drop_of_length-le b h)
 
+-- The four bytes read one by one, and those that are there where some are missing
+pub four_read : (b : List ℕ) (p : ℕ) → num (get_or b p 0 ∷ get_or b (p + 1) 0 ∷ get_or b (p + 2) 0 ∷ get_or b (p + 3) 0 ∷ []) ≡ four b p
+unfolding num
+four_read b p = omega (arith, four_bytes b p)
+
+pub four_cut : (b : List ℕ) (p n : ℕ) → n ≡ length b - p → n ≤ 4 → num (take n (drop p b)) ≡ four b p
+unfolding num_at
+four_cut b p n e h =
+    let l : length (drop p b) ≡ n = simp length-drop (omega arith) in
+    rw (take_all n (drop p b) (omega arith), take_all 4 (drop p b) (omega arith)) refl
+
 -- A word is below 2^32, whether or not all of it is there.
 take_bound : (w : ℕ) (l : List ℕ) → Bytes l → num (take w l) < 256 ^ w
 unfolding num Bytes
@@ -135,12 +176,30 @@ four-part b p =
     let e : p + 4 - p ≡ 4 = omega arith in
     rw (e, take_all 4 (take 4 (drop p b)) (simp length-take (omega arith)))
 
-pub word-part : (l : List ℕ) (i : ℕ) → i < length l / 4 → four (take (4 * i + 4 - 4 * i) (drop (4 * i) l)) 0 ≡ word_at l i
-word-part l i h = four-part l (4 * i) ∙ word-there l i h
-
 pub word-past : (l : List ℕ) (i : ℕ) → length l / 4 ≤ i → 0 ≡ word_at l i
 unfolding word_at
 word-past l i h = rw (le-ltb i (length l / 4) h)
+
+-- The i-th of the words that a table is cut into, as std has it
+chunk_at : (k i : ℕ) (l d : List ℕ) → i < k → get_or (first_chunks 4 k l) i d ≡ take 4 (drop (4 * i) l)
+chunk_at zero i l d h = absurd (omega arith)
+chunk_at (suc k) zero l d h = refl
+chunk_at (suc k) (suc i) l d h =
+    let e : 4 + 4 * i ≡ 4 * suc i = omega arith in
+    chunk_at k i (drop 4 l) d (omega arith) ∙ rw (drop-drop, e) refl
+
+module _ (l : List ℕ) (ws : List (List ℕ)) (i : ℕ) (e : ws ≡ first_chunks 4 (length l / 4) l) (n : length ws ≡ length l / 4) where
+  pub word_cut : (w : List ℕ) (r : ℕ) → i < length ws → w ≡ get_or ws i w → r ≡ num w → r ≡ word_at l i
+  unfolding num_at
+  word_cut w r h f g =
+      let k : i < length l / 4 = omega arith in
+      g ∙ (ap num (f ∙ (ap (λ (x : List (List ℕ)). get_or x i w) e ∙ chunk_at (length l / 4) i l w k)) ∙ word-there l i k)
+
+  pub word_none : length ws ≤ i → 0 ≡ word_at l i
+  word_none h = word-past l i (omega arith)
+
+pub word-part : (l : List ℕ) (i : ℕ) → i < length l / 4 → four (take (4 * i + 4 - 4 * i) (drop (4 * i) l)) 0 ≡ word_at l i
+word-part l i h = four-part l (4 * i) ∙ word-there l i h
 
 pub word_bound : (l : List ℕ) (i : ℕ) → Bytes l → word_at l i < 2 ^ 32
 unfolding word_at num_at

@@ -1,13 +1,13 @@
 -- Values stored one after another, and the room for them. Assumes nothing.
 use mathlib.Core.Path.{◌≡◌, refl, sym, ap, ◌∙◌}
 use mathlib.Core.List.{List, [], ◌∷◌, ◌++◌}
-use Prim.Native.Nat.{ℕ, suc, ◌+◌, ◌≤◌, ◌<◌}
+use Prim.Native.Nat.{ℕ, zero, suc, ◌+◌, ◌-◌, ◌≤◌, ◌<◌}
 use native.Mathlib.Nat.{add-zero}
 use native.Mathlib.Numerals.{add-one}
 use native.Mathlib.Omega.{arith}
 use borrow.Rule.Slice.PartMut.{put_mid}
 use Rattle.std.proofs.Common.{append_assoc, drop-drop}
-use lib.ListN.{length, get_or, take, drop, set, length-append, length-set, drop_of_length-le}
+use lib.ListN.{length, get_or, take, drop, set, length-take, length-append, length-set, drop_of_length-le}
 use lib.Seq.{sets, sets-eq, length-sets, set_out, drop-cons}
 use Rattle.standard.specs.Bytes.{Stored, Room}
 
@@ -22,9 +22,21 @@ pub sets_out : (xs l : List ℕ) (i : ℕ) → length l ≤ i → sets l i xs �
 sets_out [] l i h = refl
 sets_out (x ∷ xs) l i h = rw (set_out l i x h) (sets_out xs l (suc i) (omega arith))
 
+-- What goes past the end is left out.
+pub sets_cut : (n : ℕ) (xs l : List ℕ) (i : ℕ) → length l ≡ i + n → sets l i (take n xs) ≡ sets l i xs
+sets_cut zero xs l i h = sym (sets_out xs l i (omega arith))
+sets_cut (suc n) [] l i h = refl
+sets_cut (suc n) (x ∷ xs) l i h = sets_cut n xs (set l i x) (suc i) (length-set l i x ∙ omega arith)
+
 -- A part that was written over whole, as std has it: k is its length, and xs what it holds now.
 pub part_sets : (l xs ys : List ℕ) (at k : ℕ) → xs ≡ ys → k ≡ length ys → at + length ys ≤ length l → put_mid at k l xs ≡ sets l at ys
 part_sets l xs ys at k e f h = rw (e, f, sets-eq ys l at h, drop-drop, append_assoc (take at l) ys (drop (at + length ys) l)) refl
+
+-- A part up to the end, written over with as much of xs as has room
+pub short_sets : (l w xs : List ℕ) (at k : ℕ) → w ≡ take k xs → k ≡ length l - at → at ≤ length l → k ≤ length xs → put_mid at k l w ≡ sets l at xs
+short_sets l w xs at k e f h g =
+    let n : length (take k xs) ≡ k = simp length-take (omega arith) in
+    part_sets l w (take k xs) at k e (omega arith) (omega arith) ∙ sets_cut k xs l at (omega arith)
 
 -- First xs, then ys: together x.
 pub stored_then : (o : List ℕ) (at : ℕ) (xs : List ℕ) (n : ℕ) (o₁ ys : List ℕ) (r : ℕ) (o₂ x : List ℕ) → Stored o at xs n o₁ → Stored o₁ n ys r o₂ →

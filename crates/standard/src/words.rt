@@ -1,40 +1,29 @@
-// Little-endian words in lent bytes, for every position: what is not there reads as 0, and is not stored.
-ghost use Rattle.std.specs.Prelude.{◌≡◌, ◌+◌, ◌<◌, ◌≤◌, ◌^◌, length, get_or, set};
+// Little-endian words in lent bytes, for every position: what is not there reads as 0, and is not stored. That the four bytes are a single load or
+// store was seen in the machine code. `four_at` names them one by one since `get(p..)` with `first_chunk` takes an instruction more a call.
+ghost use Rattle.std.specs.Prelude.{◌≡◌, ◌<◌, ◌^◌, length};
 ghost use Rattle.std.proofs.lemmas.List.Edits.{sets};
-ghost use Rattle.standard.specs.Bytes.{four, word_at, le};
+ghost use Rattle.standard.specs.Bytes.{num, four, word_at, le};
 
-fn wide(x: u8) -> usize
-    ensures { (result ≡ x) × (result < 256) }
+// The number in a word.
+#[tactic(auto, using(crate::proofs::Bytes::le_number))]
+fn number(word: [u8; 4]) -> usize
+    ensures { (result ≡ num word) × (result < 2 ^ 32) }
 {
-    x as usize
+    u32::from_le_bytes(word) as usize
 }
 
-fn byte_at(b: &[u8], p: usize) -> usize
-    ensures { (result ≡ get_or b.now p 0) × (result < 256) }
+// The number in less than four bytes.
+#[tactic(auto, using(crate::proofs::Bytes::num_short))]
+fn short_number(bytes: &[u8]) -> usize
+    requires { length bytes.now < 4 }
+    ensures { (result ≡ num bytes.now) × (result < 2 ^ 32) }
 {
-    if p < b.len() { wide(b[p]) } else { 0 }
+    let mut word = [0; 4];
+    word[..bytes.len()].copy_from_slice(bytes);
+    number(word)
 }
 
-// The four bytes from p on, all there: one load.
-fn whole_at(b: &[u8], p: usize) -> usize
-    requires { p + 4 ≤ length b.now }
-    ensures { (result ≡ four b.now p) × (result < 2 ^ 32) }
-{
-    wide(b[p]) + 256 * wide(b[p + 1]) + 65536 * wide(b[p + 2]) + 16777216 * wide(b[p + 3])
-}
-
-// The four bytes from p on, where some may be missing.
-fn short_at(b: &[u8], p: usize) -> usize
-    requires { p < length b.now }
-    ensures { (result ≡ four b.now p) × (result < 2 ^ 32) }
-{
-    byte_at(b, p)
-        + 256 * byte_at(b, p + 1)
-        + 65536 * byte_at(b, p + 2)
-        + 16777216 * byte_at(b, p + 3)
-}
-
-// The number in the four bytes from p on.
+// The number in the four bytes from p on: one load, if they are all there.
 pub fn four_at(b: &[u8], p: usize) -> usize
     ensures { (result ≡ four b.now p) × (result < 2 ^ 32) }
 {
@@ -42,9 +31,9 @@ pub fn four_at(b: &[u8], p: usize) -> usize
     if len <= p {
         0
     } else if len - p < 4 {
-        short_at(b, p)
+        short_number(&b[p..])
     } else {
-        whole_at(b, p)
+        number([b[p], b[p + 1], b[p + 2], b[p + 3]])
     }
 }
 
@@ -52,51 +41,25 @@ pub fn four_at(b: &[u8], p: usize) -> usize
 pub fn word_at(table: &[u8], i: usize) -> usize
     ensures { (result ≡ word_at table.now i) × (result < 2 ^ 32) }
 {
-    let whole = table.len() / 4;
-    if i < whole { whole_at(table, 4 * i) } else { 0 }
-}
-
-fn put_byte(out: &mut [u8], at: usize, x: u8)
-    ensures { out.new ≡ set out.old at x }
-{
-    if at < out.len() {
-        out[at] = x;
+    let (words, _) = table.as_chunks();
+    match words.get(i) {
+        Some(word) => number(*word),
+        None => 0,
     }
 }
 
-// Stores x in the four bytes from at on, which are all there: one store.
-fn put_whole(out: &mut [u8], at: usize, x: usize)
-    requires { at + 4 ≤ length out.old }
-    ensures { out.new ≡ sets out.old at (le 4 x) }
-{
-    out[at] = (x % 256) as u8;
-    out[at + 1] = (x / 256 % 256) as u8;
-    out[at + 2] = (x / 256 / 256 % 256) as u8;
-    out[at + 3] = (x / 256 / 256 / 256 % 256) as u8;
-}
-
-// Stores x in the four bytes from at on, as far as they are there.
-fn put_short(out: &mut [u8], at: usize, x: usize)
-    requires { at < length out.old }
-    ensures { out.new ≡ sets out.old at (le 4 x) }
-{
-    put_byte(out, at, (x % 256) as u8);
-    put_byte(out, at + 1, (x / 256 % 256) as u8);
-    put_byte(out, at + 2, (x / 256 / 256 % 256) as u8);
-    put_byte(out, at + 3, (x / 256 / 256 / 256 % 256) as u8);
-}
-
-// Stores the low 32 bits of x in the four bytes from at on, as far as they are there.
+// Stores the low 32 bits of x in the four bytes from at on, as far as they are there: one store, if they all are.
 pub fn put_four(out: &mut [u8], at: usize, x: usize)
     ensures { out.new ≡ sets out.old at (le 4 x) }
 {
+    let word = ((x % 4294967296) as u32).to_le_bytes();
     let len = out.len();
-    if len <= at {
+    if at >= len {
         return;
     }
     if len - at < 4 {
-        put_short(out, at, x);
+        out[at..].copy_from_slice(&word[..len - at]);
     } else {
-        put_whole(out, at, x);
+        out[at..at + 4].copy_from_slice(&word);
     }
 }

@@ -1,10 +1,13 @@
 -- The word is there whole, or it counts as 0. Assumes nothing.
-use Rattle.std.proofs.Common.{arith, ◌∙◌}
-use Rattle.standard.proofs.Bytes.{word-there, word-past}
+use Rattle.std.proofs.Common.{arith}
+use Rattle.standard.proofs.Bytes.{word_cut, word_none}
 use Rattle.standard.proofs.words.word_at.Goals as goal
 
-pub returns-then-i-whole : goal.returns-then-i-whole
-returns-then-i-whole c = (c.whole_at.ensures.0 ∙ word-there _ _ (omega arith), c.whole_at.ensures.1)
+pub returns-in-Some : goal.returns-in-Some
+returns-in-Some c =
+    let there = c.in-Some.ensures.lookup in
+    (word_cut _ _ _ c.as_chunks.ensures.front c.as_chunks.ensures.front_len _ _ there.3.0 there.1 c.number.ensures.0, c.number.ensures.1)
 
-pub returns-else-i-whole : goal.returns-else-i-whole
-returns-else-i-whole c = (word-past _ _ (omega arith), omega arith)
+pub returns-in-None : goal.returns-in-None
+returns-in-None c =
+    (word_none _ _ _ c.as_chunks.ensures.front c.as_chunks.ensures.front_len c.in-None.ensures.lookup.3, omega arith)
