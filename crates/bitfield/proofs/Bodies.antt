@@ -1,7 +1,7 @@
 -- Bodies: what the code finds at the last byte is what the definitions say of all bits. Assumes nothing.
-use mathlib.Core.Path.{◌≡◌, refl}
+use mathlib.Core.Path.{◌≡◌}
 use mathlib.Core.List.{List, []}
-use Prim.Native.Nat.{ℕ, zero, suc, ◌+◌, ◌-◌, ◌*◌, ◌/◌, ◌%◌, ◌^◌, ◌<◌, ◌≤◌}
+use Prim.Native.Nat.{ℕ, suc, ◌+◌, ◌-◌, ◌*◌, ◌/◌, ◌%◌, ◌^◌, ◌<◌, ◌≤◌}
 use native.Mathlib.Nat.{mul-le-mul_left, lt_of_mul-lt-mul_left, div-eq_of_lt, lt_of_not-le, div-lt_iff_lt-mul}
 use native.Mathlib.Omega.{arith}
 use borrow.Author.Tests.{lt-ltb, le-ltb, eq-eqb, ne_eqb}
@@ -13,31 +13,29 @@ use Rattle.standard.specs.declared.Refusal.TheVariants.{MissingLengthInformation
 use Rattle.standard.proofs.Bytes.{bytes_take, num-bound}
 use Rattle.standard.proofs.Bits.{num-append, pow_bytes}
 use Rattle.bitfield.specs.Body.{list_bits_lem, bit_list_body, within}
-use Rattle.bitfield.specs.Facts.{Used, TopOf}
-use Rattle.bitfield.proofs.Tops.{top_used, top_unused, used_all, top_counted, byte_at}
+use Rattle.bitfield.specs.Facts.{LastUsed, TopOf}
+use Rattle.bitfield.proofs.Tops.{zeros-behind, top_used, top_unused, used_all, top_counted, byte_at}
 use Rattle.std.specs.declared.result.Result.TheVariants.{Ok, Err}
 
 -- A bit list's body with no set bit
-pub none-marked : (l : List ℕ) → 0 < length l → Used l 0 → (n : ℕ) → Err MissingLengthInformation ≡ bit_list_body l n
+pub none-marked : (l : List ℕ) → 0 < length l → num l ≡ 0 → (n : ℕ) → Err MissingLengthInformation ≡ bit_list_body l n
 unfolding bit_list_body
-none-marked l h u n = rw (ne_eqb (length l) 0 (omega arith), top_unused l u.zeros)
+none-marked l h z n = rw (ne_eqb (length l) 0 (omega arith), top_unused l z)
 
 -- One whose last set bit is in a byte before the last
 pub marked-short :
-    (l : List ℕ) (r : ℕ) → Bytes l → get_or l (length l - 1) 0 ≡ 0 → Used l r → (r ≡ 0 → ⊥)
-    → (n : ℕ) → Err (InvalidByteCount (length l) r) ≡ bit_list_body l n
+    (l : List ℕ) (i : ℕ) → Bytes l → get_or l (length l - 1) 0 ≡ 0 → LastUsed l i
+    → (n : ℕ) → Err (InvalidByteCount (length l) (i + 1)) ≡ bit_list_body l n
 unfolding bit_list_body
-marked-short l zero b z u e n = absurd (e refl)
-marked-short l (suc i) b z u e n =
-    let q : suc i - 1 ≡ i = omega arith in
-    let p = rw q at (u.last (omega arith)) in
+marked-short l i b z u n =
+    let p = u.1 in
     let top = (top_counted (get_or l i 0) p (byte_at l i b)).1 in
     let s = top.small in
-    let up = u.upto in
-    let h = top_used l i _ b up u.zeros top in
-    let here : length l ≡ suc i → ⊥ = (λ (f : length l ≡ suc i). let g : length l - 1 ≡ i = omega arith in let y = rw g at z in omega arith) in
-    let place : (8 * i + (7 - lib.Count.count_leading_zeros 8 (get_or l i 0))) / 8 + 1 ≡ suc i = omega arith in
-    rw (ne_eqb (length l) 0 (omega arith), h, place, ne_eqb (length l) (suc i) here)
+    let up = u.0 in
+    let h = top_used l i _ b up (zeros-behind l i u.2) top in
+    let here : length l ≡ i + 1 → ⊥ = (λ (f : length l ≡ i + 1). let g : length l - 1 ≡ i = omega arith in let y = rw g at z in omega arith) in
+    let place : (8 * i + (7 - lib.Count.count_leading_zeros 8 (get_or l i 0))) / 8 + 1 ≡ i + 1 = omega arith in
+    rw (ne_eqb (length l) 0 (omega arith), h, place, ne_eqb (length l) (i + 1) here)
 
 -- One whose last byte has its highest bit at h
 pub marked-here :

@@ -3,7 +3,7 @@ use mathlib.Core.Path.{◌≡◌, refl, sym, ap, ◌∙◌}
 use mathlib.Core.List.{List, [], ◌∷◌}
 use mathlib.Core.Bool.{Bool}
 use Prim.Native.Nat.{ℕ, zero, suc, ◌+◌, ◌-◌, ◌*◌, ◌/◌, ◌%◌, ◌^◌, ◌<◌, ◌≤◌, min}
-use native.Mathlib.Nat.{pow-succ', mul-le-mul_right, mod-le, add-zero}
+use native.Mathlib.Nat.{pow-succ', mod-le, add-zero}
 use native.Mathlib.Omega.{arith}
 use lib.Arith.{digits_div}
 use lib.Bits.{bit_and, bit_or, and_step, and_mask, and_le_l, or_add_and}
@@ -212,9 +212,6 @@ mask_shifted (suc n) h = let e : (8 - suc n % 8) % 8 ≡ 7 - n % 8 = omega arith
 -- A one moved to a place of a byte is not lost.
 pub one_shifted : (j : ℕ) → j < 8 → (1 * 2 ^ j) % 256 ≡ 2 ^ j
 one_shifted j h = shl_exact {a = 1} 1 j 8 (omega arith) (omega arith) ∙ omega arith
-
-pub byte_shifted : (x j : ℕ) → x < 256 → j < 8 → ((x * 2 ^ j) % 2 ^ 64 ≡ x * 2 ^ j) × (x * 2 ^ j ≤ 255 * 2 ^ j) × (2 ^ j ≤ 128)
-byte_shifted x j b h = (shl_exact 8 j 64 b (omega arith), mul-le-mul_right (2 ^ j) (omega arith), pow_mono {j = 7} (omega arith))
 
 -- The lowest bit of what is left behind a shift
 pub bit_test : (n m : ℕ) → n ≡ m % 2 → eqb (bit_and m 1) 1 ≡ eqb n 1

@@ -11,20 +11,22 @@ use lib.Count.{ones}
 use lib.Dec.{eqb}
 use lib.Pow.{pow_pos, pow_mono, pow-add}
 use lib.Pow as Pow
-use lib.ListN.{length, get_or, set, take, drop, replicate, length-replicate, length-set}
+use lib.ListN.{length, get_or, set, take, drop, replicate, length-replicate, length-set, take-append-drop}
+use lib.Seq.{length-take-le}
+use Rattle.std.proofs.lemmas.List.{drop-append-le}
 use Rattle.standard.specs.Bytes.{Bytes, le, num}
 use Rattle.standard.specs.Bits.{bit, bit_num, packs}
 use Rattle.standard.proofs.Bytes.{length-le, bytes_le, num-le}
-use Rattle.standard.proofs.Bits.{bits_of, length-bits_of, bit_num-bits_of, bit_num-low, bits_of-bit_num, bit_num-bound, packs-le, pow_bytes, num-packs}
+use Rattle.standard.proofs.Bits.{bits_of, length-bits_of, bit_num-bits_of, bit_num-low, bits_of-bit_num, bit_num-bound, packs-le, pow_bytes, num-packs, num-append}
 use Rattle.bitfield.specs.declared.Bitfield.{Bitfield}
 use Rattle.bitfield.specs.Body.{bytes_for_lem, highest}
 use Rattle.bitfield.specs.Bools.{both, either, without, flipped, no_bits, moved, widened, count, none_set}
 use Rattle.bitfield.specs.Raw.{taken_out, turned, firsts, Raw}
-use Rattle.bitfield.specs.Facts.{Kept, Put, Used, TopOf}
+use Rattle.bitfield.specs.Facts.{Kept, LastUsed, Put, TopOf}
 use Rattle.bitfield.specs.Held.{bits_in, of_parts, held}
 use Rattle.bitfield.proofs.Bools as Bools
 use Rattle.bitfield.proofs.Bodies.{cut_below}
-use Rattle.bitfield.proofs.Tops.{highest-none, highest-at, top_number}
+use Rattle.bitfield.proofs.Tops.{highest-none, highest-at, top_number, num_used, zeros-number, zeros-behind}
 use Rattle.bitfield.proofs.Numbers.{Bytewise, and_bytewise, or_bytewise, and_not_bytewise, firsts-le, firsts_not, raw-le, le-zero, le-short}
 use Rattle.std.specs.declared.option.Option.TheVariants.{Some, None}
 
@@ -249,6 +251,24 @@ behind a len k =
     let c = cut_below a (bytes_for_lem len) 0 k.raw.bytes h b in
     omega arith
 
+-- Where no byte in use has a bit, none has; and the last one in use that has one is the last of all.
+pub none-used : (a : List ℕ) (len : ℕ) → Kept a len → ((k : ℕ) → get_or (take (bytes_for_lem len) a) k 0 ≡ 0) → num a ≡ 0
+none-used a len k z =
+    let u = bytes_for_lem len in
+    let h : u ≤ length a = rw k.raw.long (use-bound len k.few) in
+    num_used a u h (behind a len k) ∙ zeros-number (take u a) z
+
+pub last-behind : (a : List ℕ) (len i : ℕ) → Kept a len → LastUsed (take (bytes_for_lem len) a) i → (i < length a) × (num (drop (suc i) a) ≡ 0)
+last-behind a len i k l =
+    let u = bytes_for_lem len in
+    let h : u ≤ length a = rw k.raw.long (use-bound len k.few) in
+    let m : length (take u a) ≡ u = length-take-le u a h in
+    let b : i < length (take u a) = l.0 in
+    let s = rw (take-append-drop u a) at (drop-append-le (suc i) (take u a) (drop u a) (omega arith)) in
+    let n = num-append (drop (suc i) (take u a)) (drop u a) in
+    let e = rw (behind a len k, zeros-behind (take u a) i l.2) at n in
+    (omega arith, ap num s ∙ e ∙ omega arith)
+
 pub count_held : (a : List ℕ) (len : ℕ) → Kept a len → ones (num a) ≡ count (bits_in a len)
 count_held a len k = rw (← bits-number a len k) (sym (Bools.count_ones (bits_in a len)))
 
@@ -267,9 +287,9 @@ pub none-held : (a : List ℕ) (len : ℕ) → Kept a len → eqb (num (drop 0 a
 none-held a len k = ap (λ (n : ℕ). eqb n 0) (sym (bits-number a len k)) ∙ sym (Bools.none_number (bits_in a len))
 
 -- The highest bit
-pub highest-none-held : (a : List ℕ) (len : ℕ) → Used a 0 → None ≡ highest (bits_in a len)
+pub highest-none-held : (a : List ℕ) (len : ℕ) → num a ≡ 0 → None ≡ highest (bits_in a len)
 unfolding bits_in
-highest-none-held a len u = let z = u.zeros in sym (rw z (highest-none len))
+highest-none-held a len z = sym (rw z (highest-none len))
 
 pub highest-held : (a : List ℕ) (len i h : ℕ) → Kept a len → i < length a → num (drop (suc i) a) ≡ 0 → TopOf (get_or a i 0) h →
     Some (8 * i + h) ≡ highest (bits_in a len)

@@ -6,27 +6,19 @@ use Prim.Native.Nat.{ℕ, ◌<◌, ◌≤◌}
 use native.Mathlib.Omega.{arith}
 use borrow.Author.Tests.{leb-true, ltb-true}
 use lib.Dec.{leb, ltb}
-use Rattle.standard.specs.Choice.{pick, and_also}
+use Rattle.standard.specs.Choice.{pick}
 use Rattle.standard.specs.declared.Refusal.{Refusal}
 use Rattle.bitfield.specs.Raw.{Raw, clean}
 use Rattle.bitfield.specs.Facts.{Kept}
-use Rattle.bitfield.specs.Held.{limited, inside, up_to, not_below, room_for, and_then}
+use Rattle.bitfield.specs.Held.{limited, inside, up_to, not_below, room_for}
 use Rattle.bitfield.proofs.Clean.{clean-says}
 use Rattle.std.specs.declared.result.Result.{Result}
 use Rattle.std.specs.declared.result.Result.TheVariants.{Ok, Err}
 use Rattle.std.specs.Prelude.{⊤}
 
-pub then_fine : (a b : Result ⊤ Refusal) → and_then a b ≡ Ok tt → (a ≡ Ok tt) × (b ≡ Ok tt)
-then_fine (Ok tt) b e = (refl, e)
-then_fine (Err x) b e = let w : ◌≡◌ {A = ℕ} 0 1 = cc in absurd (omega arith)
-
 picked : (s : Bool) (t : Result ⊤ Refusal) (x : Refusal) → pick s t (Err x) ≡ Ok tt → (s ≡ true) × (t ≡ Ok tt)
 picked true t x e = (refl, e)
 picked false t x e = let w : ◌≡◌ {A = ℕ} 0 1 = cc in absurd (omega arith)
-
-both_true : (a b : Bool) → and_also a b ≡ true → (a ≡ true) × (b ≡ true)
-both_true true b e = (refl, e)
-both_true false b e = let w : ◌≡◌ {A = ℕ} 0 1 = cc in absurd (omega arith)
 
 pub limited_fine : (n : ℕ) → limited n ≡ Ok tt → n ≤ 2048
 unfolding limited

@@ -10,12 +10,13 @@ use mir.Syntax.{w8}
 use mir.Val.{Fits}
 use lib.Count.{count_leading_zeros, leading_top}
 use lib.ListN.{length, get_or, take, drop, take-append-drop}
-use lib.Seq.{drop-length, drop-cons, take-suc, length-take-le}
+use lib.Seq.{drop-length, take-suc, length-take-le}
+use Rattle.std.proofs.Common.{get_or-drop}
 use Rattle.standard.specs.Bytes.{Bytes, num}
 use Rattle.standard.proofs.Bytes.{bytes_take}
 use Rattle.standard.proofs.Bits.{bits_of, num-append, top_from, top_to}
 use Rattle.bitfield.specs.Body.{highest, all_bits}
-use Rattle.bitfield.specs.Facts.{Used, TopOf}
+use Rattle.bitfield.specs.Facts.{TopOf}
 use Rattle.std.specs.declared.option.Option.TheVariants.{Some, None}
 
 -- No bit of 0 is set.
@@ -60,15 +61,6 @@ num_used l r h z =
     let g : 256 ^ length (take r l) * num (drop r l) ≡ 0 = rw z (omega arith) in
     omega arith
 
--- One byte more is zero.
-pub zero-before : (l : List ℕ) (i : ℕ) → 0 < i → i ≤ length l → num (drop i l) ≡ 0 → get_or l (i - 1) 0 ≡ 0 → num (drop (i - 1) l) ≡ 0
-unfolding num
-zero-before l zero h b z e = absurd (omega arith)
-zero-before l (suc i) h b z e =
-    let q : suc i - 1 ≡ i = omega arith in
-    let g = rw q at e in
-    rw (q, drop-cons l i 0 b, g, z)
-
 pub top_number : (l : List ℕ) (i h : ℕ) → Bytes l → i < length l → num (drop (suc i) l) ≡ 0 → TopOf (get_or l i 0) h
     → (2 ^ (8 * i + h) ≤ num l) × (num l < 2 ^ suc (8 * i + h))
 top_number l i h b k z t =
@@ -105,11 +97,17 @@ pub used_all : (l : List ℕ) → num (drop (length l) l) ≡ 0
 unfolding num
 used_all l = ap num (drop-length l)
 
-pub used_upto : (l : List ℕ) (i : ℕ) → i ≤ length l → num (drop i l) ≡ 0 → (get_or l (i - 1) 0 ≡ 0 → ⊥) → Used l i
-used_upto l i h z n = record { upto = h; zeros = z; last = λ (p : 0 < i). omega arith }
+-- Where each byte is zero, the number is.
+pub zeros-number : (l : List ℕ) → ((k : ℕ) → get_or l k 0 ≡ 0) → num l ≡ 0
+unfolding num
+zeros-number [] z = refl
+zeros-number (x ∷ xs) z =
+    let e : x ≡ 0 = z 0 in
+    let r = zeros-number xs (λ (k : ℕ). z (suc k)) in
+    omega arith
 
-pub used_none : (l : List ℕ) → num l ≡ 0 → Used l 0
-used_none l z = record { upto = omega arith; zeros = z; last = λ (p : 0 < 0). omega arith }
+pub zeros-behind : (l : List ℕ) (i : ℕ) → ((k : ℕ) → i < k → get_or l k 0 ≡ 0) → num (drop (suc i) l) ≡ 0
+zeros-behind l i z = zeros-number (drop (suc i) l) (λ (k : ℕ). rw get_or-drop (z (suc i + k) (omega arith)))
 
 -- What `leading_zeros` counts, and the highest bit, make eight.
 pub top_counted : (x : ℕ) → 0 < x → x < 256 → (count_leading_zeros 8 x ≤ 7) × TopOf x (7 - count_leading_zeros 8 x)

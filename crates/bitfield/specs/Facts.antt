@@ -1,14 +1,12 @@
 -- What the private functions promise. Assumes nothing: these are definitions.
-use Rattle.std.specs.Prelude.{◌≡◌, List, Bool, ℕ, suc, ◌+◌, ◌-◌, ◌*◌, ◌/◌, ◌%◌, ◌^◌, ◌<◌, ◌≤◌, length, get_or, drop}
+use Rattle.std.specs.Prelude.{◌≡◌, List, Bool, ℕ, suc, ◌+◌, ◌*◌, ◌/◌, ◌%◌, ◌^◌, ◌<◌, ◌≤◌, length, slice_index, drop}
 use Rattle.standard.specs.Bytes.{num}
 use Rattle.standard.specs.Bits.{bit}
 use Rattle.bitfield.specs.Raw.{Raw}
 
--- The bytes from r on are zero, and the one before r is not.
-pub record Used (l : List ℕ) (r : ℕ) : Type 0 where
-  pub upto : r ≤ length l
-  pub zeros : num (drop r l) ≡ 0
-  pub last : 0 < r → 0 < get_or l (r - 1) 0
+-- Byte i is not zero, and those behind it are.
+abbrev pub LastUsed : List ℕ → ℕ → Type 0
+LastUsed l i = (i < length l) × (0 < slice_index l i) × ((k : ℕ) → i < k → slice_index l k ≡ 0)
 
 -- h is the highest set bit of the byte x.
 pub record TopOf (x h : ℕ) : Type 0 where

@@ -1,24 +1,16 @@
 // Bodies of a message: whether bytes are those of a bit list or of a bit vector. Nothing is copied.
-ghost use Rattle.std.specs.Prelude.{◌≡◌, ℕ, ◌+◌, ◌-◌, ◌*◌, ◌/◌, ◌<◌, ◌≤◌, length, get_or, drop};
-ghost use Rattle.standard.specs.Bytes.{Bytes, num};
+ghost use Rattle.std.specs.Prelude.{◌≡◌, ℕ, ◌+◌, ◌-◌, ◌*◌, ◌/◌, ◌<◌, ◌≤◌, length, get_or, slice_index, MatchOption};
+ghost use Rattle.standard.specs.Bytes.{Bytes};
 ghost use Rattle.bitfield.specs.Body.{bit_list_body, bit_vector_body, bytes_for_lem, list_bits_lem, within};
-ghost use Rattle.bitfield.specs.Facts.{Used, TopOf};
+ghost use Rattle.bitfield.specs.Facts.{LastUsed, TopOf};
 
 use standard::Refusal;
 
-// How many bytes there are up to the last one that is not zero, where those from the end on are.
-pub(crate) fn used_bytes(bytes: &[u8], end: usize) -> usize
-    requires { (end ≤ length bytes.now) × (num (drop end bytes.now) ≡ 0) }
-    ensures { Used bytes.now result }
+// Where the last byte is that is not zero.
+pub(crate) fn last_used(bytes: &[u8]) -> Option<usize>
+    ensures { MatchOption result ((k : ℕ) → slice_index bytes.now k ≡ 0) (λ i. LastUsed bytes.now i) }
 {
-    let mut i = end;
-    while i > 0 {
-        if bytes[i - 1] != 0 {
-            return i;
-        }
-        i -= 1;
-    }
-    0
+    bytes.iter().rposition(|x| *x != 0)
 }
 
 // The highest set bit of a byte that is not zero.
@@ -59,11 +51,9 @@ fn unmarked(bytes: &[u8]) -> Result<usize, Refusal>
     requires { (0 < length bytes.now) × (get_or bytes.now (length bytes.now - 1) 0 ≡ 0) }
     ensures { (n : ℕ) → result ≡ bit_list_body bytes.now n }
 {
-    let used = used_bytes(bytes, bytes.len());
-    if used == 0 {
-        Err(Refusal::MissingLengthInformation)
-    } else {
-        Err(Refusal::InvalidByteCount(bytes.len(), used))
+    match last_used(bytes) {
+        Some(last) => Err(Refusal::InvalidByteCount(bytes.len(), last + 1)),
+        None => Err(Refusal::MissingLengthInformation),
     }
 }
 

@@ -8,7 +8,7 @@ ghost use Rattle.bitfield.specs.Held.{held};
 ghost use Rattle.bitfield.specs.Bitfields.{bits, WellFormed};
 
 use super::Bitfield;
-use super::body::{bytes_for, top_bit, used_bytes};
+use super::body::{bytes_for, last_used, top_bit};
 use super::raw::{bit_at, combine, copy_of, cut, none_from, ones_in, put_bit, put_raw, shifted};
 use std::marker::PhantomData;
 
@@ -143,11 +143,7 @@ impl<T> Bitfield<T> {
         requires { WellFormed self.now }
         ensures { result ≡ highest (bits self.now) }
     {
-        let used = used_bytes(&self.bytes, bytes_for(self.len));
-        if used == 0 {
-            return None;
-        }
-        let last = used - 1;
+        let last = last_used(&self.bytes[..bytes_for(self.len)])?;
         Some(8 * last + top_bit(self.bytes[last]))
     }
 
