@@ -1,5 +1,5 @@
 // The form of a value, as it is lent: its contents words, and the bytes of its bodies.
-ghost use Rattle.std.specs.Prelude.{◌≡◌, ◌+◌, length, leb};
+ghost use Rattle.std.specs.Prelude.{◌≡◌, ◌+◌, ◌<◌, ◌^◌, length, leb};
 ghost use Rattle.standard.specs.declared.Refusal.TheVariants.{BadValue};
 ghost use Rattle.value.specs.Steps.{counted};
 
@@ -18,6 +18,19 @@ pub(crate) struct Place {
     pub byte: usize,
 }
 
+impl Place {
+    // The place behind the next contents word.
+    pub(crate) fn next_word(self) -> Place
+        requires { self.word + 1 < 2 ^ 64 }
+        ensures { result ≡ record { word = self.word + 1; byte = self.byte } }
+    {
+        Place {
+            word: self.word + 1,
+            ..self
+        }
+    }
+}
+
 impl<'a> Form<'a> {
     // The contents word at i, a number of at most limit.
     pub(crate) fn count_at(self, i: usize, limit: usize) -> Result<usize, Refusal>
@@ -31,6 +44,7 @@ impl<'a> Form<'a> {
     }
 
     // Whether the bodies have n bytes from j on.
+    // kept: a test. As a Result of the place behind them it was measured: 4 % more instructions for bit lists.
     pub(crate) fn has(self, j: usize, n: usize) -> bool
         ensures { result ≡ leb (j + n) (length self.entry.bodies.now) }
     {

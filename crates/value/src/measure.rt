@@ -106,11 +106,7 @@ fn measure_free(form: Form, at: Place, limit: usize) -> Result<Mark, Refusal>
     ensures { result ≡ measured (walk_item (free_bytes 0 limit) form.entry.contents.now form.entry.bodies.now at.word at.byte) (get_or form.entry.contents.now at.word 0) }
 {
     let n = form.count_at(at.word, limit)?;
-    let body = Place {
-        word: at.word + 1,
-        ..at
-    };
-    measure_exact(form, body, n)
+    measure_exact(form, at.next_word(), n)
 }
 
 // A bit list of at most limit bits.
@@ -119,12 +115,8 @@ fn measure_list(form: Form, at: Place, limit: usize) -> Result<Mark, Refusal>
     ensures { result ≡ measured (walk_item (bit_list 0 limit) form.entry.contents.now form.entry.bodies.now at.word at.byte) (get_or form.entry.contents.now at.word 0 / 8 + 1) }
 {
     let k = form.count_at(at.word, limit)?;
-    let body = Place {
-        word: at.word + 1,
-        ..at
-    };
     let n = k / 8 + 1;
-    measure_bits(form, k, body, n)
+    measure_bits(form, k, at.next_word(), n)
 }
 
 // An item of a type that has no lower types.
@@ -195,19 +187,12 @@ pub(crate) fn measure_item(table: Table, t: usize, form: Form, at: Place) -> Res
             }
             measure_fields(table, members, form, first)
         }
-        Laid::Bare => {
-            let end = Place {
-                word: at.word + 1,
-                ..at
-            };
-            Ok(Mark { end, len: 1 })
-        }
+        Laid::Bare => Ok(Mark {
+            end: at.next_word(),
+            len: 1,
+        }),
         Laid::Body(o) => {
-            let body = Place {
-                word: at.word + 1,
-                ..at
-            };
-            let m = measure_item(table, o, form, body)?;
+            let m = measure_item(table, o, form, at.next_word())?;
             Ok(with_selector(m))
         }
     }

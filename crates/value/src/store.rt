@@ -83,10 +83,7 @@ fn put_leaf(out: &mut [u8], to: usize, n: Node, form: Form, at: Place) -> Stop
     ensures { Put out.old to (write_item_lem (leaf_of 0 n) form.entry.contents.now form.entry.bodies.now at.word at.byte) (walk_item (leaf_of 0 n) form.entry.contents.now form.entry.bodies.now at.word at.byte) result out.new }
 {
     let k = form.contents[at.word] as usize;
-    let body = Place {
-        word: at.word + 1,
-        ..at
-    };
+    let body = at.next_word();
     match n.kind {
         Kind::FreeBytes => put_part(out, to, form, body, k),
         _ => put_list(out, to, form, body, k),
@@ -99,11 +96,10 @@ fn put_selector(out: &mut [u8], to: usize, form: Form, at: Place) -> Stop
     ensures { Put out.old to (get_or form.entry.contents.now at.word 0 ∷ []) (upto (at.word + 1) at.byte) result out.new }
 {
     out[to] = form.contents[at.word] as u8;
-    let end = Place {
-        word: at.word + 1,
-        ..at
-    };
-    Stop { end, to: to + 1 }
+    Stop {
+        end: at.next_word(),
+        to: to + 1,
+    }
 }
 
 // How much of a fixed portion a type with this length takes.
