@@ -25,8 +25,7 @@ pub(crate) fn top_bit(x: u8) -> usize
 pub(crate) fn bytes_for(n: usize) -> usize
     ensures { result ≡ bytes_for_lem n }
 {
-    let q = n / 8;
-    if n % 8 == 0 { q } else { q + 1 }
+    n.div_ceil(8)
 }
 
 // The number of bits before bit h of byte i, where it is at most n.

@@ -27,9 +27,11 @@ pub trait BitfieldBehaviour {
 }
 
 // At most as many bits as the limit: a list's.
+#[derive(Clone, Copy, Debug, PartialEq, Eq)]
 pub struct Variable;
 
 // As many bits as the limit: a vector's.
+#[derive(Clone, Copy, Debug, PartialEq, Eq)]
 pub struct Fixed;
 
 impl BitfieldBehaviour for Variable {
@@ -53,7 +55,7 @@ impl BitfieldBehaviour for Fixed {
 }
 
 // A bitfield with the limit n: the first len of its bytes' bits. Any state can be handed in: every call tests it first.
-#[derive_where(Clone, Copy)]
+#[derive_where(Clone, Copy, Debug, PartialEq, Eq)]
 pub struct Bitfield<T> {
     pub bytes: [u8; 256],
     pub len: usize,
