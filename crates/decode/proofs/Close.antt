@@ -2,7 +2,6 @@
 use mathlib.Core.Path.{◌≡◌, sym, ap, ◌∙◌}
 use mathlib.Core.List.{List, [], ◌∷◌, ◌++◌, append_assoc}
 use Prim.Native.Nat.{ℕ, zero, suc, ◌-◌, ◌≤◌, ◌<◌}
-use native.Mathlib.Nat.{sub-zero}
 use native.Mathlib.Omega.{arith}
 use lib.ListN.{length, get_or, take, drop, set, take-append-drop}
 use lib.Seq.{drop-cons, take-suc, set_at, length-take-le}
@@ -22,10 +21,6 @@ module _ (ss es : List ℕ) (n len : ℕ) where
   closing_none =
       let z : n - n ≡ 0 = omega arith in
       record { within = omega arith; start = rw z; ends = rw z (sym (take-append-drop n es)) }
-
-  pub closing_all : (cs : List ℕ) (next i : ℕ) → Closing ss es n len cs next i → i ≤ 0 → cs ≡ close_ends_lem ss es n len
-  closing_all cs next zero g h = g.ends ∙ rw sub-zero
-  closing_all cs next (suc i) g h = absurd (omega arith)
 
 -- One item more: the place i is now the last one before those that are closed.
 module _ (ss es : List ℕ) (n len : ℕ) (cs : List ℕ) (next i : ℕ) (g : Closing ss es n len cs next (suc i)) (ls : length ss ≡ 64)

@@ -15,6 +15,8 @@ use Rattle.decode.proofs.union_selector.UnionSelector.new.Kinds as selector_new_
 use Rattle.decode.proofs.union_selector.UnionSelector.new.Reads as selector_new_reads
 use Rattle.decode.proofs.union_selector.UnionSelector.get.Kinds as selector_get_kinds
 use Rattle.decode.proofs.union_selector.UnionSelector.get.Reads as selector_get_reads
+use Rattle.decode.proofs.union_selector.U8FromUnionSelector.from.Kinds as selector_from_kinds
+use Rattle.decode.proofs.union_selector.U8FromUnionSelector.from.Reads as selector_from_reads
 use Rattle.decode.proofs.builder.Progress.new.Kinds as progress_new_kinds
 use Rattle.decode.proofs.builder.Progress.new.Reads as progress_new_reads
 use Rattle.decode.proofs.builder.register_head.Kinds as register_head_kinds
@@ -52,6 +54,9 @@ selector_new_only κs a x y e f p q = only_answer _ x y p q
 
 pub selector_get_only : Only selector_get_kinds.ps selector_get_kinds.r selector_get_reads.Post
 selector_get_only κs a x y e f p q = only_answer _ x y p q
+
+pub selector_from_only : Only selector_from_kinds.ps selector_from_kinds.r selector_from_reads.Post
+selector_from_only κs a x y e f p q = only_answer _ x y p q
 
 pub progress_new_only : Only progress_new_kinds.ps progress_new_kinds.r progress_new_reads.Post
 progress_new_only κs a x y e f p q = only_answer _ x y p q

@@ -12,7 +12,7 @@ use lib.ListN.{length, take, drop, length-append, length-take}
 use Rattle.standard.specs.Bytes.{Bytes, le, num}
 unfoldable pub use Rattle.standard.specs.Bits.{bits_of}
 use Rattle.standard.specs.Bits.{bit, bit_num, packs, pack, marked}
-use Rattle.standard.proofs.Bytes.{length-le, bytes_le, bytes-append, le-num, num-le, num-bound}
+use Rattle.standard.proofs.Bytes.{length-le, bytes_le, le-num, num-le, num-bound}
 
 -- Widths in bytes and in bits
 pub pow_bytes : (w : ℕ) → 256 ^ w ≡ 2 ^ (8 * w)
@@ -226,14 +226,3 @@ top_to l x h b to =
     let m = mul-le-mul_left {m = suc x} (256 ^ length l) to in
     let e : suc (8 * length l + h) ≡ 8 * length l + suc h = omega arith in
     rw (num-append l (x ∷ []), e, pow-add 2 (8 * length l) (suc h), ← p) (omega arith)
-
--- Bytes whose last one has its highest bit at h are the marked list of the bits before that bit.
-pub marked-last :
-    (l : List ℕ) (x h : ℕ) → Bytes l → x < 256 → h < 8 → 2 ^ h ≤ x → x < 2 ^ suc h
-    → marked (bits_of (8 * length l + h) (num (l ++ (x ∷ [])))) ≡ l ++ (x ∷ [])
-unfolding Bytes
-marked-last l x h b small low from to =
-    marked-bits (l ++ (x ∷ [])) (8 * length l + h) (bytes-append l (x ∷ []) b (small, tt))
-    (rw length-append (omega arith))
-    (top_from l x h from)
-    (top_to l x h b to)

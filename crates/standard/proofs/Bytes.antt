@@ -1,5 +1,5 @@
 -- Numbers in bytes: `le` and `num` undo one another, over any width. Assumes nothing.
-use mathlib.Core.Path.{◌≡◌, refl, sym, ap, ◌∙◌}
+use mathlib.Core.Path.{◌≡◌, refl, ap, ◌∙◌}
 use mathlib.Core.List.{List, [], ◌∷◌, ◌++◌}
 use Prim.Native.Nat.{ℕ, zero, suc, ◌+◌, ◌-◌, ◌*◌, ◌/◌, ◌%◌, ◌≤◌, ◌<◌, ◌^◌}
 use native.Mathlib.Nat.{add-zero, pow-succ', one-le-pow}
@@ -104,10 +104,6 @@ num_short (a ∷ []) h = omega arith
 num_short (a ∷ b ∷ []) h = omega arith
 num_short (a ∷ b ∷ c ∷ []) h = omega arith
 num_short (a ∷ b ∷ c ∷ d ∷ l) h = absurd (omega arith)
-
--- Two lists of bytes of one length that say one number are equal.
-pub num-injective : (a b : List ℕ) → Bytes a → Bytes b → length a ≡ length b → num a ≡ num b → a ≡ b
-num-injective a b h k l e = sym (le-num a h) ∙ rw (l, e) (le-num b k)
 
 -- A number at a place.
 pub num_at-drop : (w : ℕ) (b : List ℕ) (p : ℕ) → num_at w (drop p b) 0 ≡ num_at w b p

@@ -109,6 +109,7 @@ pub struct Refused<S> {
 }
 
 // What stands for an item in the fixed portion of what holds it: so many bytes of its own, or an offset.
+// kept: an enum of its own and no Option<usize>, which is no plainer: fixed and variable are the SSZ standard's words for the two sizes.
 #[derive(Clone, Copy, Debug, PartialEq, Eq)]
 pub enum Head {
     Fixed(usize),
