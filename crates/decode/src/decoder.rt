@@ -16,7 +16,7 @@ pub const OPEN_END: usize = usize::MAX;
 
 // How many items are registered, where the next one's head is, and where each item starts and ends; unused entries are zero.
 // kept: document 01 ("SmallVec of slices becomes start and end numbers in arrays") and operation 52 of docs/CASES.md have two arrays.
-#[derive(Clone, Copy)]
+#[derive(Clone, Copy, Debug, PartialEq, Eq)]
 pub struct SszDecoderBuilder {
     pub count: usize,
     pub pos: usize,
@@ -25,7 +25,7 @@ pub struct SszDecoderBuilder {
 }
 
 // Where each item lies in the bytes.
-#[derive(Clone, Copy)]
+#[derive(Clone, Copy, Debug, PartialEq, Eq)]
 pub struct SszDecoder {
     pub count: usize,
     pub starts: [usize; 64],

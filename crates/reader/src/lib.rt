@@ -10,7 +10,7 @@ ghost use Rattle.reader.specs.Walked.{step_after_lem, reader_at, Decoded, item_n
 use decode::decoder::SszDecoder;
 use standard::Refused;
 
-#[derive(Clone, Copy)]
+#[derive(Clone, Copy, Debug, PartialEq, Eq)]
 pub struct SszReader<'a> {
     pub bytes: &'a [u8],
     pub ranges: SszDecoder,
@@ -18,7 +18,7 @@ pub struct SszReader<'a> {
 }
 
 // An item, and the reader that comes after it.
-#[derive(Clone, Copy)]
+#[derive(Clone, Copy, Debug, PartialEq, Eq)]
 pub struct Taken<'a> {
     pub item: &'a [u8],
     pub rest: SszReader<'a>,
