@@ -1,21 +1,22 @@
 -- Bytes stored one after another, and fields stored at two places: heads in the fixed portion, bodies behind it. Assumes nothing.
 use mathlib.Core.Path.{◌≡◌, refl, sym, ap, ◌∙◌}
 use mathlib.Core.Bool.{true}
-use mathlib.Core.List.{List, [], ◌∷◌, ◌++◌}
+use mathlib.Core.List.{List, [], ◌∷◌, ◌++◌, append-nil}
 use Prim.Native.Nat.{ℕ, suc, ◌+◌, ◌-◌, ◌*◌, ◌/◌, ◌%◌, ◌≤◌, ◌<◌, ◌^◌}
 use native.Mathlib.Nat.{zero-add, div-eq_of_lt}
 use native.Mathlib.Omega.{arith}
-use lib.ListN.{length, get_or, take, drop, set, length-append}
+use lib.ListN.{length, get_or, take, drop, set, length-append, length-take, length-drop, drop_of_length-le}
 use lib.Bits.{bit_or}
 use lib.Dec.{eqb}
-use lib.Seq.{sets, length-sets, set_comm}
+use lib.Seq.{sets, sets-eq, length-sets, set_comm}
+use borrow.Rule.Slice.PartMut.{put_mid}
 use Rattle.standard.specs.Choice.{pick}
 use Rattle.standard.specs.Bytes.{Stored, Room, le, word_at}
 use Rattle.standard.specs.Types.{Ty, head, width, portion}
 use Rattle.standard.specs.Parts.{Part, piece, fixed_lengths, fronts, backs, join}
 use Rattle.standard.specs.declared.Head.TheVariants.{Fixed, Variable}
 use Rattle.standard.proofs.Bytes.{length-le}
-use Rattle.standard.proofs.Store.{sets-append}
+use Rattle.standard.proofs.Store.{sets-append, part_sets}
 use Rattle.standard.proofs.Join.{length-fronts, length-join}
 use Rattle.bitfield.proofs.Places.{bit-on, one_shifted}
 use Rattle.layout.specs.Tree.{node_of, leaf_of, tree_of, head_of}
@@ -40,6 +41,18 @@ use Rattle.value.proofs.Rows.{row-known, fields-walk, fields-parts, none_walk, n
 use Rattle.value.proofs.Fixed.{onward-first, item-part, row-portion}
 
 -- n bytes of the bodies.
+-- An offset, stored in the four bytes that are cut out for it.
+pub offset-stored : (o : List ℕ) (at k x : ℕ) (s : List ℕ) → k ≡ 4 → s ≡ sets (take k (drop at o)) 0 (le 4 x) → at + 4 ≤ length o →
+    put_mid at k o s ≡ sets o at (le 4 x)
+offset-stored o at k x s h e r =
+    let y = le 4 x in
+    let l = take k (drop at o) in
+    let n = length-le 4 x in
+    let m : length l ≡ 4 = simp (length-take, length-drop) (omega arith) in
+    let d : length l ≤ 0 + length y = omega arith in
+    let w : sets l 0 y ≡ y = sets-eq y l 0 (omega arith) ∙ rw (drop_of_length-le l d) (append-nil y) in
+    part_sets o s y at k (e ∙ w) (omega arith) (omega arith)
+
 -- A bit list: its full bytes, then the byte with the mark.
 pub list-stored : (o : List ℕ) (at : ℕ) (b : List ℕ) (i j k x : ℕ) (o₁ : List ℕ) (raw : ℕ) → j + raw_bytes_lem k ≤ length b →
     o₁ ≡ sets o at (take (j + k / 8 - j) (drop j b)) → x ≡ pick (eqb (k % 8) 0) 1 (get_or b (j + k / 8) 0 + 2 ^ (k % 8)) → raw ≡ raw_bytes_lem k →
@@ -127,6 +140,10 @@ module _ (x : List ℕ) (ys : List Part) (o : List ℕ) (p q start own e : ℕ) 
   unfolding fixed_lengths backs
   room-fixed m g l = record { room = omega (arith, g.heads, g.tails, g.apart) }
 
+  pub room_offset : Two (piece Variable x ∷ ys) o p q start own e z → e ≤ length o → p + 4 ≤ length o
+  unfolding fixed_lengths
+  room_offset g l = omega (arith, g.heads, g.tails, g.apart)
+
   pub room_variable : Two (piece Variable x ∷ ys) o p q start own e z → e ≤ length o → (o₁ : List ℕ) → length o₁ ≡ length o → Room o₁ q x
   unfolding backs
   room_variable g l o₁ d = record { room = rw d (omega (arith, simp length-append at g.tails)) }
@@ -209,6 +226,9 @@ module _ {lens l : List ℕ} {t step : ℕ} {c b : List ℕ} {start own e : ℕ}
     variable_parts_lem : Two (piece Variable (write_item_lem (tree_of l f) c b i j) ∷ parts_from (row_of l t (a + step) step (left - 1)) c b
         (word_after (walk_item (tree_of l f) c b i j)) (byte_after (walk_item (tree_of l f) c b i j))) o p q start own e z
     variable_parts_lem = rw (← row_variable lens l t a step left f g.row y v k n (omega arith)) at writing-parts
+
+    pub writing_offset : (start ≤ q) × (p + 4 ≤ length o)
+    writing_offset = (omega (arith, g.two.apart), room_offset _ _ o p q start own e z variable_parts_lem g.room)
 
     module _ {o₁ : List ℕ} (d : o₁ ≡ sets o p (le 4 (q - start))) where
       offset_long : length o₁ ≡ length o

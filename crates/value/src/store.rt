@@ -2,7 +2,7 @@
 ghost use Rattle.std.specs.Prelude.{◌≡◌, [], ◌∷◌, ◌+◌, ◌-◌, ◌*◌, ◌/◌, ◌≤◌, ◌<◌, ◌^◌, length, get_or, eqb};
 ghost use Rattle.std.proofs.lemmas.List.Edits.{sets};
 ghost use Rattle.standard.specs.Choice.{pick};
-ghost use Rattle.standard.specs.Bytes.{Room};
+ghost use Rattle.standard.specs.Bytes.{Room, le};
 ghost use Rattle.standard.specs.Types.{head, width, portion};
 ghost use Rattle.standard.specs.Parts.{join};
 ghost use Rattle.standard.specs.declared.Head.TheVariants.{Variable};
@@ -34,6 +34,14 @@ fn copy_into(out: &mut [u8], to: usize, src: &[u8])
     ensures { out.new ≡ sets out.old to src.now }
 {
     out[to..to + src.len()].copy_from_slice(src);
+}
+
+// Stores an offset, for which there is room: its four bytes are a slice, so `put_four` compares nothing.
+fn put_offset(out: &mut [u8], to: usize, offset: usize)
+    requires { to + 4 ≤ length out.old }
+    ensures { out.new ≡ sets out.old to (le 4 offset) }
+{
+    put_four(&mut out[to..to + 4], 0, offset);
 }
 
 // Stores n bytes of the bodies.
@@ -211,7 +219,7 @@ fn write_fields(
             at = s.end;
             continue;
         }
-        put_four(out, p, q - start);
+        put_offset(out, p, q - start);
         p += 4;
         let n = table.look(f);
         let s = if is_leaf(n.kind) {

@@ -5,7 +5,7 @@ use Rattle.message.proofs.Rows.{row-there, row_below, row_under, row-few}
 use Rattle.value.proofs.Rows.{under-known}
 use Rattle.value.proofs.Leaves.{part_need, part-done}
 use Rattle.value.proofs.Fills.{item-own, writing-none, writing-upto, writing-there, writing-fixed}
-use Rattle.value.proofs.Fills.{writing-room, writing-next, writing-end, fields_fit}
+use Rattle.value.proofs.Fills.{writing_offset, writing-room, writing-next, writing-end, fields_fit}
 use Rattle.value.proofs.Plain.{below-asked, below_put}
 use Rattle.value.proofs.Made.{laid-below, laid-row, row_ready, row-all, body_ready}
 use Rattle.value.proofs.store.+write_fields_write_item.Goals as goal
@@ -33,6 +33,9 @@ pub write_fields-loop-preserved-then-k-gt0 : goal.write_fields-loop-preserved-th
 write_fields-loop-preserved-then-k-gt0 t c =
     rw sub-add-eq (writing-fixed c.loop.invariant (omega arith) c.word-f.ensures.0 refl c.if-k-gt0.true c.put_part-s.ensures)
 
+pub write_fields-put_offset-requires : goal.write_fields-put_offset-requires
+write_fields-put_offset-requires t c = (writing_offset c.loop.invariant (omega arith) c.word-f.ensures.0 refl c.if-k-gt0.false).1
+
 pub write_fields-look-n-requires : goal.write_fields-look-n-requires
 write_fields-look-n-requires t c = omega (arith, c.requires.row.own, row_below _ _ _ _ _ _ _ c.loop.invariant.row (omega arith) c.word-f.ensures.0)
 
@@ -41,7 +44,7 @@ write_fields-put_leaf-s-requires t c =
     below-asked _ _ _ c.look-n.ensures (sym c.is_leaf.ensures ∙ c.if-is_leaf.true) _ _ _ _ _ _ _
     (row_under _ _ _ _ _ _ _ c.loop.invariant.row (omega arith) c.word-f.ensures.0) c.if-k-gt0.false
     (writing-upto c.loop.invariant (omega arith) c.word-f.ensures.0)
-    (writing-room c.loop.invariant (omega arith) c.word-f.ensures.0 refl c.if-k-gt0.false c.put_four.ensures)
+    (writing-room c.loop.invariant (omega arith) c.word-f.ensures.0 refl c.if-k-gt0.false c.put_offset.ensures)
 
 pub write_fields-write_item-s-requires : goal.write_fields-write_item-s-requires
 write_fields-write_item-s-requires t c =
@@ -50,14 +53,14 @@ write_fields-write_item-s-requires t c =
       (
         omega (arith, below, c.requires.row.own),
         writing-upto c.loop.invariant (omega arith) c.word-f.ensures.0,
-        writing-room c.loop.invariant (omega arith) c.word-f.ensures.0 refl c.if-k-gt0.false c.put_four.ensures,
+        writing-room c.loop.invariant (omega arith) c.word-f.ensures.0 refl c.if-k-gt0.false c.put_offset.ensures,
       ),
     )
 
 pub write_fields-loop-preserved : goal.write_fields-loop-preserved
 write_fields-loop-preserved t c =
     rw sub-add-eq
-    (writing-next c.loop.invariant (omega arith) c.word-f.ensures.0 refl c.if-k-gt0.false c.put_four.ensures
+    (writing-next c.loop.invariant (omega arith) c.word-f.ensures.0 refl c.if-k-gt0.false c.put_offset.ensures
     (elim c.if-is_leaf.branch [
       | write_fields-then-is_leaf w ↦
           rw (w.s-is, w.out-is) (below_put _ _ _ c.look-n.ensures (sym c.is_leaf.ensures ∙ w.if-is_leaf.true) _ _ _ _ _ _ _ _ w.put_leaf-s.ensures)
