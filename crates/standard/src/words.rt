@@ -1,5 +1,5 @@
-// Little-endian words in lent bytes, for every position: what is not there reads as 0, and is not stored. That the four bytes are a single load or
-// store was seen in the machine code. `four_at` names them one by one since `get(p..)` with `first_chunk` takes an instruction more a call.
+// Little-endian words in lent bytes, for every position: what is not there reads as 0, and is not stored. That four bytes are a single load
+// or store was seen in the machine code.
 ghost use Rattle.std.specs.Prelude.{◌≡◌, ◌<◌, ◌^◌, length};
 ghost use Rattle.std.proofs.lemmas.List.Edits.{sets};
 ghost use Rattle.standard.specs.Bytes.{num, four, word_at, le};
@@ -24,6 +24,7 @@ fn short_number(bytes: &[u8]) -> usize
 }
 
 // The number in the four bytes from p on: one load, if they are all there.
+// kept: the bytes named one by one and the place compared by hand: measured, `get(p..)` with `first_chunk` takes an instruction more a call.
 pub fn four_at(b: &[u8], p: usize) -> usize
     ensures { (result ≡ four b.now p) × (result < 2 ^ 32) }
 {
