@@ -17,6 +17,7 @@ const LONGEST: usize = 65536;
 const ROOM: usize = 65537;
 
 // Reads until the room is full, the bytes end or a reading fails, and returns how many bytes there are then.
+// kept: `measure` has this too, and `read_exact` doesn't say how many; a crate for these lines, with its contract and edits, is no plainer.
 fn read_full<R: Read>(reader: &mut R, b: &mut [u8]) -> usize
     ensures { result ≤ length b.new }
 {

@@ -51,11 +51,6 @@ fn held<T: BitfieldBehaviour>(part: &[u8]) -> Option<Bitfield<T>> {
     Some(Bitfield::from_parts(*bytes, number_at(numbers, 0), number_at(numbers, 1)))
 }
 
-// Whether the part is just this held bitfield.
-fn is_held<T: BitfieldBehaviour>(part: &[u8], field: Bitfield<T>) -> bool {
-    held::<T>(part).is_some_and(|x| x.bytes == field.bytes && x.len == field.len && x.n == field.n)
-}
-
 // The value of a part that is 0 or 1.
 fn bit(part: &[u8]) -> Option<bool> {
     if is_number(part, 0) {
@@ -66,7 +61,7 @@ fn bit(part: &[u8]) -> Option<bool> {
 }
 
 fn is_made<T: BitfieldBehaviour>(case: Case<'_>, answer: Result<Bitfield<T>, Refusal>) -> bool {
-    case.has(answer, |field| is_held(case.value(0), field))
+    case.has(answer, |field| held(case.value(0)) == Some(field))
 }
 
 // The same of a bitfield of the question, which a refusal leaves as it was.
@@ -75,8 +70,8 @@ fn is_changed<T: BitfieldBehaviour>(
     answer: Result<Bitfield<T>, Refused<Bitfield<T>>>,
 ) -> bool {
     match answer {
-        Ok(field) => case.is_fine() && is_held(case.value(0), field),
-        Err(e) => case.is_refusal(e.refusal, 0) && is_held(case.part(0), e.state),
+        Ok(field) => case.is_fine() && held(case.value(0)) == Some(field),
+        Err(e) => case.is_refusal(e.refusal, 0) && held(case.part(0)) == Some(e.state),
     }
 }
 

@@ -146,21 +146,11 @@ fn builder_of(row: &[u8]) -> Option<SszDecoderBuilder> {
     })
 }
 
-// Whether the part is just this state.
-fn is_builder(row: &[u8], state: SszDecoderBuilder) -> bool {
-    builder_of(row).is_some_and(|x| {
-        x.count == state.count
-            && x.pos == state.pos
-            && x.starts == state.starts
-            && x.ends == state.ends
-    })
-}
-
 // Whether a registration gives the expected state, beside a refusal the old one.
 fn is_registered(case: Case<'_>, answer: Registered) -> bool {
     let is_state = match answer {
-        Ok(state) => case.is_fine() && is_builder(case.value(0), state),
-        Err(e) => case.is_refusal(e.refusal, 1) && is_builder(case.value(0), e.state),
+        Ok(state) => case.is_fine() && builder_of(case.value(0)) == Some(state),
+        Err(e) => case.is_refusal(e.refusal, 1) && builder_of(case.value(0)) == Some(e.state),
     };
     is_state && case.value(1).is_empty()
 }

@@ -98,15 +98,6 @@ fn encoder_of(row: &[u8]) -> Option<SszEncoder> {
     })
 }
 
-// Whether the part is just this state.
-fn is_encoder(row: &[u8], state: SszEncoder) -> bool {
-    encoder_of(row).is_some_and(|x| {
-        x.offset == state.offset
-            && x.fixed_used == state.fixed_used
-            && x.variable_used == state.variable_used
-    })
-}
-
 // The row's only item.
 fn only_item(items: &[u8]) -> Option<Item<'_>> {
     first_item(items).filter(|item| item.rest.is_empty())
@@ -129,7 +120,7 @@ pub(crate) fn encoder(b: &[u8], room: &mut Room) -> Option<bool> {
         let answer = state.append_parameterized(item.is_fixed, item.body, fixed, variable);
         case.has(
             answer,
-            |next| is_encoder(case.value(0), next) && case.value(1).is_empty(),
+            |next| encoder_of(case.value(0)) == Some(next) && case.value(1).is_empty(),
         )
     };
     Some(is_answer && *fixed == *case.buffer(0) && *variable == *case.buffer(1))
