@@ -5,7 +5,7 @@ use Rattle.std.proofs.Math.Nat.{sub-zero, sub-add-eq}
 use Rattle.message.proofs.Rows.{row-there, row_below, row-few}
 use Rattle.value.proofs.Rows.{row-known, measuring_none, measuring_next, measuring_stop, measuring_end}
 use Rattle.value.proofs.Plain.{below-measured, plain-field, measuring_plain, measuring_short}
-use Rattle.value.proofs.Made.{laid-below, laid-row, plain-measured}
+use Rattle.value.proofs.Made.{plain-measured}
 use Rattle.value.proofs.measure.+measure_fields_measure_item.Goals as goal
 use Rattle.value.proofs.measure.+measure_fields_measure_item.Goals.{measure_fields-then-is_leaf, measure_fields-else-is_leaf}
 
@@ -77,18 +77,3 @@ pub measure_item-returns-then-all-gt0 : goal.measure_item-returns-then-all-gt0
 measure_item-returns-then-all-gt0 t c =
     plain-measured _ _ _ _ _ _ _ c.in_ok-members.ensures _ _ c.in-Row.is _ (c.plain_bytes-all.ensures c.if-all-gt0.true) _
     c.measure_exact.ensures
-
-pub measure_item-measure_item-requires : goal.measure_item-measure_item-requires
-measure_item-measure_item-requires t c =
-    let below = laid-below _ _ _ _ _ c.in_ok-members.ensures _ c.in-Body.is in
-    (omega (arith, below, c.decreases), omega (arith, below))
-
-pub measure_item-plain_bytes-all-requires : goal.measure_item-plain_bytes-all-requires
-measure_item-plain_bytes-all-requires t c =
-    let r = laid-row _ _ _ _ _ c.in_ok-members.ensures _ _ c.in-Row.is _ c.requires in
-    (r.0, r.2)
-
-pub measure_item-measure_fields-requires : goal.measure_item-measure_fields-requires
-measure_item-measure_fields-requires t c =
-    let r = laid-row _ _ _ _ _ c.in_ok-members.ensures _ _ c.in-Row.is _ c.requires in
-    (omega (arith, r.1, c.decreases), r.0)
