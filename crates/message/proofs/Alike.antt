@@ -22,6 +22,7 @@ use Rattle.layout.specs.declared.Node.{Node}
 use Rattle.message.specs.Read.{one, plus, and_then, elements, vector_told_lem, read_exact, read_item, read_fields}
 use Rattle.message.specs.Steps.{Under, Row, Alike, Found, row_of, heads_of, is_plain}
 use Rattle.message.specs.declared.items.Inside.{Inside}
+use Rattle.message.specs.declared.parts.Series.{Series}
 use Rattle.message.proofs.Answers.{single, then_accepts}
 use Rattle.message.proofs.Rows.{under-head}
 use Rattle.message.proofs.Copies.{Laid, laid-fixed, vector-laid, elements_laid}
@@ -70,12 +71,14 @@ module _ (lens l : List ℕ) (t at m e own : ℕ) (b : List ℕ) (g : Alike lens
   plain-found : (k : is_plain (node_of l e).kind ≡ true) (s : ℕ) → Ok (record { records = 1 + m; words = own; bytes = length b }) ≡ read_item (tree_of l t) b s
   plain-found k s = sym (simp (zero-add, add-zero)) ∙ rw (plain-read lens l t at m e b g (node_of l e) refl k s) at (same s)
 
-  pub row-found : Found lens l t b (Ok (pick (is_plain (node_of l e).kind) (Inside.Counted (1 + m) own) (Inside.Fields at 0 m own)))
-  row-found = go (is_plain (node_of l e).kind) refl
+  pub row-found :
+      (r : Series) → r ≡ record { below = t; first = at; step = 0; many = m }
+      → Found lens l t b (Ok (pick (is_plain (node_of l e).kind) (Inside.Counted (1 + r.many) own) (Inside.Fields r own)))
+  row-found r q = rw q (go (is_plain (node_of l e).kind) refl)
     where
-      go : (c : Bool) → is_plain (node_of l e).kind ≡ c → Found lens l t b (Ok (pick c (Inside.Counted (1 + m) own) (Inside.Fields at 0 m own)))
+      go : (c : Bool) → is_plain (node_of l e).kind ≡ c → Found lens l t b (Ok (pick c (Inside.Counted (1 + m) own) (Inside.Fields (record { below = t; first = at; step = 0; many = m }) own)))
       go true k = plain-found k
-      go false k = (g.row, g.ranges, o, same)
+      go false k = (omega arith, g.row, g.ranges, o, same)
 
 -- What is found of a vector, by the length k of its elements.
 module _ (lens l : List ℕ) (t at n e : ℕ) (g : Row lens l t at 0 n) (q : e ≡ word_at l at) (h : e < t) (k : ℕ) (i : k ≡ get_or lens e 0) where

@@ -12,7 +12,7 @@ use lib.Seq.{take_all}
 use lib.Dec.{eqb, leb, ltb}
 use Rattle.standard.specs.Choice.{pick}
 use Rattle.standard.specs.Bytes.{word_at}
-use Rattle.standard.specs.Types.{Ty, Opts, number, boolean, fixed_bytes, free_bytes, union, bare, body, head}
+use Rattle.standard.specs.Types.{Ty, Opts, number, boolean, fixed_bytes, free_bytes, union, bare, body, head, Tys, heads}
 use Rattle.standard.specs.Parts.{span_of, part, InRange}
 use Rattle.standard.specs.declared.Head.TheVariants.{Fixed}
 use Rattle.standard.specs.declared.Span.{Span}
@@ -26,12 +26,12 @@ use Rattle.layout.specs.Legal.{LowerOrBare}
 use Rattle.layout.specs.declared.Node.{Node}
 use Rattle.layout.proofs.Facts.{trees-get, as_union, as_leaf}
 use Rattle.message.specs.Read.{one, plus, and_then, built, read_exact, read_item, read_fields, read_option}
-use Rattle.message.specs.Steps.{Under, Row, row_of, heads_of, placed, option_at_lem, choice_of, choose, is_plain, Small}
+use Rattle.message.specs.Steps.{Under, Row, row_of, heads_of, placed, option_at_lem, choice_of, choose, is_plain, Small, types_of, Next}
 use Rattle.message.specs.declared.Counts.{Counts}
 use Rattle.message.proofs.Answers.{then_assoc}
 use Rattle.message.proofs.Bounds.{counts_small}
 use Rattle.message.proofs.Sums.{Summed, spread, spread-small, summed-own, summed-small, summed-item}
-use Rattle.message.proofs.Rows.{Lies, node_legal, under-below, row-none, row_first, row_below, row_under, row_next, row-heads, container_tree, container-named, first-ranges, first_fits, span_ok, span_lies}
+use Rattle.message.proofs.Rows.{Lies, node_legal, under-below, container_tree, container-named, first-ranges, span_ok, span_lies, next_types, next_row, next_heads, next_under, next_below, types_none}
 use Rattle.std.specs.declared.result.Result.{Result}
 use Rattle.std.specs.declared.result.Result.TheVariants.{Ok, Err}
 use Rattle.std.specs.declared.option.Option.{Option}
@@ -41,25 +41,28 @@ use Rattle.message.specs.declared.Sizes.{Sizes}
 use Rattle.message.specs.Read.{located}
 use Rattle.layout.specs.declared.Kind.{Kind}
 use Rattle.layout.specs.Kinds.{is_leaf}
+use Rattle.message.specs.declared.parts.Series.{Series}
 
 plus-zero : (a : Counts) → plus a (record { records = 0; words = 0; bytes = 0 }) ≡ a
 plus-zero a = simp add-zero
 
--- The loop of `field_check`: what is counted, and what is left to read, give the whole. What holds the fields has `own` contents words.
-pub record Reading (lens l : List ℕ) (t a₀ step n own : ℕ) (b : List ℕ) (s : ℕ) (sum : Counts) (a left p : ℕ) : Type 0 where
-  pub row : Row lens l t a step left
-  pub ranges : InRange (heads_of l t a step left) b p 0
-  pub summed : Summed sum (spread (heads_of l t a step left) b p) (spread (heads_of l t a₀ step n) b 0)
-  pub short : spread (heads_of l t a₀ step n) b 0 < 2 ^ 33
-  pub same : and_then (Ok sum) (read_fields (row_of l t a step left) b p s) ≡ and_then (one own 0) (read_fields (row_of l t a₀ step n) b 0 s)
+-- The loop of `field_check`: what is counted, and what is left to read, give the whole of the fields ts. What holds them has `own` contents words.
+pub record Reading (lens l : List ℕ) (t : ℕ) (ts : Tys) (own : ℕ) (b : List ℕ) (s : ℕ) (sum : Counts) (r : Series) (p : ℕ) : Type 0 where
+  pub below : r.below ≤ t
+  pub row : Row lens l r.below r.first r.step r.many
+  pub ranges : InRange (heads (types_of l r)) b p 0
+  pub summed : Summed sum (spread (heads (types_of l r)) b p) (spread (heads ts) b 0)
+  pub short : spread (heads ts) b 0 < 2 ^ 33
+  pub same : and_then (Ok sum) (read_fields (types_of l r) b p s) ≡ and_then (one own 0) (read_fields ts b 0 s)
 
-pub reading-new : (lens l : List ℕ) (t a₀ step n own : ℕ) (b : List ℕ) (s : ℕ) → Row lens l t a₀ step n → s + length b < 2 ^ 32 →
-    InRange (heads_of l t a₀ step n) b 0 0 → own ≤ 1 → Reading lens l t a₀ step n own b s (record { records = 1; words = own; bytes = 0 }) a₀ n 0
-reading-new lens l t a₀ step n own b s g h r i =
-    record { row = g; ranges = r; summed = summed-own own i _; short = spread-small _ b r (omega arith); same = refl }
+pub reading-new : (lens l : List ℕ) (r : Series) (own : ℕ) (b : List ℕ) (s : ℕ) → Row lens l r.below r.first r.step r.many → s + length b < 2 ^ 32 →
+    InRange (heads (types_of l r)) b 0 0 → own ≤ 1 →
+    Reading lens l r.below (types_of l r) own b s (record { records = 1; words = own; bytes = 0 }) r 0
+reading-new lens l r own b s g h j i =
+    record { below = omega arith; row = g; ranges = j; summed = summed-own own i _; short = spread-small _ b j (omega arith); same = refl }
 
-pub reading_small : {lens l : List ℕ} {t a₀ step n own : ℕ} {b : List ℕ} {s : ℕ} {sum : Counts} {a left p : ℕ} →
-    Reading lens l t a₀ step n own b s sum a left p → Small sum (2 ^ 50)
+pub reading_small : {lens l : List ℕ} {t : ℕ} {ts : Tys} {own : ℕ} {b : List ℕ} {s : ℕ} {sum : Counts} {r : Series} {p : ℕ} →
+    Reading lens l t ts own b s sum r p → Small sum (2 ^ 50)
 reading_small g = summed-small _ _ _ g.summed g.short
 
 -- What an item counts.
@@ -110,87 +113,86 @@ pub leaf-told : (l : List ℕ) (f : ℕ) (n : Node) → n ≡ node_of l f → is
 leaf-told l f n e h b x y q k s = rw (← q, as_leaf l f n e h) (k f s)
 
 -- The first field's answer, and that of the rest.
-module _ (lens l : List ℕ) (t a step left f : ℕ) (b : List ℕ) (p : ℕ) (g : Row lens l t a step left) (z : 0 < left) (e : f ≡ word_at l a) (w : Span)
-    (q : w ≡ span_of (head (tree_of l f)) (heads_of l t (a + step) step (left - 1)) b p) (s : ℕ) where
-  pub fields_read : read_fields (row_of l t a step left) b p s ≡ and_then (read_item (tree_of l f) (part b w) (s + w.from))
-      (read_fields (row_of l t (a + step) step (left - 1)) b w.next s)
+module _ (lens l : List ℕ) (r r' : Series) (f : ℕ) (g : Row lens l r.below r.first r.step r.many) (i : Next l r (Some f) r') (b : List ℕ) (p : ℕ) (w : Span)
+    (q : w ≡ span_of (head (tree_of l f)) (heads (types_of l r')) b p) (s : ℕ) where
+  pub fields_read : read_fields (types_of l r) b p s ≡ and_then (read_item (tree_of l f) (part b w) (s + w.from)) (read_fields (types_of l r') b w.next s)
   unfolding read_item
-  fields_read = rw (row_first l t a step left g.named z, q, e)
+  fields_read = rw (next_types lens l r r' f g i, q)
 
-module _ {lens l : List ℕ} {t a₀ step n own : ℕ} {b : List ℕ} {s : ℕ} {sum : Counts} {a left p f : ℕ} (g : Reading lens l t a₀ step n own b s sum a left p)
-    (z : 0 < left) (e : f ≡ word_at l a) {w : Span} (q : w ≡ span_of (head (tree_of l f)) (heads_of l t (a + step) step (left - 1)) b p) where
-  reading-first : and_then (Ok sum) (and_then (read_item (tree_of l f) (part b w) (s + w.from))
-      (read_fields (row_of l t (a + step) step (left - 1)) b w.next s)) ≡ and_then (one own 0) (read_fields (row_of l t a₀ step n) b 0 s)
-  reading-first = rw (fields_read lens l t a step left f b p g.row z e w q s) at g.same
+module _ {lens l : List ℕ} {t : ℕ} {ts : Tys} {own : ℕ} {b : List ℕ} {s : ℕ} {sum : Counts} {r r' : Series} {p f : ℕ}
+    (g : Reading lens l t ts own b s sum r p) (i : Next l r (Some f) r') {w : Span} (q : w ≡ span_of (head (tree_of l f)) (heads (types_of l r')) b p) where
+  reading-first : and_then (Ok sum) (and_then (read_item (tree_of l f) (part b w) (s + w.from)) (read_fields (types_of l r') b w.next s)) ≡
+      and_then (one own 0) (read_fields ts b 0 s)
+  reading-first = rw (fields_read lens l r r' f g.row i b p w q s) at g.same
 
   -- where the first field lies, and what it counts
   pub reading_span : Lies b w
-  reading_span = span_lies lens l t a step left f b p g.row z e g.ranges w q
+  reading_span = span_lies lens l r r' f g.row i b p g.ranges w q
 
   pub reading-item : (c : Counts) → s + length b < 2 ^ 32 → Ok c ≡ read_item (tree_of l f) (part b w) (s + w.from) → Small c (2 ^ 40)
-  reading-item c h i =
-      item-small lens l f (part b w) (s + w.from) c (row_under lens l t a step left f g.row z e) (omega (arith, reading_span)) i
+  reading-item c h j = item-small lens l f (part b w) (s + w.from) c (next_under lens l r r' f g.row i) (omega (arith, reading_span)) j
 
   reading-summed : (c : Counts) → Ok c ≡ read_item (tree_of l f) (part b w) (s + w.from) →
-      Summed (plus sum c) (spread (heads_of l t (a + step) step (left - 1)) b w.next) (spread (heads_of l t a₀ step n) b 0)
+      Summed (plus sum c) (spread (heads (types_of l r')) b w.next) (spread (heads ts) b 0)
   reading-summed c h =
-      let u = row_under lens l t a step left f g.row z e in
-      let i = first-ranges lens l t a step left f b p g.row z e g.ranges (head (tree_of l f)) refl in
-      let j = rw (row-heads lens l t a step left f g.row z e (head (tree_of l f)) refl) at g.summed in
-      summed-item l f _ b p u.legal (omega (arith, u.few)) i w q (s + w.from) sum c _ j (sym h)
+      let u = next_under lens l r r' f g.row i in
+      let j = rw (next_heads lens l r r' f g.row i) at g.summed in
+      summed-item l f _ b p u.legal (omega (arith, u.few)) (first-ranges lens l r r' f g.row i b p g.ranges) w q (s + w.from) sum c _ j (sym h)
 
   pub reading-next : (c : Counts) → s + length b < 2 ^ 32 → Ok c ≡ read_item (tree_of l f) (part b w) (s + w.from) →
-      Reading lens l t a₀ step n own b s (plus sum c) (a + step) (left - 1) w.next
+      Reading lens l t ts own b s (plus sum c) r' w.next
   reading-next c k h =
       record {
-        row = row_next lens l t a step left f g.row z e;
-        ranges = (span_ok lens l t a step left f b p g.row z e g.ranges w q).2;
+        below = rw i.2 g.below;
+        row = next_row lens l r r' f g.row i;
+        ranges = (span_ok lens l r r' f g.row i b p g.ranges w q).2;
         summed = reading-summed c h;
         short = g.short;
-        same = then_assoc (Ok sum) (Ok c) (read_fields (row_of l t (a + step) step (left - 1)) b w.next s) ∙ rw (← h) at reading-first;
+        same = then_assoc (Ok sum) (Ok c) (read_fields (types_of l r') b w.next s) ∙ rw (← h) at reading-first;
       }
 
-  pub reading_stop : (r : RefusedAt) → Err r ≡ read_item (tree_of l f) (part b w) (s + w.from) →
-      Err r ≡ and_then (one own 0) (read_fields (row_of l t a₀ step n) b 0 s)
-  reading_stop r h = rw (← h) at reading-first
+  pub reading_stop : (e : RefusedAt) → Err e ≡ read_item (tree_of l f) (part b w) (s + w.from) → Err e ≡ and_then (one own 0) (read_fields ts b 0 s)
+  reading_stop e h = rw (← h) at reading-first
 
   -- Free bytes: of them only the length is asked.
-  module _ {d : Node} (i : d ≡ node_of l f) (k : d.kind ≡ Kind.FreeBytes) where
+  module _ {d : Node} (j : d ≡ node_of l f) (k : d.kind ≡ Kind.FreeBytes) where
     free_read : read_item (tree_of l f) (part b w) (s + w.from) ≡
         pick (leb (w.to - w.from) d.second) (one 1 (w.to - w.from)) (Err (located (OverLimit (w.to - w.from) d.second) f (s + w.from)))
     unfolding read_item
-    free_read = rw (as_free l f d i k, reading_span.2)
+    free_read = rw (as_free l f d j k, reading_span.2)
 
     pub free_next : w.to - w.from ≤ d.second → s + length b < 2 ^ 32 →
-        Reading lens l t a₀ step n own b s (plus sum (record { records = 1; words = 1; bytes = w.to - w.from })) (a + step) (left - 1) w.next
+        Reading lens l t ts own b s (plus sum (record { records = 1; words = 1; bytes = w.to - w.from })) r' w.next
     free_next h m = reading-next _ m (rw (le-leb _ _ h) at (sym free_read))
 
 -- A plain field: its length stands in the table, and of its bytes nothing else is asked.
-module _ {lens l : List ℕ} {t a₀ step n own : ℕ} {b : List ℕ} {s : ℕ} {sum : Counts} {a left p f : ℕ} (g : Reading lens l t a₀ step n own b s sum a left p)
-    (z : 0 < left) (e : f ≡ word_at l a) {d : Node} (i : d ≡ node_of l f) (h : is_plain d.kind ≡ true) {k : ℕ} (q : k ≡ get_or lens f 0) where
+module _ {lens l : List ℕ} {t : ℕ} {ts : Tys} {own : ℕ} {b : List ℕ} {s : ℕ} {sum : Counts} {r r' : Series} {p f : ℕ}
+    (g : Reading lens l t ts own b s sum r p) (i : Next l r (Some f) r') {d : Node} (j : d ≡ node_of l f) (h : is_plain d.kind ≡ true) {k : ℕ}
+    (q : k ≡ get_or lens f 0) where
   plain-length : k ≡ d.second
-  plain-length = q ∙ g.row.under.found f (row_below lens l t a step left f g.row z e) ∙ ap len_of (plain_type l f d i h).0
+  plain-length = q ∙ g.row.under.found f (next_below lens l r r' f g.row i) ∙ ap len_of (plain_type l f d j h).0
 
   plain-head : Fixed k ≡ head (tree_of l f)
-  plain-head = ap Fixed plain-length ∙ sym (plain_type l f d i h).0
+  plain-head = ap Fixed plain-length ∙ sym (plain_type l f d j h).0
 
   pub plain_fits : p + k ≤ length b
-  plain_fits = first_fits lens l t a step left f b p g.row z e g.ranges k plain-head
+  unfolding InRange
+  plain_fits = (rw (← plain-head) at (first-ranges lens l r r' f g.row i b p g.ranges)).0
 
   pub plain-next : s + length b < 2 ^ 32 →
-      Reading lens l t a₀ step n own b s (plus sum (record { records = 1; words = 0; bytes = k })) (a + step) (left - 1) (p + k)
+      Reading lens l t ts own b s (plus sum (record { records = 1; words = 0; bytes = k })) r' (p + k)
   plain-next m =
       let w : Span = record { from = p; to = p + k; next = p + k } in
-      let v : w ≡ span_of (head (tree_of l f)) (heads_of l t (a + step) step (left - 1)) b p = rw (← plain-head) in
-      let y : length (part b w) ≡ k = (reading_span g z e v).2 ∙ omega arith in
+      let v : w ≡ span_of (head (tree_of l f)) (heads (types_of l r')) b p = rw (← plain-head) in
+      let y : length (part b w) ≡ k = (reading_span g i v).2 ∙ omega arith in
       let x : one 0 k ≡ read_item (tree_of l f) (part b w) (s + p) =
-      exact_read d.second f (part b w) (s + p) k y plain-length ∙ sym ((plain_type l f d i h).1 (part b w) (s + p)) in
-      reading-next g z e v (record { records = 1; words = 0; bytes = k }) m x
+      exact_read d.second f (part b w) (s + p) k y plain-length ∙ sym ((plain_type l f d j h).1 (part b w) (s + p)) in
+      reading-next g i v (record { records = 1; words = 0; bytes = k }) m x
 
-pub reading-end : {lens l : List ℕ} {t a₀ step n own : ℕ} {b : List ℕ} {s : ℕ} {sum : Counts} {a left p : ℕ} → Reading lens l t a₀ step n own b s sum a left p →
-    left ≤ 0 → Ok sum ≡ and_then (one own 0) (read_fields (row_of l t a₀ step n) b 0 s)
+pub reading-end : {lens l : List ℕ} {t : ℕ} {ts : Tys} {own : ℕ} {b : List ℕ} {s : ℕ} {sum : Counts} {r : Series} {p : ℕ} →
+    Reading lens l t ts own b s sum r p → r.many ≡ 0 → Ok sum ≡ and_then (one own 0) (read_fields ts b 0 s)
 unfolding read_item
-reading-end g h = sym (ap Ok (plus-zero _)) ∙ rw (row-none _ _ _ _ _ h) at g.same
+reading-end {l = l} {r = r} g h = sym (ap Ok (plus-zero _)) ∙ rw (types_none l r h) at g.same
 
 -- A container.
 module _ (lens l : List ℕ) (t : ℕ) (n : Node) (e : n ≡ node_of l t) (g : Under lens l (t + 1)) where

@@ -10,7 +10,7 @@ use lib.Seq.{sets, length-sets, take_all}
 use lib.Dec.{eqb, ltb}
 use Rattle.standard.specs.Choice.{pick}
 use Rattle.standard.specs.Bytes.{le, word_at, Stored, Room}
-use Rattle.standard.specs.Types.{Ty, Opts, number, boolean, fixed_bytes, free_bytes, bit_vector, bit_list, container, union, list, vector, bare, body, head}
+use Rattle.standard.specs.Types.{Ty, Opts, number, boolean, fixed_bytes, free_bytes, bit_vector, bit_list, container, union, list, vector, bare, body, head, Tys, heads}
 use Rattle.standard.specs.Parts.{span_of, part, InRange}
 use Rattle.standard.specs.declared.Span.{Span}
 use Rattle.standard.specs.declared.Refusal.{Refusal}
@@ -26,12 +26,12 @@ use Rattle.layout.proofs.Trees.{leaf-cases}
 use Rattle.message.specs.Read.{one, and_then, read_item, read_fields}
 use Rattle.message.specs.Check.{message_type, under_table_lem}
 use Rattle.message.specs.Listing.{entry, list_item_lem, list_fields_lem, list_option}
-use Rattle.message.specs.Steps.{Under, Row, row_of, heads_of, choose, IsAccepted}
+use Rattle.message.specs.Steps.{Under, Row, row_of, heads_of, choose, IsAccepted, types_of, Next}
 use Rattle.message.specs.declared.Counts.{Counts}
 use Rattle.message.proofs.Answers.{right_accepted, then_both, built-both}
 use Rattle.message.proofs.Theorem.{read-start}
 use Rattle.message.proofs.Records.{length-entry, listed-length}
-use Rattle.message.proofs.Rows.{Lies, row-none, row_first, row_next, container_tree, span_ok, span_lies}
+use Rattle.message.proofs.Rows.{Lies, container_tree, span_ok, span_lies, next_types, next_row, types_none}
 use Rattle.message.proofs.Bodies.{fields_read, container-read, bare-says, body-says, body_below, body-read, wrong-read}
 use Rattle.std.specs.declared.result.Result.{Result}
 use Rattle.std.specs.declared.result.Result.TheVariants.{Ok, Err}
@@ -40,6 +40,7 @@ use Rattle.message.specs.declared.RefusedAt.{RefusedAt}
 use Rattle.message.specs.Read.{located}
 use Rattle.layout.specs.declared.Kind.{Kind}
 use Rattle.layout.specs.Kinds.{is_leaf}
+use Rattle.message.specs.declared.parts.Series.{Series}
 
 -- Acceptance does not depend on where the item starts.
 pub accepted-start : (x : Ty) (b : List ℕ) (s u : ℕ) → IsAccepted (read_item x b s) → IsAccepted (read_item x b u)
@@ -64,58 +65,58 @@ entry-stored o o₁ o₂ o₃ at t b s p q r =
     stored_then o at (le 4 t ++ le 4 s) (at + 8) o₂ (le 4 (s + length b)) (at + 12) o₃ _ u h (sym (append_assoc (le 4 t) (le 4 s) (le 4 (s + length b))))
 
 -- The first field's listing, and that of the rest.
-module _ (lens l : List ℕ) (t a step left f : ℕ) (b : List ℕ) (p : ℕ) (g : Row lens l t a step left) (z : 0 < left) (e : f ≡ word_at l a) (w : Span)
-    (q : w ≡ span_of (head (tree_of l f)) (heads_of l t (a + step) step (left - 1)) b p) (s : ℕ) where
-  fields-list : list_fields_lem (row_of l t a step left) b p s ≡
-      list_item_lem (tree_of l f) (part b w) (s + w.from) ++ list_fields_lem (row_of l t (a + step) step (left - 1)) b w.next s
+module _ (lens l : List ℕ) (r r' : Series) (f : ℕ) (g : Row lens l r.below r.first r.step r.many) (i : Next l r (Some f) r') (b : List ℕ) (p : ℕ) (w : Span)
+    (q : w ≡ span_of (head (tree_of l f)) (heads (types_of l r')) b p) (s : ℕ) where
+  fields-list : list_fields_lem (types_of l r) b p s ≡ list_item_lem (tree_of l f) (part b w) (s + w.from) ++ list_fields_lem (types_of l r') b w.next s
   unfolding list_item_lem
-  fields-list = rw (row_first l t a step left g.named z, q, e)
+  fields-list = rw (next_types lens l r r' f g i, q)
 
 -- The loop of `list_fields`.
-pub record Storing (lens l : List ℕ) (t a₀ step n : ℕ) (b : List ℕ) (s : ℕ) (o₀ : List ℕ) (at₀ : ℕ) (o : List ℕ) (at a left p : ℕ) : Type 0 where
-  pub row : Row lens l t a step left
-  pub ranges : InRange (heads_of l t a step left) b p 0
-  pub accepted : IsAccepted (read_fields (row_of l t a step left) b p s)
-  pub room : Room o at (list_fields_lem (row_of l t a step left) b p s)
+pub record Storing (lens l : List ℕ) (t : ℕ) (ts : Tys) (b : List ℕ) (s : ℕ) (o₀ : List ℕ) (at₀ : ℕ) (o : List ℕ) (at : ℕ) (r : Series) (p : ℕ) : Type 0 where
+  pub below : r.below ≤ t
+  pub row : Row lens l r.below r.first r.step r.many
+  pub ranges : InRange (heads (types_of l r)) b p 0
+  pub accepted : IsAccepted (read_fields (types_of l r) b p s)
+  pub room : Room o at (list_fields_lem (types_of l r) b p s)
   pub done : List ℕ
   pub stored : Stored o₀ at₀ done at o
-  pub whole : list_fields_lem (row_of l t a₀ step n) b 0 s ≡ done ++ list_fields_lem (row_of l t a step left) b p s
+  pub whole : list_fields_lem ts b 0 s ≡ done ++ list_fields_lem (types_of l r) b p s
 
-module _ {lens l : List ℕ} {t a₀ step n : ℕ} {b : List ℕ} {s : ℕ} {o₀ : List ℕ} {at₀ : ℕ} {o : List ℕ} {at a left p f : ℕ}
-    (g : Storing lens l t a₀ step n b s o₀ at₀ o at a left p) (z : 0 < left) (e : f ≡ word_at l a) (w : Span)
-    (q : w ≡ span_of (head (tree_of l f)) (heads_of l t (a + step) step (left - 1)) b p) where
-  storing_both : IsAccepted (read_item (tree_of l f) (part b w) (s + w.from)) × IsAccepted (read_fields (row_of l t (a + step) step (left - 1)) b w.next s)
-  storing_both = then_both (read_item (tree_of l f) (part b w) (s + w.from)) (read_fields (row_of l t (a + step) step (left - 1)) b w.next s)
-      (rw (fields_read lens l t a step left f b p g.row z e w q s) at g.accepted)
+module _ {lens l : List ℕ} {t : ℕ} {ts : Tys} {b : List ℕ} {s : ℕ} {o₀ : List ℕ} {at₀ : ℕ} {o : List ℕ} {at : ℕ} {r r' : Series} {p f : ℕ}
+    (g : Storing lens l t ts b s o₀ at₀ o at r p) (i : Next l r (Some f) r') {w : Span} (q : w ≡ span_of (head (tree_of l f)) (heads (types_of l r')) b p) where
+  storing_both : IsAccepted (read_item (tree_of l f) (part b w) (s + w.from)) × IsAccepted (read_fields (types_of l r') b w.next s)
+  storing_both = then_both (read_item (tree_of l f) (part b w) (s + w.from)) (read_fields (types_of l r') b w.next s)
+      (rw (fields_read lens l r r' f g.row i b p w q s) at g.accepted)
 
   pub storing_lies : Lies b w
-  storing_lies = span_lies lens l t a step left f b p g.row z e g.ranges w q
+  storing_lies = span_lies lens l r r' f g.row i b p g.ranges w q
 
   pub storing_accepted : IsAccepted (read_item (tree_of l f) (part b w) (s + w.from))
   storing_accepted = storing_both.0
 
   pub storing_room : Room o at (list_item_lem (tree_of l f) (part b w) (s + w.from))
-  storing_room = room-first o at _ _ _ g.room (fields-list lens l t a step left f b p g.row z e w q s)
+  storing_room = room-first o at _ _ _ g.room (fields-list lens l r r' f g.row i b p w q s)
 
-  pub storing_next : (r : ℕ) (o' : List ℕ) → Stored o at (list_item_lem (tree_of l f) (part b w) (s + w.from)) r o' →
-      Storing lens l t a₀ step n b s o₀ at₀ o' r (a + step) (left - 1) w.next
-  storing_next r o' h =
-      let i = fields-list lens l t a step left f b p g.row z e w q s in
+  pub storing_next : (e : ℕ) (o' : List ℕ) → Stored o at (list_item_lem (tree_of l f) (part b w) (s + w.from)) e o' →
+      Storing lens l t ts b s o₀ at₀ o' e r' w.next
+  storing_next e o' h =
+      let j = fields-list lens l r r' f g.row i b p w q s in
       record {
-        row = row_next lens l t a step left f g.row z e;
-        ranges = (span_ok lens l t a step left f b p g.row z e g.ranges w q).2;
+        below = rw i.2 g.below;
+        row = next_row lens l r r' f g.row i;
+        ranges = (span_ok lens l r r' f g.row i b p g.ranges w q).2;
         accepted = storing_both.1;
-        room = room_then o at _ _ _ r o' g.room i h;
+        room = room_then o at _ _ _ e o' g.room j h;
         done = g.done ++ list_item_lem (tree_of l f) (part b w) (s + w.from);
-        stored = stored_then o₀ at₀ g.done at o _ r o' _ g.stored h refl;
-        whole = g.whole ∙ rw (i, ← append_assoc);
+        stored = stored_then o₀ at₀ g.done at o _ e o' _ g.stored h refl;
+        whole = g.whole ∙ rw (j, ← append_assoc);
       }
 
-pub storing_end : {lens l : List ℕ} {t a₀ step n : ℕ} {b : List ℕ} {s : ℕ} {o₀ : List ℕ} {at₀ : ℕ} {o : List ℕ} {at a left p : ℕ} →
-    Storing lens l t a₀ step n b s o₀ at₀ o at a left p → left ≤ 0 → Stored o₀ at₀ (list_fields_lem (row_of l t a₀ step n) b 0 s) at o
+pub storing_end : {lens l : List ℕ} {t : ℕ} {ts : Tys} {b : List ℕ} {s : ℕ} {o₀ : List ℕ} {at₀ : ℕ} {o : List ℕ} {at : ℕ} {r : Series} {p : ℕ} →
+    Storing lens l t ts b s o₀ at₀ o at r p → r.many ≡ 0 → Stored o₀ at₀ (list_fields_lem ts b 0 s) at o
 unfolding list_item_lem
-storing_end {l = l} {t = t} {a₀ = a₀} {step = step} {n = n} {b = b} {s = s} {a = a} {left = left} g h =
-    let e : list_fields_lem (row_of l t a₀ step n) b 0 s ≡ g.done = g.whole ∙ rw (row-none l t a step left h, append-nil) in
+storing_end {l = l} {ts = ts} {b = b} {s = s} {r = r} g h =
+    let e : list_fields_lem ts b 0 s ≡ g.done = g.whole ∙ rw (types_none l r h, append-nil) in
     rw e g.stored
 
 pub stored-length : (o : List ℕ) (at : ℕ) (x : List ℕ) (r : ℕ) (o' : List ℕ) → Stored o at x r o' → length o' ≡ length o

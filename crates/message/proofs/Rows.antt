@@ -4,7 +4,7 @@ use mathlib.Core.Path.{◌≡◌, refl, sym, ap, ◌∙◌}
 use mathlib.Core.List.{List, [], ◌∷◌}
 use Prim.Native.Nat.{ℕ, zero, suc, ◌+◌, ◌-◌, ◌≤◌, ◌<◌, ◌^◌}
 use native.Mathlib.Omega.{arith}
-use borrow.Author.Tests.{le-ltb, eq-eqb}
+use borrow.Author.Tests.{le-ltb, eq-eqb, ne_eqb}
 use lib.ListN.{length, get_or, length-take, length-drop}
 use Rattle.standard.specs.Bytes.{four, word_at}
 use Rattle.standard.specs.Types.{Ty, Tys, boolean, container, end, field, head, head_all, heads}
@@ -26,10 +26,11 @@ use Rattle.layout.specs.Steps.{Known}
 use Rattle.layout.proofs.Facts.{trees-get, as_container, lower-here, lower-rest, head_len, legal-below, legal_node}
 use Rattle.layout.proofs.Tables.{known_len, known-length}
 use Rattle.layout.proofs.Trees.{legal_tree, len_small}
-use Rattle.message.specs.Steps.{Under, Row, Named, row_of, heads_of}
+use Rattle.message.specs.Steps.{Under, Row, Named, row_of, heads_of, types_of, Next}
+use Rattle.message.specs.declared.parts.Series.{Series}
 use Rattle.std.specs.declared.result.Result.{Result}
 use Rattle.std.specs.declared.result.Result.TheVariants.{Ok, Err}
-use Rattle.std.specs.declared.option.Option.TheVariants.{None}
+use Rattle.std.specs.declared.option.Option.TheVariants.{Some, None}
 use Rattle.layout.specs.declared.Kind.{Kind}
 
 -- The lengths that the table check found.
@@ -159,29 +160,69 @@ pub heads-none : (l : List ℕ) (t a apart left : ℕ) → left ≤ 0 → heads_
 unfolding heads
 heads-none l t a apart left h = rw (row-none l t a apart left h)
 
+-- The first is taken off: its type f, and the rest r'.
+module _ (lens l : List ℕ) (r r' : Series) (f : ℕ) (g : Row lens l r.below r.first r.step r.many) (i : Next l r (Some f) r') where
+  pub next_row : Row lens l r'.below r'.first r'.step r'.many
+  next_row = rw i.2 (row_next lens l r.below r.first r.step r.many f g i.0 i.1)
+
+  pub next_types : types_of l r ≡ field (tree_of l f) (types_of l r')
+  next_types = rw (i.2, i.1) (row_first l r.below r.first r.step r.many g.named i.0)
+
+  pub next_heads : heads (types_of l r) ≡ head (tree_of l f) ∷ heads (types_of l r')
+  unfolding heads
+  next_heads = rw next_types
+
+  pub next_below : f < r.below
+  next_below = row_below lens l r.below r.first r.step r.many f g i.0 i.1
+
+  pub next_few : f < 64
+  next_few = row-few lens l r.below r.first r.step r.many f g i.0 i.1
+
+  pub next_small : get_or lens f 0 < 2 ^ 32
+  next_small = row_small lens l r.below r.first r.step r.many f g i.0 i.1
+
+  pub next_under : Under lens l (f + 1)
+  next_under = row_under lens l r.below r.first r.step r.many f g i.0 i.1
+
+  module _ (k : ℕ) (q : k ≡ get_or lens f 0) where
+    pub next_head : head_of k ≡ head (tree_of l f)
+    next_head = rw q (row-head lens l r.below r.first r.step r.many f g i.0 i.1)
+
+    pub next_fixed : (k ≡ 0 → ⊥) → Fixed k ≡ head (tree_of l f)
+    next_fixed = row-fixed lens l r.below r.first r.step r.many f g i.0 i.1 k q
+
+    pub next_variable : k ≡ 0 → Variable ≡ head (tree_of l f)
+    next_variable = row_variable lens l r.below r.first r.step r.many f g i.0 i.1 k q
+
+pub types_none : (l : List ℕ) (r : Series) → r.many ≡ 0 → types_of l r ≡ end
+types_none l r h = row-none l r.below r.first r.step r.many (omega arith)
+
+pub types-heads : (l : List ℕ) (r : Series) → r.many ≡ 0 → heads (types_of l r) ≡ []
+types-heads l r h = heads-none l r.below r.first r.step r.many (omega arith)
+
 -- Registering what is left gives the whole.
-pub record Laying (lens l : List ℕ) (t a₀ apart n : ℕ) (b : List ℕ) (x : Progress) (a left : ℕ) : Type 0 where
-  pub row : Row lens l t a apart left
+pub record Laying (lens l : List ℕ) (hs : List Head) (b : List ℕ) (x : Progress) (r : Series) : Type 0 where
+  pub row : Row lens l r.below r.first r.step r.many
   pub within : x.pos ≤ length b
-  pub same : register (heads_of l t a apart left) b x ≡ register (heads_of l t a₀ apart n) b fresh
+  pub same : register (heads (types_of l r)) b x ≡ register hs b fresh
 
-module _ (lens l : List ℕ) (t a₀ apart n : ℕ) (b : List ℕ) (x : Progress) (a left f : ℕ) (h : Head) (g : Laying lens l t a₀ apart n b x a left) (p : 0 < left)
-    (e : f ≡ word_at l a) (q : h ≡ head (tree_of l f)) where
-  laying-same : follow (step h b x) (register (heads_of l t (a + apart) apart (left - 1)) b) ≡ register (heads_of l t a₀ apart n) b fresh
+module _ (lens l : List ℕ) (hs : List Head) (b : List ℕ) (x : Progress) (r r' : Series) (f : ℕ) (h : Head) (g : Laying lens l hs b x r)
+    (i : Next l r (Some f) r') (q : h ≡ head (tree_of l f)) where
+  laying-same : follow (step h b x) (register (heads (types_of l r')) b) ≡ register hs b fresh
   unfolding register
-  laying-same = rw (row-heads lens l t a apart left f g.row p e h q) at g.same
+  laying-same = rw q (rw (next_heads lens l r r' f g.row i) at g.same)
 
-  pub laying-next : (y : Progress) → step h b x ≡ Ok y → Laying lens l t a₀ apart n b y (a + apart) (left - 1)
-  laying-next y s = record { row = row_next lens l t a apart left f g.row p e; within = step-within h b x y s; same = rw s at laying-same }
+  pub laying-next : (y : Progress) → step h b x ≡ Ok y → Laying lens l hs b y r'
+  laying-next y s = record { row = next_row lens l r r' f g.row i; within = step-within h b x y s; same = rw s at laying-same }
 
-  pub laying-bad : (r : Refusal) → step h b x ≡ Err r → Err r ≡ lay_out_lem (heads_of l t a₀ apart n) b
+  pub laying-bad : (e : Refusal) → step h b x ≡ Err e → Err e ≡ lay_out_lem hs b
   unfolding lay_out_lem
-  laying-bad r s = rw (← laying-same, s)
+  laying-bad e s = rw (← laying-same, s)
 
-pub laying-end : (lens l : List ℕ) (t a₀ apart n : ℕ) (b : List ℕ) (x : Progress) (a left : ℕ) → Laying lens l t a₀ apart n b x a left → left ≤ 0 →
-    build (length b) x ≡ lay_out_lem (heads_of l t a₀ apart n) b
+pub laying-end : (lens l : List ℕ) (hs : List Head) (b : List ℕ) (x : Progress) (r : Series) → Laying lens l hs b x r → r.many ≡ 0 →
+    build (length b) x ≡ lay_out_lem hs b
 unfolding lay_out_lem register
-laying-end lens l t a₀ apart n b x a left g h = rw (← g.same, heads-none l t a apart left h)
+laying-end lens l hs b x r g h = rw (← g.same, types-heads l r h)
 
 -- Fields of fixed size that take all the bytes are laid out well.
 at_pos : ℕ → Progress
@@ -218,72 +259,84 @@ container-fixed lens l t ts b k g e q z h s =
     fixed-laid ts b (sym (rw (e, h) at f)) s
 
 -- The loop of `next_start`: looking on from here finds the same.
-pub record Seeking (lens l : List ℕ) (t a₀ apart n : ℕ) (b : List ℕ) (p₀ a left p : ℕ) : Type 0 where
-  pub row : Row lens l t a apart left
-  pub ranges : InRange (heads_of l t a apart left) b p 0
-  pub same : next (heads_of l t a apart left) b p ≡ next (heads_of l t a₀ apart n) b p₀
+pub record Seeking (lens l b : List ℕ) (to : ℕ) (r : Series) (p : ℕ) : Type 0 where
+  pub row : Row lens l r.below r.first r.step r.many
+  pub ranges : InRange (heads (types_of l r)) b p 0
+  pub same : next (heads (types_of l r)) b p ≡ to
 
-module _ (lens l : List ℕ) (t a₀ apart n : ℕ) (b : List ℕ) (p₀ a left p f k : ℕ) (g : Seeking lens l t a₀ apart n b p₀ a left p) (z : 0 < left)
-    (e : f ≡ word_at l a) (q : k ≡ get_or lens f 0) where
+module _ (lens l b : List ℕ) (to : ℕ) (r r' : Series) (p f k : ℕ) (g : Seeking lens l b to r p) (i : Next l r (Some f) r') (q : k ≡ get_or lens f 0) where
   module _ (v : k ≡ 0) where
-    seeking_offset : heads_of l t a apart left ≡ Variable ∷ heads_of l t (a + apart) apart (left - 1)
-    seeking_offset = row-heads lens l t a apart left f g.row z e Variable (row_variable lens l t a apart left f g.row z e k q v)
+    seeking_offset : heads (types_of l r) ≡ Variable ∷ heads (types_of l r')
+    seeking_offset = rw (next_variable lens l r r' f g.row i k q v) (next_heads lens l r r' f g.row i)
 
     pub seeking_room : p + 4 ≤ length b
     unfolding InRange
     seeking_room = (rw seeking_offset at g.ranges).0
 
-    pub seeking_found : four b p ≡ next (heads_of l t a₀ apart n) b p₀
+    pub seeking_found : four b p ≡ to
     unfolding next
     seeking_found = rw seeking_offset at g.same
 
   module _ (v : k ≡ 0 → ⊥) where
-    seeking_heads : heads_of l t a apart left ≡ Fixed k ∷ heads_of l t (a + apart) apart (left - 1)
-    seeking_heads = row-heads lens l t a apart left f g.row z e (Fixed k) (row-fixed lens l t a apart left f g.row z e k q v)
+    seeking_heads : heads (types_of l r) ≡ Fixed k ∷ heads (types_of l r')
+    seeking_heads = rw (next_fixed lens l r r' f g.row i k q v) (next_heads lens l r r' f g.row i)
 
     pub seeking_fits : p + k ≤ length b
     unfolding InRange
     seeking_fits = (rw seeking_heads at g.ranges).0
 
-    pub seeking_next : Seeking lens l t a₀ apart n b p₀ (a + apart) (left - 1) (p + k)
+    pub seeking_next : Seeking lens l b to r' (p + k)
     unfolding InRange next
     seeking_next =
         record {
-          row = row_next lens l t a apart left f g.row z e;
+          row = next_row lens l r r' f g.row i;
           ranges = (rw seeking_heads at g.ranges).1;
           same = rw seeking_heads at g.same;
         }
 
-pub seeking_end : (lens l : List ℕ) (t a₀ apart n : ℕ) (b : List ℕ) (p₀ a left p : ℕ) → Seeking lens l t a₀ apart n b p₀ a left p → left ≤ 0 →
-    length b ≡ next (heads_of l t a₀ apart n) b p₀
+pub seeking_end : (lens l b : List ℕ) (to : ℕ) (r : Series) (p : ℕ) → Seeking lens l b to r p → r.many ≡ 0 → length b ≡ to
 unfolding next
-seeking_end lens l t a₀ apart n b p₀ a left p g h = rw (heads-none l t a apart left h) at g.same
+seeking_end lens l b to r p g h = rw (types-heads l r h) at g.same
+
+-- A field of the length k, or of variable size where k is 0, before others: what it takes, and that they lie behind it.
+module _ (k : ℕ) (hs : List Head) (b : List ℕ) (p : ℕ) (g : InRange (head_of k ∷ hs) b p 0) where
+  module _ (v : k ≡ 0) where
+    offset_ranges : InRange (Variable ∷ hs) b p 0
+    offset_ranges = rw (eq-eqb k 0 v) at g
+
+    pub offset_room : p + 4 ≤ length b
+    unfolding InRange
+    offset_room = offset_ranges.0
+
+    pub offset_rest : InRange hs b (p + 4) 0
+    unfolding InRange
+    offset_rest = range_weaken hs b (p + 4) 0 (four b p) (omega arith) offset_ranges.3
+
+  pub own_fits : (k ≡ 0 → ⊥) → p + k ≤ length b
+  unfolding InRange
+  own_fits v = (rw (ne_eqb k 0 v) at g).0
 
 -- Where a field lies within the bytes b, and how long it is.
 abbrev pub Lies : List ℕ → Span → Type 0
 Lies b w = (w.from ≤ w.to) × (w.to ≤ length b) × (length (part b w) ≡ w.to - w.from)
 
--- Where the first field lies.
-module _ (lens l : List ℕ) (t a apart left f : ℕ) (b : List ℕ) (p : ℕ) (g : Row lens l t a apart left) (z : 0 < left) (e : f ≡ word_at l a)
-    (r : InRange (heads_of l t a apart left) b p 0) where
-  pub first-ranges : (h : Head) → h ≡ head (tree_of l f) → InRange (h ∷ heads_of l t (a + apart) apart (left - 1)) b p 0
-  first-ranges h q = rw (row-heads lens l t a apart left f g z e h q) at r
+-- Where the first field lies, of the length k.
+module _ (lens l : List ℕ) (r r' : Series) (f : ℕ) (g : Row lens l r.below r.first r.step r.many) (i : Next l r (Some f) r') (b : List ℕ) (p : ℕ)
+    (j : InRange (heads (types_of l r)) b p 0) where
+  pub first-ranges : InRange (head (tree_of l f) ∷ heads (types_of l r')) b p 0
+  first-ranges = rw (next_heads lens l r r' f g i) at j
 
-  pub first_fits : (k : ℕ) → Fixed k ≡ head (tree_of l f) → p + k ≤ length b
-  unfolding InRange
-  first_fits k q = (first-ranges (Fixed k) q).0
+  module _ (k : ℕ) (q : k ≡ get_or lens f 0) where
+    pub head-ranges : InRange (head_of k ∷ heads (types_of l r')) b p 0
+    head-ranges = rw (next_head lens l r r' f g i k q) first-ranges
 
-  pub first-room : Variable ≡ head (tree_of l f) → p + 4 ≤ length b
-  unfolding InRange
-  first-room q = (first-ranges Variable q).0
+    module _ (w : Span) (e : w ≡ span_of (head_of k) (heads (types_of l r')) b p) where
+      pub span-said : w ≡ span_of (head (tree_of l f)) (heads (types_of l r')) b p
+      span-said = rw (next_head lens l r r' f g i k q) at e
 
-  pub first_rest : Variable ≡ head (tree_of l f) → InRange (heads_of l t (a + apart) apart (left - 1)) b (p + 4) 0
-  unfolding InRange
-  first_rest q = range_weaken (heads_of l t (a + apart) apart (left - 1)) b (p + 4) 0 (four b p) (omega arith) (first-ranges Variable q).3
-
-  module _ (w : Span) (q : w ≡ span_of (head (tree_of l f)) (heads_of l t (a + apart) apart (left - 1)) b p) where
-    pub span_ok : (w.from ≤ w.to) × (w.to ≤ length b) × InRange (heads_of l t (a + apart) apart (left - 1)) b w.next 0
-    span_ok = rw q (span_ranges _ _ b p (first-ranges _ refl))
+  module _ (w : Span) (e : w ≡ span_of (head (tree_of l f)) (heads (types_of l r')) b p) where
+    pub span_ok : (w.from ≤ w.to) × (w.to ≤ length b) × InRange (heads (types_of l r')) b w.next 0
+    span_ok = rw e (span_ranges _ _ b p first-ranges)
 
     pub span_length : length (part b w) ≡ w.to - w.from
     span_length = let k = span_ok in simp (length-take, length-drop) (omega arith)

@@ -39,11 +39,12 @@ module _ (lens l : List ℕ) (t : ℕ) (n : Node) (e : n ≡ node_of l t) (g : U
   accepted-at : (s : ℕ) → IsAccepted (read_item (tree_of l t) b s)
   accepted-at s = accepted-start (tree_of l t) b 0 s h
 
-  pub no-items-made : is_leaf n.kind ≡ true → (r : Series) → r ≡ record { first = 0; step = 0; many = 0 } → MadeOf lens l t n b r
+  pub no-items-made : is_leaf n.kind ≡ true → (r : Series) → r ≡ record { below = 0; first = 0; step = 0; many = 0 } → MadeOf lens l t n b r
   unfolding row_of heads InRange Named read_item list_item_lem
   no-items-made k r q =
       rw q (record {
-        row = record { under = under-below lens l (t + 1) t (omega arith) g; near = omega arith; steps = omega arith; named = tt };
+        below = omega arith;
+        row = record { under = under-below lens l (t + 1) 0 (omega arith) g; near = omega arith; steps = omega arith; named = tt };
         few = omega arith;
         ranges = omega arith;
         accepted = λ s. tt;
@@ -62,9 +63,10 @@ module _ (lens l : List ℕ) (t : ℕ) (n : Node) (e : n ≡ node_of l t) (g : U
     unfolding unfold_bytes
     container-bytes = rw (container_tree l t n e k)
 
-    pub fields_made : MadeOf lens l t n b (record { first = n.at + 2; step = 1; many = n.second })
-    fields_made =
-        record {
+    pub fields_made : (r : Series) → r ≡ record { below = t; first = n.at + 2; step = 1; many = n.second } → MadeOf lens l t n b r
+    fields_made r q =
+        rw q (record {
+          below = omega arith;
           row = container-row lens l t n e g k;
           few = (node_legal lens l t n e g).small;
           ranges = (container-accepted lens l t n e g b 0 h k).0;
@@ -73,7 +75,7 @@ module _ (lens l : List ℕ) (t : ℕ) (n : Node) (e : n ≡ node_of l t) (g : U
           words = λ (z : is_leaf n.kind ≡ false). rw k container-words;
           bytes = λ (z : is_leaf n.kind ≡ false). container-bytes;
           copied = λ (z : n.kind ≡ Kind.List) v. absurd (no_container (sym k ∙ z));
-        }
+        })
 
   module _ (k : has_element n.kind ≡ true) (m : ℕ) (c : m ≡ many_in_lem l n (head (tree_of l n.second)) b) where
     elements-words : unfold_words (tree_of l t) b ≡ count_word n m ++ words_fields (row_of l t (n.at + 1) 0 m) b 0
@@ -98,9 +100,10 @@ module _ (lens l : List ℕ) (t : ℕ) (n : Node) (e : n ≡ node_of l t) (g : U
         let long = laid-fixed m w b (rw (← f) (rw c (many-held lens l t n e g k b 0 h).laid)) in
         rw (element-copies lens l t n e g k m) (fixed-each (tree_of l n.second) w m b f (sym long))
 
-    pub elements-made : length b < 2 ^ 32 → MadeOf lens l t n b (record { first = n.at + 1; step = 0; many = m })
-    elements-made z =
-        record {
+    pub elements-made : length b < 2 ^ 32 → (r : Series) → r ≡ record { below = t; first = n.at + 1; step = 0; many = m } → MadeOf lens l t n b r
+    elements-made z r q =
+        rw q (record {
+          below = omega arith;
           row = rw c (many-row lens l t n e g k b 0 h z);
           few = rw c (omega (arith, many-few lens l t n e g k b 0 h));
           ranges = rw c (many-ranges lens l t n e g k b 0 h);
@@ -109,4 +112,4 @@ module _ (lens l : List ℕ) (t : ℕ) (n : Node) (e : n ≡ node_of l t) (g : U
           words = λ (v : is_leaf n.kind ≡ false). elements-words;
           bytes = λ (v : is_leaf n.kind ≡ false). rw c (many-held lens l t n e g k b 0 h).bytes;
           copied = λ (v : n.kind ≡ Kind.List) i. elements-copied i;
-        }
+        })

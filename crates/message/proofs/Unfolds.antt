@@ -23,14 +23,14 @@ use Rattle.layout.proofs.Facts.{trees-get, as_union, as_leaf}
 use Rattle.layout.proofs.Trees.{legal_tree}
 use Rattle.message.specs.Read.{read_item, read_fields}
 use Rattle.message.specs.Unfold.{unfold_words, words_fields, words_option, unfold_bytes, bytes_fields, bytes_option, Accepts, Rooms, Filled}
-use Rattle.message.specs.Steps.{Under, Row, Named, row_of, heads_of, choose, IsAccepted}
-use Rattle.message.specs.Series.{MadeOf, types_of, count_word}
+use Rattle.message.specs.Steps.{Under, Row, Named, row_of, choose, IsAccepted, types_of, Next}
+use Rattle.message.specs.Series.{MadeOf, count_word}
 use Rattle.message.specs.Unfolding.{Filling}
 use Rattle.message.specs.declared.parts.Series.{Series}
 use Rattle.message.specs.declared.unfolding.Place.{Place}
 use Rattle.message.specs.declared.unfolding.Opened.{Opened}
 use Rattle.message.proofs.Answers.{then_both}
-use Rattle.message.proofs.Rows.{Lies, under-below, under-head, row-none, row_first, row_next, row-fixed, first_fits, span_ok, span_lies}
+use Rattle.message.proofs.Rows.{Lies, under-below, under-head, span_ok, span_lies, next_types, next_row, next_fixed, types_none, first-ranges}
 use Rattle.message.proofs.Bodies.{fields_read, bare-says, body-says, body_below}
 use Rattle.message.proofs.Entries.{accepted-start, union-never, body-accepted}
 use Rattle.message.proofs.Repeats.{element-below}
@@ -79,67 +79,67 @@ pub words-filled :
 words-filled o p at x r o' g e = record { words = g; bytes = record { list = refl; ends = e ∙ sym (add-zero at.byte) } }
 
 -- The first field's value form, and that of the rest
-module _ (lens l : List ℕ) (t a step left f : ℕ) (b : List ℕ) (q : ℕ) (g : Row lens l t a step left) (z : 0 < left) (e : f ≡ word_at l a) (w : Span)
-    (i : w ≡ span_of (head (tree_of l f)) (heads_of l t (a + step) step (left - 1)) b q) where
-  fields-words : words_fields (row_of l t a step left) b q ≡ unfold_words (tree_of l f) (part b w) ++ words_fields (row_of l t (a + step) step (left - 1)) b w.next
+module _ (lens l : List ℕ) (r r' : Series) (f : ℕ) (g : Row lens l r.below r.first r.step r.many) (j : Next l r (Some f) r') (b : List ℕ) (q : ℕ) (w : Span)
+    (i : w ≡ span_of (head (tree_of l f)) (heads (types_of l r')) b q) where
+  fields-words : words_fields (types_of l r) b q ≡ unfold_words (tree_of l f) (part b w) ++ words_fields (types_of l r') b w.next
   unfolding unfold_words
-  fields-words = rw (row_first l t a step left g.named z, i, e)
+  fields-words = rw (next_types lens l r r' f g j, i)
 
-  fields-bytes : bytes_fields (row_of l t a step left) b q ≡ unfold_bytes (tree_of l f) (part b w) ++ bytes_fields (row_of l t (a + step) step (left - 1)) b w.next
+  fields-bytes : bytes_fields (types_of l r) b q ≡ unfold_bytes (tree_of l f) (part b w) ++ bytes_fields (types_of l r') b w.next
   unfolding unfold_bytes
-  fields-bytes = rw (row_first l t a step left g.named z, i, e)
+  fields-bytes = rw (next_types lens l r r' f g j, i)
 
 -- The loop of `unfold_fields`.
-module _ {lens l : List ℕ} {t step : ℕ} {b x y o₀ p₀ : List ℕ} {at₀ : Place} {o p : List ℕ} {at : Place} {a left q : ℕ}
-    (g : Filling lens l t step b x y o₀ p₀ at₀ o p at a left q) where
-  module _ (f : ℕ) (z : 0 < left) (e : f ≡ word_at l a) where
-    module _ (w : Span) (i : w ≡ span_of (head (tree_of l f)) (heads_of l t (a + step) step (left - 1)) b q) where
-      filling_both : IsAccepted (read_item (tree_of l f) (part b w) (0 + w.from)) ×
-          IsAccepted (read_fields (row_of l t (a + step) step (left - 1)) b w.next 0)
-      filling_both = then_both (read_item (tree_of l f) (part b w) (0 + w.from)) (read_fields (row_of l t (a + step) step (left - 1)) b w.next 0)
-          (rw (fields_read lens l t a step left f b q g.row z e w i 0) at g.accepted.accepted)
+module _ {lens l : List ℕ} {t : ℕ} {b x y o₀ p₀ : List ℕ} {at₀ : Place} {o p : List ℕ} {at : Place} {r : Series} {q : ℕ}
+    (g : Filling lens l t b x y o₀ p₀ at₀ o p at r q) where
+  module _ {f : ℕ} {r' : Series} (j : Next l r (Some f) r') where
+    module _ {w : Span} (i : w ≡ span_of (head (tree_of l f)) (heads (types_of l r')) b q) where
+      filling_both : IsAccepted (read_item (tree_of l f) (part b w) (0 + w.from)) × IsAccepted (read_fields (types_of l r') b w.next 0)
+      filling_both = then_both (read_item (tree_of l f) (part b w) (0 + w.from)) (read_fields (types_of l r') b w.next 0)
+          (rw (fields_read lens l r r' f g.row j b q w i 0) at g.accepted.accepted)
 
       pub filling_lies : Lies b w
-      filling_lies = span_lies lens l t a step left f b q g.row z e g.ranges w i
+      filling_lies = span_lies lens l r r' f g.row j b q g.ranges w i
 
       pub filling_accepts : Accepts (tree_of l f) (part b w)
       filling_accepts = accepts_at (tree_of l f) (part b w) (0 + w.from) filling_both.0
 
       pub filling_rooms : Rooms o p at (unfold_words (tree_of l f) (part b w)) (unfold_bytes (tree_of l f) (part b w))
-      filling_rooms = rooms-first o p at _ _ _ _ _ _ g.rooms (fields-words lens l t a step left f b q g.row z e w i)
-          (fields-bytes lens l t a step left f b q g.row z e w i)
+      filling_rooms = rooms-first o p at _ _ _ _ _ _ g.rooms (fields-words lens l r r' f g.row j b q w i) (fields-bytes lens l r r' f g.row j b q w i)
 
       pub filling_next :
-          (r : Place) (o' p' : List ℕ) → Filled o p at (unfold_words (tree_of l f) (part b w)) (unfold_bytes (tree_of l f) (part b w)) r o' p'
-          → Filling lens l t step b x y o₀ p₀ at₀ o' p' r (a + step) (left - 1) w.next
-      filling_next r o' p' h =
-          let u = fields-words lens l t a step left f b q g.row z e w i in
-          let v = fields-bytes lens l t a step left f b q g.row z e w i in
+          (e : Place) (o' p' : List ℕ) → Filled o p at (unfold_words (tree_of l f) (part b w)) (unfold_bytes (tree_of l f) (part b w)) e o' p'
+          → Filling lens l t b x y o₀ p₀ at₀ o' p' e r' w.next
+      filling_next e o' p' h =
+          let u = fields-words lens l r r' f g.row j b q w i in
+          let v = fields-bytes lens l r r' f g.row j b q w i in
           record {
-            row = row_next lens l t a step left f g.row z e;
-            ranges = (span_ok lens l t a step left f b q g.row z e g.ranges w i).2;
+            below = rw j.2 g.below;
+            row = next_row lens l r r' f g.row j;
+            ranges = (span_ok lens l r r' f g.row j b q g.ranges w i).2;
             accepted = record { accepted = filling_both.1 };
-            rooms = rooms_then o p at _ _ _ _ _ _ r o' p' g.rooms u v h;
+            rooms = rooms_then o p at _ _ _ _ _ _ e o' p' g.rooms u v h;
             words = g.words ++ unfold_words (tree_of l f) (part b w);
             bytes = g.bytes ++ unfold_bytes (tree_of l f) (part b w);
-            filled = filled_then o₀ p₀ at₀ g.words g.bytes at o p _ _ r o' p' _ _ g.filled h refl refl;
+            filled = filled_then o₀ p₀ at₀ g.words g.bytes at o p _ _ e o' p' _ _ g.filled h refl refl;
             all_words = g.all_words ∙ rw (u, ← append_assoc);
             all-bytes = g.all-bytes ∙ rw (v, ← append_assoc);
           }
 
     -- A field of the fixed length k is its own bytes.
-    module _ (k : ℕ) (i : k ≡ get_or lens f 0) (j : 0 < k) where
+    module _ {k : ℕ} (i : k ≡ get_or lens f 0) (z : 0 < k) where
       abbrev own_span : Span
       own_span = record { from = q; to = q + k; next = q + k }
 
       own-head : Fixed k ≡ head (tree_of l f)
-      own-head = row-fixed lens l t a step left f g.row z e k i (λ (v : k ≡ 0). omega arith)
+      own-head = next_fixed lens l r r' f g.row j k i (λ (v : k ≡ 0). omega arith)
 
-      own_span_lem : own_span ≡ span_of (head (tree_of l f)) (heads_of l t (a + step) step (left - 1)) b q
+      own_span_lem : own_span ≡ span_of (head (tree_of l f)) (heads (types_of l r')) b q
       own_span_lem = rw (← own-head)
 
       pub own-fits : q + k ≤ length b
-      own-fits = first_fits lens l t a step left f b q g.row z e g.ranges k own-head
+      unfolding InRange
+      own-fits = (rw (← own-head) at (first-ranges lens l r r' f g.row j b q g.ranges)).0
 
       own-form : (unfold_words (tree_of l f) (part b own_span) ≡ []) × (unfold_bytes (tree_of l f) (part b own_span) ≡ part b own_span)
       own-form =
@@ -148,23 +148,23 @@ module _ {lens l : List ℕ} {t step : ℕ} {b x y o₀ p₀ : List ℕ} {at₀ 
           fixed-form (tree_of l f) (part b own_span) (sym own-head ∙ ap Fixed (sym m))
 
       pub own_room : Room p at.byte (part b own_span)
-      own_room = bytes-room _ _ _ own-form o p at (filling_rooms own_span own_span_lem)
+      own_room = bytes-room _ _ _ own-form o p at (filling_rooms own_span_lem)
 
-      pub own-next : (r : Place) (p' : List ℕ) → Stored p at.byte (part b own_span) r.byte p' → r.word ≡ at.word →
-          Filling lens l t step b x y o₀ p₀ at₀ o p' r (a + step) (left - 1) (q + k)
-      own-next r p' h v = filling_next own_span own_span_lem r o p' (bytes-filled _ _ _ own-form o p at r p' h v)
+      pub own-next : (e : Place) (p' : List ℕ) → Stored p at.byte (part b own_span) e.byte p' → e.word ≡ at.word →
+          Filling lens l t b x y o₀ p₀ at₀ o p' e r' (q + k)
+      own-next e p' h v = filling_next own_span_lem e o p' (bytes-filled _ _ _ own-form o p at e p' h v)
 
   -- what is left, stored
   pub filling_last :
-      (r : Place) (o' p' : List ℕ) → Filled o p at (words_fields (row_of l t a step left) b q) (bytes_fields (row_of l t a step left) b q) r o' p'
-      → Filled o₀ p₀ at₀ x y r o' p'
-  filling_last r o' p' h = filled_then o₀ p₀ at₀ g.words g.bytes at o p _ _ r o' p' x y g.filled h g.all_words g.all-bytes
+      (e : Place) (o' p' : List ℕ) → Filled o p at (words_fields (types_of l r) b q) (bytes_fields (types_of l r) b q) e o' p'
+      → Filled o₀ p₀ at₀ x y e o' p'
+  filling_last e o' p' h = filled_then o₀ p₀ at₀ g.words g.bytes at o p _ _ e o' p' x y g.filled h g.all_words g.all-bytes
 
-  pub filling_end : left ≤ 0 → Filled o₀ p₀ at₀ x y at o p
+  pub filling_end : r.many ≡ 0 → Filled o₀ p₀ at₀ x y at o p
   unfolding unfold_words unfold_bytes
   filling_end h =
-      let e : x ≡ g.words = g.all_words ∙ rw (row-none l t a step left h, append-nil) in
-      let f : y ≡ g.bytes = g.all-bytes ∙ rw (row-none l t a step left h, append-nil) in
+      let e : x ≡ g.words = g.all_words ∙ rw (types_none l r h, append-nil) in
+      let f : y ≡ g.bytes = g.all-bytes ∙ rw (types_none l r h, append-nil) in
       rw (e, f) g.filled
 
 -- The option that is asked for: of words and of bytes alike.
@@ -236,12 +236,13 @@ module _ (lens l : List ℕ) (t : ℕ) (g : Under lens l (t + 1)) where
   -- Nothing is left of an item that was stored.
   pub all-stored :
       (b x y o₀ p₀ : List ℕ) (at₀ : Place) (o p : List ℕ) (at : Place) (r : Opened)
-      → r ≡ record { at = at; left = record { first = 0; step = 0; many = 0 } } → Rooms o₀ p₀ at₀ x y → Filled o₀ p₀ at₀ x y at o p
-      → Filling lens l t r.left.step b x y o₀ p₀ at₀ o p r.at r.left.first r.left.many 0
+      → r ≡ record { at = at; left = record { below = 0; first = 0; step = 0; many = 0 } } → Rooms o₀ p₀ at₀ x y → Filled o₀ p₀ at₀ x y at o p
+      → Filling lens l t b x y o₀ p₀ at₀ o p r.at r.left 0
   unfolding row_of heads InRange Named read_item unfold_words unfold_bytes
   all-stored b x y o₀ p₀ at₀ o p at r e i h =
       rw e (record {
-        row = record { under = under-below lens l (t + 1) t (omega arith) g; near = omega arith; steps = omega arith; named = tt };
+        below = omega arith;
+        row = record { under = under-below lens l (t + 1) 0 (omega arith) g; near = omega arith; steps = omega arith; named = tt };
         ranges = omega arith;
         accepted = record { accepted = tt };
         rooms = rooms_then o₀ p₀ at₀ x y x y [] [] at o p i (sym (append-nil x)) (sym (append-nil y)) h;
@@ -263,12 +264,13 @@ module _ {lens l : List ℕ} {t : ℕ} {n : Node} {b : List ℕ} {r : Series} (g
   count_room = room-first o at.word _ (count_word n r.many) _ h.words (g.words k)
 
   module _ (i : Place) (o' : List ℕ) (s : Stored o at.word (count_word n r.many) i.word o') (q : i.byte ≡ at.byte) where
-    pub parts-rooms : Rooms o' p i (words_fields (types_of l t r) b 0) (bytes_fields (types_of l t r) b 0)
+    pub parts-rooms : Rooms o' p i (words_fields (types_of l r) b 0) (bytes_fields (types_of l r) b 0)
     parts-rooms = rooms_then o p at _ _ _ _ _ _ i o' p h (g.words k) (g.bytes k) (words-filled o p at _ i o' s q)
 
-    pub parts-left : Filling lens l t r.step b (unfold_words (tree_of l t) b) (unfold_bytes (tree_of l t) b) o p at o' p i r.first r.many 0
+    pub parts-left : Filling lens l t b (unfold_words (tree_of l t) b) (unfold_bytes (tree_of l t) b) o p at o' p i r 0
     parts-left =
         record {
+          below = g.below;
           row = g.row;
           ranges = g.ranges;
           accepted = record { accepted = g.accepted 0 };

@@ -17,6 +17,8 @@ use Rattle.layout.specs.Legal.{Legal}
 use Rattle.message.specs.Read.{elements, many_of, one, and_then, read_item, read_fields}
 use Rattle.message.specs.declared.Counts.{Counts}
 use Rattle.message.specs.declared.items.Inside.{Inside}
+use Rattle.message.specs.declared.parts.Series.{Series}
+use Rattle.message.specs.declared.table.Table.{Table}
 use Rattle.standard.specs.declared.Refusal.{Refusal}
 use Rattle.std.specs.declared.result.Result.{Result}
 use Rattle.std.specs.declared.result.Result.TheVariants.{Ok, Err}
@@ -55,6 +57,22 @@ pub record Row (lens l : List ℕ) (t at step n : ℕ) : Type 0 where
   pub steps : step ≤ 1
   pub named : Named l t at step n
 
+-- The types of some fields or elements, and those behind the first
+abbrev pub types_of : List ℕ → Series → Tys
+types_of l r = row_of l r.below r.first r.step r.many
+
+abbrev pub rest_of : Series → Series
+rest_of r = record { below = r.below; first = r.first + r.step; step = r.step; many = r.many - 1 }
+
+-- They can be read in a table.
+abbrev pub Placed : Table → Series → Type 0
+Placed x r = Row x.lens.now x.layout.now r.below r.first r.step r.many
+
+-- The first is taken off: its type, if there is one, and what is left.
+abbrev pub Next : List ℕ → Series → Option ℕ → Series → Type 0
+Next l r None r' = r.many ≡ 0
+Next l r (Some f) r' = (0 < r.many) × (f ≡ word_at l r.first) × (r' ≡ rest_of r)
+
 -- n elements of the type e, which the word at names: they lie in b as they should.
 pub record Alike (lens l : List ℕ) (t at n e : ℕ) (b : List ℕ) : Type 0 where
   pub row : Row lens l t at 0 n
@@ -73,9 +91,9 @@ placed (Err r) t s = Err (located r t s)
 abbrev pub Found : List ℕ → List ℕ → ℕ → List ℕ → Result Inside Refusal → Type 0
 Found lens l t b (Err r) = (s : ℕ) → Err (located r t s) ≡ read_item (tree_of l t) b s
 Found lens l t b (Ok (Inside.Counted n own)) = (s : ℕ) → Ok (record { records = n; words = own; bytes = length b }) ≡ read_item (tree_of l t) b s
-Found lens l t b (Ok (Inside.Fields at step n own)) =
-    Row lens l t at step n × InRange (heads_of l t at step n) b 0 0 × (own ≤ 1) ×
-    ((s : ℕ) → and_then (one own 0) (read_fields (row_of l t at step n) b 0 s) ≡ read_item (tree_of l t) b s)
+Found lens l t b (Ok (Inside.Fields r own)) =
+    (r.below ≤ t) × Row lens l r.below r.first r.step r.many × InRange (heads (types_of l r)) b 0 0 × (own ≤ 1) ×
+    ((s : ℕ) → and_then (one own 0) (read_fields (types_of l r) b 0 s) ≡ read_item (tree_of l t) b s)
 
 -- Kind 8, and kind 9
 abbrev pub is_list : Kind → Bool
@@ -90,12 +108,13 @@ is_vector k = false
 abbrev pub many_in_lem : List ℕ → Node → Head → List ℕ → ℕ
 many_in_lem l n h b = pick (is_vector n.kind) (word_at l (n.at + 2)) (many_of (elements h (word_at l (n.at + 2)) b))
 
--- Registration in plain numbers: an offset is known if there is a first one, and 2^64 - 1 stands for no first one.
-abbrev pub known_if : ℕ → ℕ → Option ℕ
-known_if first o = pick (eqb first 18446744073709551615) None (Some o)
+-- Registration in plain numbers: an offset before is known if there is a first one.
+abbrev pub known_if : Option ℕ → ℕ → Option ℕ
+known_if None o = None
+known_if (Some x) o = Some o
 
-abbrev pub progress_of : ℕ → ℕ → ℕ → Progress
-progress_of first previous p = record { pos = p; first = known_if first first; previous = known_if first previous }
+abbrev pub progress_of : Option ℕ → ℕ → ℕ → Progress
+progress_of first previous p = record { pos = p; first = first; previous = known_if first previous }
 
 -- The word of an option, where the selector is behind its byte alone or not
 abbrev pub option_at_lem : ℕ → ℕ → Result (Option ℕ) Refusal

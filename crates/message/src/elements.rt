@@ -7,7 +7,8 @@ ghost use Rattle.message.specs.Read.{within, further, behind_first_lem, offset_e
 ghost use Rattle.std.specs.declared.result.Result.TheVariants.{Ok};
 ghost use Rattle.message.specs.Steps.{Under, IsAccepted, many_in_lem};
 
-use crate::words::{four_in, word_in};
+use crate::table::Table;
+use crate::words::four_in;
 use layout::{Kind, Node};
 use standard::Refusal;
 
@@ -114,13 +115,13 @@ pub(crate) fn count_of(k: usize, b: &[u8]) -> usize
 }
 
 // How many elements a list or vector of the type t has that was accepted, whose words are n.
-pub(crate) fn many_in(lens: &[u32; 64], layout: &[u8], n: Node, t: usize, b: &[u8]) -> usize
-    requires { Under lens.now layout.now (t + 1) × (n ≡ node_of layout.now t) × (has_element n.kind ≡ true) × IsAccepted (read_item (tree_of layout.now t) b.now 0) }
-    ensures { result ≡ many_in_lem layout.now n (head (tree_of layout.now n.second)) b.now }
+pub(crate) fn many_in(table: Table, n: Node, t: usize, b: &[u8]) -> usize
+    requires { Under table.lens.now table.layout.now (t + 1) × (n ≡ node_of table.layout.now t) × (has_element n.kind ≡ true) × IsAccepted (read_item (tree_of table.layout.now t) b.now 0) }
+    ensures { result ≡ many_in_lem table.entry.layout.now n (head (tree_of table.entry.layout.now n.second)) b.now }
 {
     match n.kind {
-        Kind::Vector => word_in(layout, n.at + 2),
-        _ => count_of(lens[n.second] as usize, b),
+        Kind::Vector => table.word(n.at + 2),
+        _ => count_of(table.length(n.second), b),
     }
 }
 

@@ -1,64 +1,44 @@
-// The fields of a container or the elements of a list: their registration, and where each of them lies. The words that name them stand
-// step words apart: 1 for fields, 0 for elements, which share one.
-ghost use Rattle.std.specs.Prelude.{◌≡◌, ◌+◌, ◌-◌, ◌*◌, ◌≤◌, ◌<◌, ◌^◌, length};
+// The fields of a container or the elements of a list: their registration, and where each of them lies.
+ghost use Rattle.std.specs.Prelude.{◌≡◌, ◌∷◌, ◌+◌, ◌*◌, ◌≤◌, ◌<◌, ◌^◌, length};
 ghost use Rattle.standard.specs.Bytes.{word_at};
-ghost use Rattle.standard.specs.Types.{head, width, container};
+ghost use Rattle.standard.specs.Types.{head, heads, width, container};
 ghost use Rattle.standard.specs.Parts.{next, span_of, InRange};
 ghost use Rattle.decode.specs.Builder.{build_at, lay_out_lem};
-ghost use Rattle.layout.specs.Tree.{tree_of};
+ghost use Rattle.layout.specs.Tree.{tree_of, head_of};
 ghost use Rattle.message.specs.Read.{vector_told_lem};
-ghost use Rattle.message.specs.Steps.{Under, Row, row_of, heads_of, known_if};
+ghost use Rattle.message.specs.Steps.{Under, Placed, types_of};
 
 use crate::elements::exact_told;
-use crate::words::{four_in, word_in};
+use crate::parts::Series;
+use crate::table::Table;
+use crate::words::four_in;
 use standard::{Refusal, Span};
 
-// Stands for a first offset that is not there yet. An offset has 32 bits, so it is none.
-const NONE: usize = 18446744073709551615;
-
 // The end of a registration that has come to p, over len bytes.
-fn finish(first: usize, p: usize, len: usize) -> Result<(), Refusal>
-    ensures { result ≡ build_at (known_if first first) p len }
+fn finish(first: Option<usize>, p: usize, len: usize) -> Result<(), Refusal>
+    ensures { result ≡ build_at first p len }
 {
-    if first == NONE {
-        if p == len {
-            return Ok(());
-        }
-        return Err(Refusal::InvalidByteLength(len, p));
+    match first {
+        None if p == len => Ok(()),
+        None => Err(Refusal::InvalidByteLength(len, p)),
+        Some(o) if o < p => Err(Refusal::OffsetIntoFixedPortion(o)),
+        Some(o) if o > p => Err(Refusal::OffsetSkipsVariableBytes(o)),
+        Some(_) => Ok(()),
     }
-    if first < p {
-        return Err(Refusal::OffsetIntoFixedPortion(first));
-    }
-    if first > p {
-        return Err(Refusal::OffsetSkipsVariableBytes(first));
-    }
-    Ok(())
 }
 
-// Registers the n fields that the words from a0 on name, and builds: as `register_head` and `finalize` do, in plain numbers.
-fn lay_out(
-    lens: &[u32; 64],
-    layout: &[u8],
-    t: usize,
-    a0: usize,
-    step: usize,
-    n: usize,
-    b: &[u8],
-) -> Result<(), Refusal>
-    requires { Row lens.now layout.now t a0 step n × (length b.now < 2 ^ 32) }
-    ensures { result ≡ lay_out_lem (heads_of layout.now t a0 step n) b.now }
+// Registers the fields, and builds: as `register_head` and `finalize` do, in plain numbers.
+fn lay_out(table: Table, row: Series, b: &[u8]) -> Result<(), Refusal>
+    requires { Placed table row × (length b.now < 2 ^ 32) }
+    ensures { result ≡ lay_out_lem (heads (types_of table.entry.layout.now row)) b.now }
 {
     let len = b.len();
     let mut p = 0;
-    let mut first = NONE;
+    let mut first = None;
     let mut previous = 0;
-    let mut a = a0;
-    let mut left = n;
-    while left > 0 {
-        let f = word_in(layout, a);
-        let k = lens[f] as usize;
-        a += step;
-        left -= 1;
+    let mut rest = row;
+    while let Some(f) = rest.next(table) {
+        let k = table.length(f);
         if k > 0 {
             p += k;
             if p > len {
@@ -77,7 +57,7 @@ fn lay_out(
         if o < previous {
             return Err(Refusal::OffsetsAreDecreasing(o));
         }
-        first = if first == NONE { o } else { first };
+        first = first.or(Some(o));
         previous = o;
         p = next;
     }
@@ -85,98 +65,58 @@ fn lay_out(
 }
 
 // What the registration of a container's fields finds. One of fixed size that has its length needs no look at them.
-pub(crate) fn container_told(
-    lens: &[u32; 64],
-    layout: &[u8],
-    t: usize,
-    a0: usize,
-    n: usize,
-    b: &[u8],
-) -> Result<(), Refusal>
-    requires { Under lens.now layout.now (t + 1) × Row lens.now layout.now t a0 1 n × (length b.now < 2 ^ 32) × (tree_of layout.now t ≡ container t (row_of layout.now t a0 1 n)) }
-    ensures { result ≡ lay_out_lem (heads_of layout.now t a0 1 n) b.now }
+pub(crate) fn container_told(table: Table, row: Series, b: &[u8]) -> Result<(), Refusal>
+    requires { Under table.lens.now table.layout.now (row.below + 1) × Placed table row × (length b.now < 2 ^ 32) × (tree_of table.layout.now row.below ≡ container row.below (types_of table.layout.now row)) }
+    ensures { result ≡ lay_out_lem (heads (types_of table.entry.layout.now row)) b.now }
 {
-    let own = lens[t] as usize;
+    let own = table.length(row.below);
     if own > 0 && own == b.len() {
         return Ok(());
     }
-    lay_out(lens, layout, t, a0, 1, n, b)
+    lay_out(table, row, b)
 }
 
-// What is found of a vector of n elements of the type e, which the word at a0 names: of fixed size its length is asked alone, else the
-// elements are registered as fields are.
-pub(crate) fn vector_told(
-    lens: &[u32; 64],
-    layout: &[u8],
-    t: usize,
-    a0: usize,
-    n: usize,
-    e: usize,
-    b: &[u8],
-) -> Result<(), Refusal>
-    requires { Row lens.now layout.now t a0 0 n × (e ≡ word_at layout.now a0) × (e < t) × (length b.now < 2 ^ 32) × (n * width (head (tree_of layout.now e)) < 2 ^ 32) }
-    ensures { result ≡ vector_told_lem (head (tree_of layout.now e)) n b.now }
+// What is found of a vector of elements of the type e: of fixed size its length is asked alone, else the elements are registered as fields are.
+pub(crate) fn vector_told(table: Table, row: Series, e: usize, b: &[u8]) -> Result<(), Refusal>
+    requires { Placed table row × (row.step ≡ 0) × (e ≡ word_at table.layout.now row.first) × (e < row.below) × (length b.now < 2 ^ 32) × (row.many * width (head (tree_of table.layout.now e)) < 2 ^ 32) }
+    ensures { result ≡ vector_told_lem (head (tree_of table.entry.layout.now e)) row.many b.now }
 {
-    let k = lens[e] as usize;
+    let k = table.length(e);
     if k == 0 {
-        return lay_out(lens, layout, t, a0, 0, n, b);
+        return lay_out(table, row, b);
     }
-    exact_told(k, n, b)
+    exact_told(k, row.many, b)
 }
 
 // Where the next variable item starts, from the field at the position p0 on.
-fn next_start(
-    lens: &[u32; 64],
-    layout: &[u8],
-    t: usize,
-    a0: usize,
-    step: usize,
-    n: usize,
-    b: &[u8],
-    p0: usize,
-) -> usize
-    requires { Row lens.now layout.now t a0 step n × InRange (heads_of layout.now t a0 step n) b.now p0 0 }
-    ensures { result ≡ next (heads_of layout.now t a0 step n) b.now p0 }
+fn next_start(table: Table, row: Series, b: &[u8], p0: usize) -> usize
+    requires { Placed table row × InRange (heads (types_of table.layout.now row)) b.now p0 0 }
+    ensures { result ≡ next (heads (types_of table.entry.layout.now row)) b.now p0 }
 {
-    let mut a = a0;
-    let mut left = n;
+    let mut rest = row;
     let mut p = p0;
-    while left > 0 {
-        let f = word_in(layout, a);
-        let k = lens[f] as usize;
+    while let Some(f) = rest.next(table) {
+        let k = table.length(f);
         if k == 0 {
             return four_in(b, p);
         }
         p += k;
-        a += step;
-        left -= 1;
     }
     b.len()
 }
 
-// Where the first of some fields lies, whose type is f.
-pub(crate) fn locate(
-    lens: &[u32; 64],
-    layout: &[u8],
-    t: usize,
-    a: usize,
-    step: usize,
-    left: usize,
-    f: usize,
-    b: &[u8],
-    p: usize,
-) -> Span
-    requires { Row lens.now layout.now t a step left × (0 < left) × (f ≡ word_at layout.now a) × InRange (heads_of layout.now t a step left) b.now p 0 }
-    ensures { result ≡ span_of (head (tree_of layout.now f)) (heads_of layout.now t (a + step) step (left - 1)) b.now p }
+// Where a field lies whose type has the fixed length k, and whose head is at p. Behind it lie the rest.
+pub(crate) fn locate(table: Table, rest: Series, k: usize, b: &[u8], p: usize) -> Span
+    requires { Placed table rest × (k < 2 ^ 32) × InRange (head_of k ∷ heads (types_of table.layout.now rest)) b.now p 0 }
+    ensures { result ≡ span_of (head_of k) (heads (types_of table.entry.layout.now rest)) b.now p }
 {
-    let k = lens[f] as usize;
     if k == 0 {
-        let from = four_in(b, p);
         let next = p + 4;
-        let after = a + step;
-        let rest = left - 1;
-        let to = next_start(lens, layout, t, after, step, rest, b, next);
-        return Span { from, to, next };
+        return Span {
+            from: four_in(b, p),
+            to: next_start(table, rest, b, next),
+            next,
+        };
     }
     let to = p + k;
     Span {

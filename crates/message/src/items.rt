@@ -1,21 +1,23 @@
 // The items of a message: leaves, unions, containers with their fields, and lists and vectors with their elements.
 ghost use Rattle.std.specs.Prelude.{◌≡◌, ℕ, ◌+◌, ◌≤◌, ◌<◌, ◌^◌, length, true, false};
 ghost use Rattle.standard.specs.Choice.{pick};
-ghost use Rattle.standard.specs.Types.{boolean, free_bytes, bit_vector, bit_list};
+ghost use Rattle.standard.specs.Bytes.{word_at};
+ghost use Rattle.standard.specs.Types.{boolean, free_bytes, bit_vector, bit_list, heads};
 ghost use Rattle.standard.specs.Parts.{InRange};
 ghost use Rattle.layout.specs.Tree.{node_of, leaf_of, tree_of};
 ghost use Rattle.layout.specs.Legal.{Legal};
 ghost use Rattle.layout.specs.Kinds.{is_leaf, has_element};
 ghost use Rattle.layout.specs.declared.Kind.{Kind};
+ghost use Rattle.std.specs.declared.result.Result.TheVariants.{Ok};
 ghost use Rattle.message.specs.Read.{located, raw_bytes_lem, one, plus, and_then, read_exact, read_item, read_fields};
 ghost use Rattle.message.specs.declared.Counts.{Counts};
-ghost use Rattle.std.specs.declared.result.Result.TheVariants.{Ok};
 ghost use Rattle.message.specs.declared.items.Inside.{Inside};
-ghost use Rattle.message.specs.Steps.{Under, Row, row_of, heads_of, Found, placed, option_at_lem, choice_of, choose, is_plain, Small};
+ghost use Rattle.message.specs.Steps.{Under, Placed, types_of, Found, placed, option_at_lem, choice_of, choose, is_plain, Small};
 
 use crate::elements::elements_of;
 use crate::fields::{container_told, locate, vector_told};
-use crate::words::{is_leaf, look_in, word_in};
+use crate::parts::Series;
+use crate::table::{Table, is_leaf};
 use crate::{Counts, RefusedAt, Sizes};
 use bitfield::body::{bitlist_body, bitvector_body};
 use decode::split_union_bytes;
@@ -35,6 +37,31 @@ fn located(refusal: Refusal, t: usize, start: usize) -> RefusedAt
     }
 }
 
+impl Counts {
+    // One item with so many contents words and body bytes.
+    fn item(words: usize, bytes: usize) -> Counts
+        ensures { result ≡ record { records = 1; words = words; bytes = bytes } }
+    {
+        Counts {
+            records: 1,
+            words,
+            bytes,
+        }
+    }
+
+    // Two parts together.
+    fn add(self, other: Counts) -> Counts
+        requires { Small self (2 ^ 50) × Small other (2 ^ 50) }
+        ensures { result ≡ plus self other }
+    {
+        Counts {
+            records: self.records + other.records,
+            words: self.words + other.words,
+            bytes: self.bytes + other.bytes,
+        }
+    }
+}
+
 // The raw bytes of so many bits.
 fn raw_bytes(bits: usize) -> usize
     ensures { result ≡ raw_bytes_lem bits }
@@ -47,17 +74,6 @@ fn raw_bytes(bits: usize) -> usize
         return 1;
     }
     q
-}
-
-// One item with so many contents words and body bytes.
-fn leaf(words: usize, bytes: usize) -> Result<Counts, RefusedAt>
-    ensures { result ≡ one words bytes }
-{
-    Ok(Counts {
-        records: 1,
-        words,
-        bytes,
-    })
 }
 
 // A number or fixed bytes: w bytes. Where a leaf lies its caller knows, here and below.
@@ -161,79 +177,33 @@ fn option_at(w: usize, len: usize) -> Result<Option<usize>, Refusal>
     Err(Refusal::InvalidByteLength(len - 1, 0))
 }
 
-// The option that the selector names among the n whose words stand from a on. Nowhere else is a selector a place in the table.
+// The option that the selector names, of a union whose words are n. Nowhere else is a selector a place in the table.
 fn option_of(
-    layout: &[u8],
-    a: usize,
-    n: usize,
+    table: Table,
+    n: Node,
     selector: UnionSelector,
     len: usize,
 ) -> Result<Option<usize>, Refusal>
-    requires { (a < 2 ^ 34) × (1 ≤ len) }
-    ensures { result ≡ choice_of (Ok selector) layout.now a n len }
+    requires { (n.at < 2 ^ 32) × (1 ≤ len) }
+    ensures { result ≡ choice_of (Ok selector) table.entry.layout.now (n.at + 2) n.second len }
 {
     let byte = selector.get();
     let k = byte as usize;
-    if k >= n {
+    if k >= n.second {
         return Err(Refusal::UnionSelectorInvalid(byte));
     }
-    let place = a + k;
-    let w = word_at(layout, place);
+    let w = word_at(table.layout, n.at + 2 + k);
     option_at(w, len)
 }
 
-// What the selector of a union chooses among the n options that the words from a on name: the type of a body, or none.
+// What the selector of the union b chooses, whose words are n: the type of a body, or none.
 #[tactic(auto, unfolding(crate::specs::Steps::choose))]
-pub(crate) fn select(layout: &[u8], a: usize, n: usize, b: &[u8]) -> Result<Option<usize>, Refusal>
-    requires { a < 2 ^ 34 }
-    ensures { result ≡ choose layout.now a n b.now }
+pub(crate) fn select(table: Table, n: Node, b: &[u8]) -> Result<Option<usize>, Refusal>
+    requires { n.at < 2 ^ 32 }
+    ensures { result ≡ choose table.entry.layout.now (n.at + 2) n.second b.now }
 {
     let selector = split_union_bytes(b)?;
-    option_of(layout, a, n, selector, b.len())
-}
-
-// Counts of two parts together.
-fn add(c: Counts, d: Counts) -> Counts
-    requires { Small c (2 ^ 50) × Small d (2 ^ 50) }
-    ensures { result ≡ plus c d }
-{
-    Counts {
-        records: c.records + d.records,
-        words: c.words + d.words,
-        bytes: c.bytes + d.bytes,
-    }
-}
-
-// Counts with one more item, which has so many contents words and body bytes.
-fn one_more(c: Counts, words: usize, bytes: usize) -> Counts
-    requires { Small c (2 ^ 50) × (words ≤ 2 ^ 50) × (bytes ≤ 2 ^ 50) }
-    ensures { result ≡ plus c (record { records = 1; words = words; bytes = bytes }) }
-{
-    let own = Counts {
-        records: 1,
-        words,
-        bytes,
-    };
-    add(c, own)
-}
-
-// The record of what holds fields, and its contents words.
-fn own_record(words: usize) -> Counts
-    ensures { result ≡ record { records = 1; words = words; bytes = 0 } }
-{
-    Counts {
-        records: 1,
-        words,
-        bytes: 0,
-    }
-}
-
-// A union's own record and selector, with what its body has.
-fn with_selector(r: Result<Counts, RefusedAt>) -> Result<Counts, RefusedAt>
-    requires { (c : Counts) → r ≡ Ok c → Small c (2 ^ 50) }
-    ensures { result ≡ and_then (one 1 0) r }
-{
-    Ok(add(own_record(1), r?))
+    option_of(table, n, selector, b.len())
 }
 
 // A number or fixed bytes: of their items only the length is asked.
@@ -254,173 +224,145 @@ fn is_within(n: Node, len: usize) -> bool
     }
 }
 
-// What there is to read inside an item: nothing more, and how many records and contents words the item has; or the words that name its fields
-// or elements: the first, how far apart they stand, how many there are, and the contents words of the item itself.
+// What there is to read inside an item: nothing more, and how many records and contents words the item has; or its fields or elements, and the
+// contents words of the item itself.
 #[derive(Clone, Copy)]
 enum Inside {
     Counted { records: usize, words: usize },
-    Fields(usize, usize, usize, usize),
+    Fields { row: Series, words: usize },
 }
 
-// m elements of the type e, which the word at a0 names and which lie as they should. Numbers and fixed bytes have no rule of their own left to
-// fail, so they are counted and not looked at.
-fn row_inside(layout: &[u8], a0: usize, m: usize, e: usize, own: usize) -> Inside
-    requires { Legal layout.now (e + 1) × (m < 2 ^ 34) }
-    ensures { result ≡ pick (is_plain (node_of layout.now e).kind) (Inside.Counted (1 + m) own) (Inside.Fields a0 0 m own) }
+// Elements of the type e, which lie as they should. Numbers and fixed bytes have no rule of their own left to fail, so they are counted and not
+// looked at.
+fn row_inside(table: Table, row: Series, e: usize, words: usize) -> Inside
+    requires { Legal table.layout.now (e + 1) × (row.many < 2 ^ 34) }
+    ensures { result ≡ pick (is_plain (node_of table.entry.layout.now e).kind) (Inside.Counted (1 + row.many) words) (Inside.Fields row words) }
 {
-    let n = look_in(layout, e);
-    if is_plain(n.kind) {
+    if is_plain(table.look(e).kind) {
         return Inside::Counted {
-            records: 1 + m,
-            words: own,
+            records: 1 + row.many,
+            words,
         };
     }
-    Inside::Fields(a0, 0, m, own)
+    Inside::Fields { row, words }
 }
 
 // The inside of the list or vector b of the type t, whose words are n.
-fn elements_inside(
-    lens: &[u32; 64],
-    layout: &[u8],
-    n: Node,
-    t: usize,
-    b: &[u8],
-) -> Result<Inside, Refusal>
-    requires { Under lens.now layout.now (t + 1) × (length b.now < 2 ^ 32) × (n ≡ node_of layout.now t) × (has_element n.kind ≡ true) }
-    ensures { Found lens.now layout.now t b.now result }
+fn elements_inside(table: Table, n: Node, t: usize, b: &[u8]) -> Result<Inside, Refusal>
+    requires { Under table.lens.now table.layout.now (t + 1) × (length b.now < 2 ^ 32) × (n ≡ node_of table.layout.now t) × (has_element n.kind ≡ true) }
+    ensures { Found table.entry.lens.now table.entry.layout.now t b.now result }
 {
-    let first = n.at + 1;
     let e = n.second;
-    let third = word_in(layout, n.at + 2);
+    let third = table.word(n.at + 2);
     match n.kind {
         Kind::Vector => {
-            vector_told(lens, layout, t, first, third, e, b)?;
-            Ok(row_inside(layout, first, third, e, 0))
+            let row = Series::elements(t, n, third);
+            vector_told(table, row, e, b)?;
+            Ok(row_inside(table, row, e, 0))
         }
         _ => {
-            let m = elements_of(lens[e] as usize, third, b)?;
-            Ok(row_inside(layout, first, m, e, 1))
+            let many = elements_of(table.length(e), third, b)?;
+            let row = Series::elements(t, n, many);
+            Ok(row_inside(table, row, e, 1))
         }
     }
 }
 
 // The inside of the container, list or vector b of the type t, whose words are n.
-fn inside_of(
-    lens: &[u32; 64],
-    layout: &[u8],
-    n: Node,
-    t: usize,
-    b: &[u8],
-) -> Result<Inside, Refusal>
-    requires { Under lens.now layout.now (t + 1) × (length b.now < 2 ^ 32) × (n ≡ node_of layout.now t) × (is_leaf n.kind ≡ false) × (n.kind ≡ Kind.Union → ⊥) }
-    ensures { Found lens.now layout.now t b.now result }
+fn inside_of(table: Table, n: Node, t: usize, b: &[u8]) -> Result<Inside, Refusal>
+    requires { Under table.lens.now table.layout.now (t + 1) × (length b.now < 2 ^ 32) × (n ≡ node_of table.layout.now t) × (is_leaf n.kind ≡ false) × (n.kind ≡ Kind.Union → ⊥) }
+    ensures { Found table.entry.lens.now table.entry.layout.now t b.now result }
 {
     match n.kind {
         Kind::Container => {
-            let first = n.at + 2;
-            container_told(lens, layout, t, first, n.second, b)?;
-            Ok(Inside::Fields(first, 1, n.second, 0))
+            let row = Series::fields(t, n);
+            container_told(table, row, b)?;
+            Ok(Inside::Fields { row, words: 0 })
         }
-        _ => elements_inside(lens, layout, n, t, b),
+        _ => elements_inside(table, n, t, b),
     }
 }
 
 // Checks the item b of the type t, which starts at start. Only here are fields read, whatever holds them: the loop over them is then no call.
-// The table is handed on as a part of itself, here and wherever items are gone through: handed on as it came, it is copied first.
 #[cycle(field_check_item_check)]
 pub(crate) fn item_check(
-    lens: &[u32; 64],
-    layout: &[u8],
+    table: Table,
     t: usize,
     b: &[u8],
     start: usize,
 ) -> Result<Counts, RefusedAt>
-    requires { Under lens.now layout.now (t + 1) × (start + length b.now < 2 ^ 32) }
-    ensures { result ≡ read_item (tree_of layout.now t) b.now start }
+    requires { Under table.lens.now table.layout.now (t + 1) × (start + length b.now < 2 ^ 32) }
+    ensures { result ≡ read_item (tree_of table.entry.layout.now t) b.now start }
 {
-    let n = look_in(layout, t);
+    let n = table.look(t);
     if is_leaf(n.kind) {
         return match leaf_check(n, b) {
-            Ok(sizes) => leaf(sizes.words, sizes.bytes),
+            Ok(sizes) => Ok(Counts::item(sizes.words, sizes.bytes)),
             Err(refusal) => Err(located(refusal, t, start)),
         };
     }
     match n.kind {
-        Kind::Union => match select(layout, n.at + 2, n.second, b) {
-            Ok(None) => leaf(1, 0),
+        Kind::Union => match select(table, n, b) {
+            Ok(None) => Ok(Counts::item(1, 0)),
             Ok(Some(o)) => {
-                let inside = start + 1;
-                let r = item_check(lens, &layout[..], o, &b[1..], inside);
-                with_selector(r)
+                let body = item_check(table, o, &b[1..], start + 1)?;
+                Ok(Counts::item(1, 0).add(body))
             }
             Err(refusal) => Err(located(refusal, t, start)),
         },
-        _ => match inside_of(lens, layout, n, t, b) {
+        _ => match inside_of(table, n, t, b) {
             Ok(Inside::Counted { records, words }) => Ok(Counts {
                 records,
                 words,
                 bytes: b.len(),
             }),
-            Ok(Inside::Fields(first, step, m, own)) => {
-                field_check(lens, layout, t, first, step, m, own, b, start)
-            }
+            Ok(Inside::Fields { row, words }) => field_check(table, row, words, b, start),
             Err(refusal) => Err(located(refusal, t, start)),
         },
     }
 }
 
-// Checks the n fields of type t that the words from a0 on name, step words apart, and counts them with what holds them, which has `own`
-// contents words. Numbers and fixed bytes have their length from the table, and the registration tested it; free bytes are the most common of
-// variable size: neither needs a call.
+// Checks the fields in the item b, and counts them with what holds them, which has so many contents words. Numbers and fixed bytes have their
+// length from the table, and the registration tested it; free bytes are the most common of variable size: neither needs a call.
 #[cycle(field_check_item_check)]
 fn field_check(
-    lens: &[u32; 64],
-    layout: &[u8],
-    t: usize,
-    a0: usize,
-    step: usize,
-    n: usize,
-    own: usize,
+    table: Table,
+    row: Series,
+    words: usize,
     b: &[u8],
     start: usize,
 ) -> Result<Counts, RefusedAt>
-    requires { Row lens.now layout.now t a0 step n × (start + length b.now < 2 ^ 32) × InRange (heads_of layout.now t a0 step n) b.now 0 0 × (own ≤ 1) }
-    ensures { result ≡ and_then (one own 0) (read_fields (row_of layout.now t a0 step n) b.now 0 start) }
+    requires { Placed table row × (start + length b.now < 2 ^ 32) × InRange (heads (types_of table.layout.now row)) b.now 0 0 × (words ≤ 1) }
+    ensures { result ≡ and_then (one words 0) (read_fields (types_of table.entry.layout.now row) b.now 0 start) }
 {
-    let mut sum = own_record(own);
-    let mut a = a0;
-    let mut left = n;
+    let mut sum = Counts::item(words, 0);
+    let mut rest = row;
     let mut p = 0;
-    while left > 0 {
-        let f = word_in(layout, a);
-        let node = look_in(layout, f);
-        let here = a;
-        a += step;
-        left -= 1;
+    while let Some(f) = rest.next(table) {
+        let node = table.look(f);
+        let k = table.length(f);
         if is_plain(node.kind) {
-            let k = lens[f] as usize;
-            sum = one_more(sum, 0, k);
+            sum = sum.add(Counts::item(0, k));
             p += k;
             continue;
         }
-        let w = locate(lens, layout, t, here, step, left + 1, f, b, p);
-        let from = w.from;
-        let to = w.to;
+        let w = locate(table, rest, k, b, p);
         p = w.next;
-        let at = start + from;
-        if is_within(node, to - from) {
-            sum = one_more(sum, 1, to - from);
+        let len = w.to - w.from;
+        if is_within(node, len) {
+            sum = sum.add(Counts::item(1, len));
             continue;
         }
+        let at = start + w.from;
+        let field = &b[w.from..w.to];
         if is_leaf(node.kind) {
-            match leaf_check(node, &b[from..to]) {
-                Ok(sizes) => sum = one_more(sum, sizes.words, sizes.bytes),
+            match leaf_check(node, field) {
+                Ok(sizes) => sum = sum.add(Counts::item(sizes.words, sizes.bytes)),
                 Err(refusal) => return Err(located(refusal, f, at)),
             }
             continue;
         }
-        let c = item_check(lens, &layout[..], f, &b[from..to], at)?;
-        sum = add(sum, c);
+        sum = sum.add(item_check(table, f, field, at)?);
     }
     Ok(sum)
 }

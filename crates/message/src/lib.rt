@@ -6,6 +6,7 @@ mod fields;
 mod items;
 mod listing;
 mod parts;
+mod table;
 mod unfolding;
 mod words;
 
@@ -20,6 +21,7 @@ use items::item_check;
 use layout::table_of;
 use listing::list_item;
 use standard::Refusal;
+use table::Table;
 use unfolding::{Place, unfold_item};
 
 // How much there is of an accepted message: records of its listing, contents words and body bytes of its value form.
@@ -59,20 +61,14 @@ impl From<Refusal> for RefusedAt {
 }
 
 // The message under a legal table of n types.
-fn check_under(
-    lens: &[u32; 64],
-    layout: &[u8],
-    n: usize,
-    message: &[u8],
-) -> Result<Counts, RefusedAt>
-    requires { Under lens.now layout.now n × (1 ≤ n) }
-    ensures { result ≡ under_table_lem (Ok n) layout.now message.now }
+fn check_under(table: Table, n: usize, message: &[u8]) -> Result<Counts, RefusedAt>
+    requires { Under table.lens.now table.layout.now n × (1 ≤ n) }
+    ensures { result ≡ under_table_lem (Ok n) table.entry.layout.now message.now }
 {
     if message.len() > 4294967295 {
         return Err(RefusedAt::from(Refusal::TooLarge));
     }
-    let last = n - 1;
-    item_check(lens, layout, last, message, 0)
+    item_check(table, n - 1, message, 0)
 }
 
 // Checks a message: 20 for a bad table, 21 for 2^32 bytes or more, then the rules of reading.
@@ -82,29 +78,31 @@ pub fn check(layout: &[u8], message: &[u8]) -> Result<Counts, RefusedAt>
 {
     let mut lens = [0u32; 64];
     let n = table_of(&mut lens, layout)?;
-    check_under(&lens, layout, n, message)
+    let table = Table {
+        lens: &lens,
+        layout,
+    };
+    check_under(table, n, message)
 }
 
 // Stores the listing of a message that was checked, where there is room for it.
 fn list_under(
     records: &mut [u8],
-    lens: &[u32; 64],
-    layout: &[u8],
+    table: Table,
     n: usize,
     message: &[u8],
 ) -> Result<usize, RefusedAt>
-    requires { Under lens.now layout.now n × (1 ≤ n) }
-    ensures value { result ≡ listed_of (under_table_lem (Ok n) layout.now message.now) records.old }
-    ensures records_after { records.new ≡ records_of (under_table_lem (Ok n) layout.now message.now) (message_type layout.now n) message.now records.old }
+    requires { Under table.lens.now table.layout.now n × (1 ≤ n) }
+    ensures value { result ≡ listed_of (under_table_lem (Ok n) table.entry.layout.now message.now) records.old }
+    ensures records_after { records.new ≡ records_of (under_table_lem (Ok n) table.entry.layout.now message.now) (message_type table.entry.layout.now n) message.now records.old }
 {
-    let c = check_under(lens, layout, n, message)?;
+    let c = check_under(table, n, message)?;
     let room = records.len() / 12;
     let need = c.records;
     if need > room {
         return Err(RefusedAt::from(Refusal::NoRoom(need, room)));
     }
-    let last = n - 1;
-    list_item(records, 0, lens, layout, last, message, 0);
+    list_item(records, 0, table, n - 1, message, 0);
     Ok(need)
 }
 
@@ -116,24 +114,27 @@ pub fn list(layout: &[u8], message: &[u8], records: &mut [u8]) -> Result<usize, 
 {
     let mut lens = [0u32; 64];
     let n = table_of(&mut lens, layout)?;
-    list_under(records, &lens, layout, n, message)
+    let table = Table {
+        lens: &lens,
+        layout,
+    };
+    list_under(records, table, n, message)
 }
 
 // Stores the value form of a message that was checked, where there is room for it.
 fn unfold_under(
     contents: &mut [u32],
     bodies: &mut [u8],
-    lens: &[u32; 64],
-    layout: &[u8],
+    table: Table,
     n: usize,
     message: &[u8],
 ) -> Result<Sizes, RefusedAt>
-    requires { Under lens.now layout.now n × (1 ≤ n) }
-    ensures value { result ≡ unfolded_of (under_table_lem (Ok n) layout.now message.now) contents.old bodies.old }
-    ensures contents_after { contents.new ≡ filled_of (under_table_lem (Ok n) layout.now message.now) contents.old bodies.old contents.old (unfold_words (message_type layout.now n) message.now) }
-    ensures bodies_after { bodies.new ≡ filled_of (under_table_lem (Ok n) layout.now message.now) contents.old bodies.old bodies.old (unfold_bytes (message_type layout.now n) message.now) }
+    requires { Under table.lens.now table.layout.now n × (1 ≤ n) }
+    ensures value { result ≡ unfolded_of (under_table_lem (Ok n) table.entry.layout.now message.now) contents.old bodies.old }
+    ensures contents_after { contents.new ≡ filled_of (under_table_lem (Ok n) table.entry.layout.now message.now) contents.old bodies.old contents.old (unfold_words (message_type table.entry.layout.now n) message.now) }
+    ensures bodies_after { bodies.new ≡ filled_of (under_table_lem (Ok n) table.entry.layout.now message.now) contents.old bodies.old bodies.old (unfold_bytes (message_type table.entry.layout.now n) message.now) }
 {
-    let c = check_under(lens, layout, n, message)?;
+    let c = check_under(table, n, message)?;
     let words = c.words;
     let bytes = c.bytes;
     if words > contents.len() {
@@ -142,9 +143,8 @@ fn unfold_under(
     if bytes > bodies.len() {
         return Err(RefusedAt::from(Refusal::NoRoom(words, bytes)));
     }
-    let last = n - 1;
     let start = Place { word: 0, byte: 0 };
-    unfold_item(contents, bodies, start, lens, layout, last, message);
+    unfold_item(contents, bodies, start, table, n - 1, message);
     Ok(Sizes { words, bytes })
 }
 
@@ -162,5 +162,9 @@ pub fn unfold(
 {
     let mut lens = [0u32; 64];
     let n = table_of(&mut lens, layout)?;
-    unfold_under(contents, bodies, &lens, layout, n, message)
+    let table = Table {
+        lens: &lens,
+        layout,
+    };
+    unfold_under(contents, bodies, table, n, message)
 }

@@ -1,16 +1,17 @@
 // The listing of an accepted message: three words an item, in preorder.
 ghost use Rattle.std.specs.Prelude.{◌+◌, ◌≤◌, ◌<◌, ◌^◌, length};
 ghost use Rattle.standard.specs.Bytes.{Stored, Room};
+ghost use Rattle.standard.specs.Types.{heads};
 ghost use Rattle.standard.specs.Parts.{InRange};
 ghost use Rattle.layout.specs.Tree.{tree_of};
 ghost use Rattle.message.specs.Read.{read_item, read_fields};
 ghost use Rattle.message.specs.Listing.{entry, list_item_lem, list_fields_lem};
-ghost use Rattle.message.specs.Steps.{Under, Row, row_of, heads_of, IsAccepted};
+ghost use Rattle.message.specs.Steps.{Under, Placed, types_of, IsAccepted};
 
 use crate::fields::locate;
 use crate::items::select;
-use crate::parts::series_in;
-use crate::words::{is_leaf, look_in, word_in};
+use crate::parts::{Series, series_in};
+use crate::table::{Table, is_leaf};
 use layout::Kind;
 use standard::words::put_four;
 
@@ -32,74 +33,58 @@ fn put_entry(out: &mut [u8], at: usize, t: usize, b: &[u8], start: usize)
 pub(crate) fn list_item(
     out: &mut [u8],
     at: usize,
-    lens: &[u32; 64],
-    layout: &[u8],
+    table: Table,
     t: usize,
     b: &[u8],
     start: usize,
 ) -> usize
-    requires { Under lens.now layout.now (t + 1) × (start + length b.now < 2 ^ 32) × IsAccepted (read_item (tree_of layout.now t) b.now start) × Room out.old at (list_item_lem (tree_of layout.now t) b.now start) }
-    ensures { Stored out.old at (list_item_lem (tree_of layout.now t) b.now start) result out.new }
+    requires { Under table.lens.now table.layout.now (t + 1) × (start + length b.now < 2 ^ 32) × IsAccepted (read_item (tree_of table.layout.now t) b.now start) × Room out.old at (list_item_lem (tree_of table.layout.now t) b.now start) }
+    ensures { Stored out.old at (list_item_lem (tree_of table.entry.layout.now t) b.now start) result out.new }
 {
     put_entry(out, at, t, b, start);
     let next = at + 12;
-    let n = look_in(layout, t);
+    let n = table.look(t);
     match n.kind {
-        Kind::Union => match select(layout, n.at + 2, n.second, b) {
+        Kind::Union => match select(table, n, b) {
+            Ok(Some(o)) => list_item(out, next, table, o, &b[1..], start + 1),
             Ok(None) => next,
-            Ok(Some(o)) => {
-                let inside = start + 1;
-                list_item(out, next, lens, &layout[..], o, &b[1..], inside)
-            }
             Err(_) => next,
         },
         _ => {
-            let s = series_in(lens, layout, n, t, b);
-            list_fields(
-                out, next, lens, layout, t, s.first, s.step, s.many, b, start,
-            )
+            let row = series_in(table, n, t, b);
+            list_fields(out, next, table, row, b, start)
         }
     }
 }
 
-// Stores the listing of the n fields of type t that the words from a0 on name, step words apart, and returns where it ends. A kind below 6
-// has no lower types: its record is its listing.
+// Stores the listing of the fields or elements of the item b from at0 on, and returns where it ends. A kind below 6 has no lower types: its
+// record is its listing.
 #[cycle(list_fields_list_item)]
 fn list_fields(
     out: &mut [u8],
     at0: usize,
-    lens: &[u32; 64],
-    layout: &[u8],
-    t: usize,
-    a0: usize,
-    step: usize,
-    n: usize,
+    table: Table,
+    row: Series,
     b: &[u8],
     start: usize,
 ) -> usize
-    requires { Row lens.now layout.now t a0 step n × (start + length b.now < 2 ^ 32) × InRange (heads_of layout.now t a0 step n) b.now 0 0 × IsAccepted (read_fields (row_of layout.now t a0 step n) b.now 0 start) × Room out.old at0 (list_fields_lem (row_of layout.now t a0 step n) b.now 0 start) }
-    ensures { Stored out.old at0 (list_fields_lem (row_of layout.now t a0 step n) b.now 0 start) result out.new }
+    requires { Placed table row × (start + length b.now < 2 ^ 32) × InRange (heads (types_of table.layout.now row)) b.now 0 0 × IsAccepted (read_fields (types_of table.layout.now row) b.now 0 start) × Room out.old at0 (list_fields_lem (types_of table.layout.now row) b.now 0 start) }
+    ensures { Stored out.old at0 (list_fields_lem (types_of table.entry.layout.now row) b.now 0 start) result out.new }
 {
     let mut at = at0;
-    let mut a = a0;
-    let mut left = n;
+    let mut rest = row;
     let mut p = 0;
-    while left > 0 {
-        let f = word_in(layout, a);
-        let w = locate(lens, layout, t, a, step, left, f, b, p);
-        let from = w.from;
-        let to = w.to;
-        let place = start + from;
+    while let Some(f) = rest.next(table) {
+        let w = locate(table, rest, table.length(f), b, p);
         p = w.next;
-        a += step;
-        left -= 1;
-        let n = look_in(layout, f);
-        if is_leaf(n.kind) {
-            put_entry(out, at, f, &b[from..to], place);
+        let field = &b[w.from..w.to];
+        let place = start + w.from;
+        if is_leaf(table.look(f).kind) {
+            put_entry(out, at, f, field, place);
             at += 12;
             continue;
         }
-        at = list_item(out, at, lens, &layout[..], f, &b[from..to], place);
+        at = list_item(out, at, table, f, field, place);
     }
     at
 }

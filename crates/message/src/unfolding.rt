@@ -1,20 +1,20 @@
 // The unfolding of an accepted message: contents words and body bytes of its value form.
 ghost use Rattle.std.specs.Prelude.{◌≡◌, [], ◌∷◌, true, ◌+◌, ◌-◌, ◌≤◌, ◌<◌, ◌^◌, length, get_or};
 ghost use Rattle.standard.specs.Bytes.{Stored, Room};
-ghost use Rattle.standard.specs.Types.{head};
+ghost use Rattle.standard.specs.Types.{head, heads};
 ghost use Rattle.standard.specs.declared.Head.TheVariants.{Variable};
 ghost use Rattle.standard.specs.Parts.{InRange};
 ghost use Rattle.layout.specs.declared.Kind.{Kind};
 ghost use Rattle.layout.specs.Tree.{node_of, leaf_of, tree_of};
-ghost use Rattle.message.specs.Steps.{Under, Row, row_of, heads_of};
+ghost use Rattle.message.specs.Steps.{Under, Placed, types_of};
 ghost use Rattle.message.specs.Unfold.{raw_of, unfold_words, words_fields, unfold_bytes, bytes_fields, Accepts, AcceptsAll, Rooms, Filled, MarkedAt};
 ghost use Rattle.message.specs.Series.{count_word};
 ghost use Rattle.message.specs.Unfolding.{Filling};
 
 use crate::fields::locate;
 use crate::items::select;
-use crate::parts::{Series, no_items, series_in};
-use crate::words::{is_leaf, look_in, word_in};
+use crate::parts::{Series, series_in};
+use crate::table::{Table, is_leaf};
 use bitfield::body::bitlist_body;
 use layout::{Kind, Node};
 
@@ -37,13 +37,9 @@ fn copy_into(out: &mut [u8], at: usize, src: &[u8]) -> usize
     requires { Room out.old at src.now }
     ensures { Stored out.old at src.now result out.new }
 {
-    let mut i = 0;
-    while i < src.len() {
-        let to = at + i;
-        out[to] = src[i];
-        i += 1;
-    }
-    at + i
+    let end = at + src.len();
+    out[at..end].copy_from_slice(src);
+    end
 }
 
 // Stores the last byte of a body of bits without its mark, which is bit h.
@@ -162,22 +158,24 @@ fn put_count(contents: &mut [u32], at: Place, n: Node, m: usize) -> Place
 }
 
 // Whether the type whose words are n is a list of elements of fixed size.
-fn fixed_elements(lens: &[u32; 64], n: Node) -> bool
-    requires { (n.kind ≡ Kind.List → n.second < 64) × (length lens.now ≡ 64) }
-    ensures { result ≡ true → (n.kind ≡ Kind.List) × (0 < get_or lens.now n.second 0) }
+fn fixed_elements(table: Table, n: Node) -> bool
+    requires { n.kind ≡ Kind.List → n.second < 64 }
+    ensures { result ≡ true → (n.kind ≡ Kind.List) × (0 < get_or table.entry.lens.now n.second 0) }
 {
     match n.kind {
-        Kind::List => lens[n.second] > 0,
+        Kind::List => table.length(n.second) > 0,
         _ => false,
     }
 }
 
 // Nothing is left of an item whose value form ends here.
 fn nothing_left(at: Place) -> Opened
-    ensures { result ≡ record { at = at; left = record { first = 0; step = 0; many = 0 } } }
+    ensures { result ≡ record { at = at; left = record { below = 0; first = 0; step = 0; many = 0 } } }
 {
-    let left = no_items();
-    Opened { at, left }
+    Opened {
+        at,
+        left: Series::none(),
+    }
 }
 
 // Stores what an item that is no union has before its fields or elements, and says which of these are left. An item of fixed size is its
@@ -186,16 +184,15 @@ fn begin(
     contents: &mut [u32],
     bodies: &mut [u8],
     at: Place,
-    lens: &[u32; 64],
-    layout: &[u8],
+    table: Table,
     n: Node,
     t: usize,
     b: &[u8],
 ) -> Opened
-    requires { Under lens.now layout.now (t + 1) × (length b.now < 2 ^ 32) × (n ≡ node_of layout.now t) × (n.kind ≡ Kind.Union → ⊥) × Accepts (tree_of layout.now t) b.now × Rooms contents.old bodies.old at (unfold_words (tree_of layout.now t) b.now) (unfold_bytes (tree_of layout.now t) b.now) }
-    ensures { Filling lens.now layout.now t result.left.step b.now (unfold_words (tree_of layout.now t) b.now) (unfold_bytes (tree_of layout.now t) b.now) contents.old bodies.old at contents.new bodies.new result.at result.left.first result.left.many 0 }
+    requires { Under table.lens.now table.layout.now (t + 1) × (length b.now < 2 ^ 32) × (n ≡ node_of table.layout.now t) × (n.kind ≡ Kind.Union → ⊥) × Accepts (tree_of table.layout.now t) b.now × Rooms contents.old bodies.old at (unfold_words (tree_of table.layout.now t) b.now) (unfold_bytes (tree_of table.layout.now t) b.now) }
+    ensures { Filling table.entry.lens.now table.entry.layout.now t b.now (unfold_words (tree_of table.entry.layout.now t) b.now) (unfold_bytes (tree_of table.entry.layout.now t) b.now) contents.old bodies.old at contents.new bodies.new result.at result.left 0 }
 {
-    if lens[t] > 0 {
+    if table.length(t) > 0 {
         let end = put_bytes(bodies, at, b);
         return nothing_left(end);
     }
@@ -203,9 +200,9 @@ fn begin(
         let end = unfold_leaf(contents, bodies, at, n, t, b);
         return nothing_left(end);
     }
-    let left = series_in(lens, layout, n, t, b);
+    let left = series_in(table, n, t, b);
     let inside = put_count(contents, at, n, left.many);
-    if fixed_elements(lens, n) {
+    if fixed_elements(table, n) {
         let end = put_bytes(bodies, inside, b);
         return nothing_left(end);
     }
@@ -218,78 +215,63 @@ pub(crate) fn unfold_item(
     contents: &mut [u32],
     bodies: &mut [u8],
     at: Place,
-    lens: &[u32; 64],
-    layout: &[u8],
+    table: Table,
     t: usize,
     b: &[u8],
 ) -> Place
-    requires { Under lens.now layout.now (t + 1) × (length b.now < 2 ^ 32) × Accepts (tree_of layout.now t) b.now × Rooms contents.old bodies.old at (unfold_words (tree_of layout.now t) b.now) (unfold_bytes (tree_of layout.now t) b.now) }
-    ensures { Filled contents.old bodies.old at (unfold_words (tree_of layout.now t) b.now) (unfold_bytes (tree_of layout.now t) b.now) result contents.new bodies.new }
+    requires { Under table.lens.now table.layout.now (t + 1) × (length b.now < 2 ^ 32) × Accepts (tree_of table.layout.now t) b.now × Rooms contents.old bodies.old at (unfold_words (tree_of table.layout.now t) b.now) (unfold_bytes (tree_of table.layout.now t) b.now) }
+    ensures { Filled contents.old bodies.old at (unfold_words (tree_of table.entry.layout.now t) b.now) (unfold_bytes (tree_of table.entry.layout.now t) b.now) result contents.new bodies.new }
 {
-    let n = look_in(layout, t);
+    let n = table.look(t);
     match n.kind {
-        Kind::Union => match select(layout, n.at + 2, n.second, b) {
+        Kind::Union => match select(table, n, b) {
             Ok(None) => put_selector(contents, at, b),
             Ok(Some(o)) => {
                 let inside = put_selector(contents, at, b);
-                unfold_item(contents, bodies, inside, lens, &layout[..], o, &b[1..])
+                unfold_item(contents, bodies, inside, table, o, &b[1..])
             }
             Err(_) => at,
         },
         _ => {
-            let s = begin(contents, bodies, at, lens, layout, n, t, b);
-            let x = s.left;
-            unfold_fields(
-                contents, bodies, s.at, lens, layout, t, x.first, x.step, x.many, b,
-            )
+            let s = begin(contents, bodies, at, table, n, t, b);
+            unfold_fields(contents, bodies, s.at, table, s.left, b)
         }
     }
 }
 
-// Stores the value forms of the n fields of type t that the words from a0 on name, step words apart, and returns where they end. A field of
-// fixed size is its own bytes. Of variable size only a type that has lower types is unfolded as an item.
+// Stores the value forms of the fields or elements of the item b, and returns where they end. A field of fixed size is its own bytes. Of
+// variable size only a type that has lower types is unfolded as an item.
 #[cycle(unfold_fields_unfold_item)]
 fn unfold_fields(
     contents: &mut [u32],
     bodies: &mut [u8],
     at0: Place,
-    lens: &[u32; 64],
-    layout: &[u8],
-    t: usize,
-    a0: usize,
-    step: usize,
-    n: usize,
+    table: Table,
+    row: Series,
     b: &[u8],
 ) -> Place
-    requires { Row lens.now layout.now t a0 step n × (length b.now < 2 ^ 32) × InRange (heads_of layout.now t a0 step n) b.now 0 0 × AcceptsAll (row_of layout.now t a0 step n) b.now 0 × Rooms contents.old bodies.old at0 (words_fields (row_of layout.now t a0 step n) b.now 0) (bytes_fields (row_of layout.now t a0 step n) b.now 0) }
-    ensures { Filled contents.old bodies.old at0 (words_fields (row_of layout.now t a0 step n) b.now 0) (bytes_fields (row_of layout.now t a0 step n) b.now 0) result contents.new bodies.new }
+    requires { Placed table row × (length b.now < 2 ^ 32) × InRange (heads (types_of table.layout.now row)) b.now 0 0 × AcceptsAll (types_of table.layout.now row) b.now 0 × Rooms contents.old bodies.old at0 (words_fields (types_of table.layout.now row) b.now 0) (bytes_fields (types_of table.layout.now row) b.now 0) }
+    ensures { Filled contents.old bodies.old at0 (words_fields (types_of table.entry.layout.now row) b.now 0) (bytes_fields (types_of table.entry.layout.now row) b.now 0) result contents.new bodies.new }
 {
     let mut at = at0;
-    let mut a = a0;
-    let mut left = n;
+    let mut rest = row;
     let mut p = 0;
-    while left > 0 {
-        let f = word_in(layout, a);
-        let k = lens[f] as usize;
+    while let Some(f) = rest.next(table) {
+        let k = table.length(f);
         if k > 0 {
             let to = p + k;
             at = put_bytes(bodies, at, &b[p..to]);
             p = to;
-            a += step;
-            left -= 1;
             continue;
         }
-        let w = locate(lens, layout, t, a, step, left, f, b, p);
-        let from = w.from;
-        let to = w.to;
+        let w = locate(table, rest, k, b, p);
         p = w.next;
-        a += step;
-        left -= 1;
-        let n = look_in(layout, f);
+        let field = &b[w.from..w.to];
+        let n = table.look(f);
         at = if is_leaf(n.kind) {
-            unfold_leaf(contents, bodies, at, n, f, &b[from..to])
+            unfold_leaf(contents, bodies, at, n, f, field)
         } else {
-            unfold_item(contents, bodies, at, lens, &layout[..], f, &b[from..to])
+            unfold_item(contents, bodies, at, table, f, field)
         };
     }
     at

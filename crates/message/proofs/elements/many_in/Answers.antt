@@ -9,17 +9,14 @@ use Rattle.message.proofs.elements.many_in.Goals as goal
 pub overflow_add-n : goal.overflow_add-n
 overflow_add-n c = omega (arith, (node_legal _ _ _ _ c.requires.1 c.requires.0).near)
 
-pub word_in-requires : goal.word_in-requires
-word_in-requires c = third-there _ _ _ _ c.requires.1 c.requires.0 c.requires.2
+pub word-requires : goal.word-requires
+word-requires c = third-there _ _ _ _ c.requires.1 c.requires.0 c.requires.2
 
-pub bounds-lens-n : goal.bounds-lens-n
-bounds-lens-n c = omega (arith, element-below _ _ _ _ c.requires.1 c.requires.0 c.requires.2, c.requires.0.few)
-
-pub offset_bounds-lens-n : goal.offset_bounds-lens-n
-offset_bounds-lens-n c = omega (arith, element-below _ _ _ _ c.requires.1 c.requires.0 c.requires.2, c.requires.0.few)
+pub length-requires : goal.length-requires
+length-requires c = omega (arith, element-below _ _ _ _ c.requires.1 c.requires.0 c.requires.2, c.requires.0.few)
 
 pub returns-in_default : goal.returns-in_default
 returns-in_default c =
     let said = many-elements _ _ _ _ c.requires.1 c.requires.0 c.requires.2 _ 0 c.requires.3 c.in_default.not-Vector in
-    let limit = word_at c.args.layout.now (c.args.n.at + 2) in
-    c.count_of.ensures limit _ (rw (element-head _ _ _ _ c.requires.1 c.requires.0 c.requires.2) said)
+    let limit = word_at c.args.table.layout.now (c.args.n.at + 2) in
+    c.count_of.ensures limit _ (rw (c.length.ensures.0, element-head _ _ _ _ c.requires.1 c.requires.0 c.requires.2) said)

@@ -1,8 +1,11 @@
+use Rattle.standard.specs.Types.{heads}
+use Rattle.message.specs.Steps.{types_of}
 use Rattle.message.proofs.Numbers.{Counting}
 use Rattle.message.proofs.fields.lay_out.Given as goal
 
-abbrev pub invariant-loop-left : goal.invariant-loop-left
-invariant-loop-left l = Counting l.lens l.layout l.t l.a0 l.step l.n l.b l.first l.previous l.p l.a l.left
+abbrev pub invariant-loop-f : goal.invariant-loop-f
+invariant-loop-f l =
+    Counting l.table.lens.now l.table.layout.now (heads (types_of l.table.layout.now l.fn.row)) l.b l.first l.previous l.p l.rest
 
-abbrev pub decreases-loop-left : goal.decreases-loop-left
-decreases-loop-left l = l.left
+abbrev pub decreases-loop-f : goal.decreases-loop-f
+decreases-loop-f l = l.rest.many

@@ -1,33 +1,27 @@
 -- The loop keeps `Seeking`. Assumes nothing.
-use Rattle.std.proofs.Common.{arith, refl, ◌∙◌}
-use Rattle.message.proofs.Rows.{row-there, row-few, seeking_room, seeking_found, seeking_fits, seeking_next, seeking_end}
+use Rattle.std.proofs.Common.{arith, ◌∙◌}
+use Rattle.message.proofs.Rows.{next_few, seeking_room, seeking_found, seeking_fits, seeking_next, seeking_end}
 use Rattle.message.proofs.fields.next_start.Goals as goal
 
-pub word_in-f-requires : goal.word_in-f-requires
-word_in-f-requires c = row-there _ _ _ _ _ _ c.loop-left.invariant.row c.loop-left-test.true
+pub next-requires : goal.next-requires
+next-requires c = c.loop-f.invariant.row
 
-pub bounds-lens-f : goal.bounds-lens-f
-bounds-lens-f c = row-few _ _ _ _ _ _ _ c.loop-left.invariant.row c.loop-left-test.true c.word_in-f.ensures.0
+pub length-k-requires : goal.length-k-requires
+length-k-requires c = next_few _ _ _ _ _ c.loop-f.invariant.row c.in-Some.ensures
 
 pub four_in-requires : goal.four_in-requires
-four_in-requires c =
-    seeking_room _ _ _ _ _ _ _ _ _ _ _ _ _ c.loop-left.invariant c.loop-left-test.true c.word_in-f.ensures.0 refl c.if-k-eq0.true
+four_in-requires c = seeking_room _ _ _ _ _ _ _ _ _ c.loop-f.invariant c.in-Some.ensures c.length-k.ensures.0 c.if-k-eq0.true
 
 pub returns-then-k-eq0 : goal.returns-then-k-eq0
 returns-then-k-eq0 c =
-    c.four_in.ensures.0
-    ∙ seeking_found _ _ _ _ _ _ _ _ _ _ _ _ _ c.loop-left.invariant c.loop-left-test.true c.word_in-f.ensures.0 refl c.if-k-eq0.true
+    c.four_in.ensures.0 ∙ seeking_found _ _ _ _ _ _ _ _ _ c.loop-f.invariant c.in-Some.ensures c.length-k.ensures.0 c.if-k-eq0.true
 
 pub overflow_add-p : goal.overflow_add-p
 overflow_add-p c =
-    omega (
-      arith,
-      seeking_fits _ _ _ _ _ _ _ _ _ _ _ _ _ c.loop-left.invariant c.loop-left-test.true c.word_in-f.ensures.0 refl c.if-k-eq0.false,
-    )
+    omega (arith, seeking_fits _ _ _ _ _ _ _ _ _ c.loop-f.invariant c.in-Some.ensures c.length-k.ensures.0 c.if-k-eq0.false)
 
-pub loop-left-preserved : goal.loop-left-preserved
-loop-left-preserved c =
-    seeking_next _ _ _ _ _ _ _ _ _ _ _ _ _ c.loop-left.invariant c.loop-left-test.true c.word_in-f.ensures.0 refl c.if-k-eq0.false
+pub loop-f-preserved : goal.loop-f-preserved
+loop-f-preserved c = seeking_next _ _ _ _ _ _ _ _ _ c.loop-f.invariant c.in-Some.ensures c.length-k.ensures.0 c.if-k-eq0.false
 
 pub returns : goal.returns
-returns c = seeking_end _ _ _ _ _ _ _ _ _ _ _ c.loop-left.invariant c.loop-left-test.false
+returns c = seeking_end _ _ _ _ _ _ c.loop-f.invariant c.in_default.ensures

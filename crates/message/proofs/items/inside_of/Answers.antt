@@ -4,20 +4,23 @@ use Rattle.decode.proofs.Register.{layout-ranges}
 use Rattle.message.proofs.Answers.{handed}
 use Rattle.message.proofs.Rows.{node_legal, container_tree}
 use Rattle.message.proofs.Bodies.{container-row, container-on, container_stop}
+use Rattle.message.proofs.Manys.{several}
 use Rattle.message.proofs.items.inside_of.Goals as goal
 
-pub overflow_add-first : goal.overflow_add-first
-overflow_add-first c = omega (arith, (node_legal _ _ _ _ c.requires.2 c.requires.0).near)
+pub fields-row-requires : goal.fields-row-requires
+fields-row-requires c = (node_legal _ _ _ _ c.requires.2 c.requires.0).near
 
 pub container_told-requires : goal.container_told-requires
 container_told-requires c =
     let p = c.requires in
-    (p.0, container-row _ _ _ _ p.2 p.0 c.in-Container.is, p.1, container_tree _ _ _ p.2 c.in-Container.is)
+    rw c.fields-row.ensures (p.0, container-row _ _ _ _ p.2 p.0 c.in-Container.is, p.1, container_tree _ _ _ p.2 c.in-Container.is)
 
 pub returns-in_ok-container_told-in-Container : goal.returns-in_ok-container_told-in-Container
 returns-in_ok-container_told-in-Container c =
     let p = c.requires in
-    let fine = c.in_ok-container_told-in-Container.ensures in (
+    let fine = rw c.fields-row.ensures at c.in_ok-container_told-in-Container.ensures in
+    rw c.fields-row.ensures (
+      omega arith,
       container-row _ _ _ _ p.2 p.0 c.in-Container.is,
       layout-ranges _ _ (sym fine),
       omega arith,
@@ -27,4 +30,10 @@ returns-in_ok-container_told-in-Container c =
 pub returns-in_err-container_told-in-Container : goal.returns-in_err-container_told-in-Container
 returns-in_err-container_told-in-Container c =
     let p = c.requires in
-    rw (handed _ _ c.from_residual.ensures.1) (λ s. container_stop _ _ _ _ p.2 p.0 c.in-Container.is _ s _ c.in_err-container_told-in-Container.ensures)
+    let stop = rw c.fields-row.ensures at c.in_err-container_told-in-Container.ensures in
+    rw (handed _ _ c.from_residual.ensures.1) (λ s. container_stop _ _ _ _ p.2 p.0 c.in-Container.is _ s _ stop)
+
+pub elements_inside-requires : goal.elements_inside-requires
+elements_inside-requires c =
+    let p = c.requires in
+    (p.0, p.1, p.2, several _ p.3 c.in_default.not-Container p.4)

@@ -3,32 +3,32 @@ use Rattle.std.proofs.Common.{refl, arith}
 use Rattle.layout.specs.Tree.{node_of}
 use Rattle.layout.specs.Table.{count}
 use Rattle.layout.proofs.Facts.{legal_node, legal-words}
-use Rattle.message.proofs.words.look_in.Goals as goal
+use Rattle.message.proofs.table.Table.look.Goals as goal
 
 pub overflow_add-t : goal.overflow_add-t
 unfolding count
 overflow_add-t c = omega (arith, legal-words _ _ c.requires)
 
-pub word_in-at-requires : goal.word_in-at-requires
-word_in-at-requires c = (legal-words _ _ c.requires).0
+pub word-at-requires : goal.word-at-requires
+word-at-requires c = (legal-words _ _ c.requires).0
 
-pub word_in-requires : goal.word_in-requires
-word_in-requires c = rw c.word_in-at.ensures.0 (legal-words _ _ c.requires).1
+pub word-requires : goal.word-requires
+word-requires c = rw c.word-at.ensures.0 (legal-words _ _ c.requires).1
 
 -- The kind word is one.
 pub unwrap-kind-requires : goal.unwrap-kind-requires
 unfolding node_of
 unwrap-kind-requires c =
     let g = (legal_node _ _ _ refl c.requires).known in
-    rw (c.of.ensures, c.word_in.ensures.0, c.word_in-at.ensures.0, g)
+    rw (c.of.ensures, c.word.ensures.0, c.word-at.ensures.0, g)
 
 pub returns : goal.returns
 unfolding node_of
 returns c =
     rw (
-      ← c.word_in-at.ensures.0,
+      ← c.word-at.ensures.0,
       c.word_at-second.ensures.0,
-      ← c.word_in.ensures.0,
+      ← c.word.ensures.0,
       ← c.of.ensures,
       c.unwrap-kind.ensures,
     )

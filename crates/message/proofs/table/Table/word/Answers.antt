@@ -2,7 +2,7 @@
 use Rattle.std.proofs.Common.{rules, ◌∙◌}
 use Rattle.layout.specs.Table.{count}
 use Rattle.standard.proofs.Bytes.{word-there}
-use Rattle.message.proofs.words.word_in.Goals as goal
+use Rattle.message.proofs.table.Table.word.Goals as goal
 
 pub overflow_mul-i : goal.overflow_mul-i
 unfolding count

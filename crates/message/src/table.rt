@@ -1,0 +1,57 @@
+// A table that is known to be legal, with the lengths of its types: all its words are there, so none is compared with a length.
+ghost use Rattle.std.specs.Prelude.{◌≡◌, ◌+◌, ◌<◌, ◌^◌, get_or};
+ghost use Rattle.standard.specs.Bytes.{word_at};
+ghost use Rattle.layout.specs.Table.{count};
+ghost use Rattle.layout.specs.Tree.{node_of};
+ghost use Rattle.layout.specs.Legal.{Legal};
+ghost use Rattle.layout.specs.Kinds.{is_leaf};
+
+use crate::words::four_in;
+use layout::{Kind, Node};
+use standard::words::word_at;
+
+// A leaf names no other type.
+pub(crate) fn is_leaf(kind: Kind) -> bool
+    ensures { result ≡ is_leaf kind }
+{
+    !matches!(
+        kind,
+        Kind::Container | Kind::Union | Kind::List | Kind::Vector
+    )
+}
+
+// The bytes of the table, and the fixed length of each of its types, 0 for one of variable size.
+#[derive(Clone, Copy)]
+pub(crate) struct Table<'a> {
+    pub lens: &'a [u32; 64],
+    pub layout: &'a [u8],
+}
+
+impl<'a> Table<'a> {
+    // The i-th word.
+    pub(crate) fn word(self, i: usize) -> usize
+        requires { i < count self.layout.now }
+        ensures { (result ≡ word_at self.entry.layout.now i) × (result < 2 ^ 32) }
+    {
+        four_in(self.layout, 4 * i)
+    }
+
+    // What the table says of the type t. The word behind the kind may be missing: a boolean has none.
+    pub(crate) fn look(self, t: usize) -> Node
+        requires { Legal self.layout.now (t + 1) }
+        ensures { result ≡ node_of self.entry.layout.now t }
+    {
+        let at = self.word(1 + t);
+        let kind = Kind::of(self.word(at)).unwrap();
+        let second = word_at(self.layout, at + 1);
+        Node { kind, at, second }
+    }
+
+    // The fixed length of the type t.
+    pub(crate) fn length(self, t: usize) -> usize
+        requires { t < 64 }
+        ensures { (result ≡ get_or self.entry.lens.now t 0) × (result < 2 ^ 32) }
+    {
+        self.lens[t] as usize
+    }
+}
