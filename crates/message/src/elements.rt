@@ -115,9 +115,9 @@ pub(crate) fn count_of(k: usize, b: &[u8]) -> usize
 }
 
 // How many elements a list or vector of the type t has that was accepted, whose words are n.
-pub(crate) fn many_in(table: Table, n: Node, t: usize, b: &[u8]) -> usize
-    requires { Under table.lens.now table.layout.now (t + 1) × (n ≡ node_of table.layout.now t) × (has_element n.kind ≡ true) × IsAccepted (read_item (tree_of table.layout.now t) b.now 0) }
-    ensures { result ≡ many_in_lem table.entry.layout.now n (head (tree_of table.entry.layout.now n.second)) b.now }
+pub(crate) fn many_in(table: &Table, n: Node, t: usize, b: &[u8]) -> usize
+    requires { Under table.now.lens.now table.now.layout.now (t + 1) × (n ≡ node_of table.now.layout.now t) × (has_element n.kind ≡ true) × IsAccepted (read_item (tree_of table.now.layout.now t) b.now 0) }
+    ensures { result ≡ many_in_lem table.now.layout.now n (head (tree_of table.now.layout.now n.second)) b.now }
 {
     match n.kind {
         Kind::Vector => table.word(n.at + 2),

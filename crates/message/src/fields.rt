@@ -28,9 +28,9 @@ fn finish(first: Option<usize>, p: usize, len: usize) -> Result<(), Refusal>
 }
 
 // Registers the fields, and builds: as `register_head` and `finalize` do, in plain numbers.
-fn lay_out(table: Table, row: Series, b: &[u8]) -> Result<(), Refusal>
-    requires { Placed table row × (length b.now < 2 ^ 32) }
-    ensures { result ≡ lay_out_lem (heads (types_of table.entry.layout.now row)) b.now }
+fn lay_out(table: &Table, row: Series, b: &[u8]) -> Result<(), Refusal>
+    requires { Placed table.now row × (length b.now < 2 ^ 32) }
+    ensures { result ≡ lay_out_lem (heads (types_of table.now.layout.now row)) b.now }
 {
     let len = b.len();
     let mut p = 0;
@@ -65,9 +65,9 @@ fn lay_out(table: Table, row: Series, b: &[u8]) -> Result<(), Refusal>
 }
 
 // What the registration of a container's fields finds. One of fixed size that has its length needs no look at them.
-pub(crate) fn container_told(table: Table, row: Series, b: &[u8]) -> Result<(), Refusal>
-    requires { Under table.lens.now table.layout.now (row.below + 1) × Placed table row × (length b.now < 2 ^ 32) × (tree_of table.layout.now row.below ≡ container row.below (types_of table.layout.now row)) }
-    ensures { result ≡ lay_out_lem (heads (types_of table.entry.layout.now row)) b.now }
+pub(crate) fn container_told(table: &Table, row: Series, b: &[u8]) -> Result<(), Refusal>
+    requires { Under table.now.lens.now table.now.layout.now (row.below + 1) × Placed table.now row × (length b.now < 2 ^ 32) × (tree_of table.now.layout.now row.below ≡ container row.below (types_of table.now.layout.now row)) }
+    ensures { result ≡ lay_out_lem (heads (types_of table.now.layout.now row)) b.now }
 {
     let own = table.length(row.below);
     if own > 0 && own == b.len() {
@@ -77,9 +77,9 @@ pub(crate) fn container_told(table: Table, row: Series, b: &[u8]) -> Result<(), 
 }
 
 // What is found of a vector of elements of the type e: of fixed size its length is asked alone, else the elements are registered as fields are.
-pub(crate) fn vector_told(table: Table, row: Series, e: usize, b: &[u8]) -> Result<(), Refusal>
-    requires { Placed table row × (row.step ≡ 0) × (e ≡ word_at table.layout.now row.first) × (e < row.below) × (length b.now < 2 ^ 32) × (row.many * width (head (tree_of table.layout.now e)) < 2 ^ 32) }
-    ensures { result ≡ vector_told_lem (head (tree_of table.entry.layout.now e)) row.many b.now }
+pub(crate) fn vector_told(table: &Table, row: Series, e: usize, b: &[u8]) -> Result<(), Refusal>
+    requires { Placed table.now row × (row.step ≡ 0) × (e ≡ word_at table.now.layout.now row.first) × (e < row.below) × (length b.now < 2 ^ 32) × (row.many * width (head (tree_of table.now.layout.now e)) < 2 ^ 32) }
+    ensures { result ≡ vector_told_lem (head (tree_of table.now.layout.now e)) row.many b.now }
 {
     let k = table.length(e);
     if k == 0 {
@@ -89,9 +89,9 @@ pub(crate) fn vector_told(table: Table, row: Series, e: usize, b: &[u8]) -> Resu
 }
 
 // Where the next variable item starts, from the field at the position p0 on.
-fn next_start(table: Table, row: Series, b: &[u8], p0: usize) -> usize
-    requires { Placed table row × InRange (heads (types_of table.layout.now row)) b.now p0 0 }
-    ensures { result ≡ next (heads (types_of table.entry.layout.now row)) b.now p0 }
+fn next_start(table: &Table, row: Series, b: &[u8], p0: usize) -> usize
+    requires { Placed table.now row × InRange (heads (types_of table.now.layout.now row)) b.now p0 0 }
+    ensures { result ≡ next (heads (types_of table.now.layout.now row)) b.now p0 }
 {
     let mut rest = row;
     let mut p = p0;
@@ -106,9 +106,9 @@ fn next_start(table: Table, row: Series, b: &[u8], p0: usize) -> usize
 }
 
 // Where a field lies whose type has the fixed length k, and whose head is at p. Behind it lie the rest.
-pub(crate) fn locate(table: Table, rest: Series, k: usize, b: &[u8], p: usize) -> Span
-    requires { Placed table rest × (k < 2 ^ 32) × InRange (head_of k ∷ heads (types_of table.layout.now rest)) b.now p 0 }
-    ensures { result ≡ span_of (head_of k) (heads (types_of table.entry.layout.now rest)) b.now p }
+pub(crate) fn locate(table: &Table, rest: Series, k: usize, b: &[u8], p: usize) -> Span
+    requires { Placed table.now rest × (k < 2 ^ 32) × InRange (head_of k ∷ heads (types_of table.now.layout.now rest)) b.now p 0 }
+    ensures { result ≡ span_of (head_of k) (heads (types_of table.now.layout.now rest)) b.now p }
 {
     if k == 0 {
         let next = p + 4;

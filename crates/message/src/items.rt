@@ -179,13 +179,13 @@ fn option_at(w: usize, len: usize) -> Result<Option<usize>, Refusal>
 
 // The option that the selector names, of a union whose words are n. Nowhere else is a selector a place in the table.
 fn option_of(
-    table: Table,
+    table: &Table,
     n: Node,
     selector: UnionSelector,
     len: usize,
 ) -> Result<Option<usize>, Refusal>
     requires { (n.at < 2 ^ 32) × (1 ≤ len) }
-    ensures { result ≡ choice_of (Ok selector) table.entry.layout.now (n.at + 2) n.second len }
+    ensures { result ≡ choice_of (Ok selector) table.now.layout.now (n.at + 2) n.second len }
 {
     let byte = selector.get();
     let k = byte as usize;
@@ -198,9 +198,9 @@ fn option_of(
 
 // What the selector of the union b chooses, whose words are n: the type of a body, or none.
 #[tactic(auto, unfolding(crate::specs::Steps::choose))]
-pub(crate) fn select(table: Table, n: Node, b: &[u8]) -> Result<Option<usize>, Refusal>
+pub(crate) fn select(table: &Table, n: Node, b: &[u8]) -> Result<Option<usize>, Refusal>
     requires { n.at < 2 ^ 32 }
-    ensures { result ≡ choose table.entry.layout.now (n.at + 2) n.second b.now }
+    ensures { result ≡ choose table.now.layout.now (n.at + 2) n.second b.now }
 {
     let selector = split_union_bytes(b)?;
     option_of(table, n, selector, b.len())
@@ -234,9 +234,9 @@ enum Inside {
 
 // Elements of the type e, which lie as they should. Numbers and fixed bytes have no rule of their own left to fail, so they are counted and not
 // looked at.
-fn row_inside(table: Table, row: Series, e: usize, words: usize) -> Inside
-    requires { Legal table.layout.now (e + 1) × (row.many < 2 ^ 34) }
-    ensures { result ≡ pick (is_plain (node_of table.entry.layout.now e).kind) (Inside.Counted (1 + row.many) words) (Inside.Fields row words) }
+fn row_inside(table: &Table, row: Series, e: usize, words: usize) -> Inside
+    requires { Legal table.now.layout.now (e + 1) × (row.many < 2 ^ 34) }
+    ensures { result ≡ pick (is_plain (node_of table.now.layout.now e).kind) (Inside.Counted (1 + row.many) words) (Inside.Fields row words) }
 {
     if is_plain(table.look(e).kind) {
         return Inside::Counted {
@@ -248,9 +248,9 @@ fn row_inside(table: Table, row: Series, e: usize, words: usize) -> Inside
 }
 
 // The inside of the list or vector b of the type t, whose words are n.
-fn elements_inside(table: Table, n: Node, t: usize, b: &[u8]) -> Result<Inside, Refusal>
-    requires { Under table.lens.now table.layout.now (t + 1) × (length b.now < 2 ^ 32) × (n ≡ node_of table.layout.now t) × (has_element n.kind ≡ true) }
-    ensures { Found table.entry.lens.now table.entry.layout.now t b.now result }
+fn elements_inside(table: &Table, n: Node, t: usize, b: &[u8]) -> Result<Inside, Refusal>
+    requires { Under table.now.lens.now table.now.layout.now (t + 1) × (length b.now < 2 ^ 32) × (n ≡ node_of table.now.layout.now t) × (has_element n.kind ≡ true) }
+    ensures { Found table.now.lens.now table.now.layout.now t b.now result }
 {
     let e = n.second;
     let third = table.word(n.at + 2);
@@ -269,9 +269,9 @@ fn elements_inside(table: Table, n: Node, t: usize, b: &[u8]) -> Result<Inside, 
 }
 
 // The inside of the container, list or vector b of the type t, whose words are n.
-fn inside_of(table: Table, n: Node, t: usize, b: &[u8]) -> Result<Inside, Refusal>
-    requires { Under table.lens.now table.layout.now (t + 1) × (length b.now < 2 ^ 32) × (n ≡ node_of table.layout.now t) × (is_leaf n.kind ≡ false) × (n.kind ≡ Kind.Union → ⊥) }
-    ensures { Found table.entry.lens.now table.entry.layout.now t b.now result }
+fn inside_of(table: &Table, n: Node, t: usize, b: &[u8]) -> Result<Inside, Refusal>
+    requires { Under table.now.lens.now table.now.layout.now (t + 1) × (length b.now < 2 ^ 32) × (n ≡ node_of table.now.layout.now t) × (is_leaf n.kind ≡ false) × (n.kind ≡ Kind.Union → ⊥) }
+    ensures { Found table.now.lens.now table.now.layout.now t b.now result }
 {
     match n.kind {
         Kind::Container => {
@@ -286,13 +286,13 @@ fn inside_of(table: Table, n: Node, t: usize, b: &[u8]) -> Result<Inside, Refusa
 // Checks the item b of the type t, which starts at start. Only here are fields read, whatever holds them: the loop over them is then no call.
 #[cycle(field_check_item_check)]
 pub(crate) fn item_check(
-    table: Table,
+    table: &Table,
     t: usize,
     b: &[u8],
     start: usize,
 ) -> Result<Counts, RefusedAt>
-    requires { Under table.lens.now table.layout.now (t + 1) × (start + length b.now < 2 ^ 32) }
-    ensures { result ≡ read_item (tree_of table.entry.layout.now t) b.now start }
+    requires { Under table.now.lens.now table.now.layout.now (t + 1) × (start + length b.now < 2 ^ 32) }
+    ensures { result ≡ read_item (tree_of table.now.layout.now t) b.now start }
 {
     let n = table.look(t);
     if is_leaf(n.kind) {
@@ -326,14 +326,14 @@ pub(crate) fn item_check(
 // length from the table, and the registration tested it; free bytes are the most common of variable size: neither needs a call.
 #[cycle(field_check_item_check)]
 fn field_check(
-    table: Table,
+    table: &Table,
     row: Series,
     words: usize,
     b: &[u8],
     start: usize,
 ) -> Result<Counts, RefusedAt>
-    requires { Placed table row × (start + length b.now < 2 ^ 32) × InRange (heads (types_of table.layout.now row)) b.now 0 0 × (words ≤ 1) }
-    ensures { result ≡ and_then (one words 0) (read_fields (types_of table.entry.layout.now row) b.now 0 start) }
+    requires { Placed table.now row × (start + length b.now < 2 ^ 32) × InRange (heads (types_of table.now.layout.now row)) b.now 0 0 × (words ≤ 1) }
+    ensures { result ≡ and_then (one words 0) (read_fields (types_of table.now.layout.now row) b.now 0 start) }
 {
     let mut sum = Counts::item(words, 0);
     let mut rest = row;

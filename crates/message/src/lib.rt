@@ -61,9 +61,9 @@ impl From<Refusal> for RefusedAt {
 }
 
 // The message under a legal table of n types.
-fn check_under(table: Table, n: usize, message: &[u8]) -> Result<Counts, RefusedAt>
-    requires { Under table.lens.now table.layout.now n × (1 ≤ n) }
-    ensures { result ≡ under_table_lem (Ok n) table.entry.layout.now message.now }
+fn check_under(table: &Table, n: usize, message: &[u8]) -> Result<Counts, RefusedAt>
+    requires { Under table.now.lens.now table.now.layout.now n × (1 ≤ n) }
+    ensures { result ≡ under_table_lem (Ok n) table.now.layout.now message.now }
 {
     if message.len() > 4294967295 {
         return Err(RefusedAt::from(Refusal::TooLarge));
@@ -82,19 +82,19 @@ pub fn check(layout: &[u8], message: &[u8]) -> Result<Counts, RefusedAt>
         lens: &lens,
         layout,
     };
-    check_under(table, n, message)
+    check_under(&table, n, message)
 }
 
 // Stores the listing of a message that was checked, where there is room for it.
 fn list_under(
     records: &mut [u8],
-    table: Table,
+    table: &Table,
     n: usize,
     message: &[u8],
 ) -> Result<usize, RefusedAt>
-    requires { Under table.lens.now table.layout.now n × (1 ≤ n) }
-    ensures value { result ≡ listed_of (under_table_lem (Ok n) table.entry.layout.now message.now) records.old }
-    ensures records_after { records.new ≡ records_of (under_table_lem (Ok n) table.entry.layout.now message.now) (message_type table.entry.layout.now n) message.now records.old }
+    requires { Under table.now.lens.now table.now.layout.now n × (1 ≤ n) }
+    ensures value { result ≡ listed_of (under_table_lem (Ok n) table.now.layout.now message.now) records.old }
+    ensures records_after { records.new ≡ records_of (under_table_lem (Ok n) table.now.layout.now message.now) (message_type table.now.layout.now n) message.now records.old }
 {
     let c = check_under(table, n, message)?;
     let room = records.len() / 12;
@@ -118,21 +118,21 @@ pub fn list(layout: &[u8], message: &[u8], records: &mut [u8]) -> Result<usize, 
         lens: &lens,
         layout,
     };
-    list_under(records, table, n, message)
+    list_under(records, &table, n, message)
 }
 
 // Stores the value form of a message that was checked, where there is room for it.
 fn unfold_under(
     contents: &mut [u32],
     bodies: &mut [u8],
-    table: Table,
+    table: &Table,
     n: usize,
     message: &[u8],
 ) -> Result<Sizes, RefusedAt>
-    requires { Under table.lens.now table.layout.now n × (1 ≤ n) }
-    ensures value { result ≡ unfolded_of (under_table_lem (Ok n) table.entry.layout.now message.now) contents.old bodies.old }
-    ensures contents_after { contents.new ≡ filled_of (under_table_lem (Ok n) table.entry.layout.now message.now) contents.old bodies.old contents.old (unfold_words (message_type table.entry.layout.now n) message.now) }
-    ensures bodies_after { bodies.new ≡ filled_of (under_table_lem (Ok n) table.entry.layout.now message.now) contents.old bodies.old bodies.old (unfold_bytes (message_type table.entry.layout.now n) message.now) }
+    requires { Under table.now.lens.now table.now.layout.now n × (1 ≤ n) }
+    ensures value { result ≡ unfolded_of (under_table_lem (Ok n) table.now.layout.now message.now) contents.old bodies.old }
+    ensures contents_after { contents.new ≡ filled_of (under_table_lem (Ok n) table.now.layout.now message.now) contents.old bodies.old contents.old (unfold_words (message_type table.now.layout.now n) message.now) }
+    ensures bodies_after { bodies.new ≡ filled_of (under_table_lem (Ok n) table.now.layout.now message.now) contents.old bodies.old bodies.old (unfold_bytes (message_type table.now.layout.now n) message.now) }
 {
     let c = check_under(table, n, message)?;
     let words = c.words;
@@ -166,5 +166,5 @@ pub fn unfold(
         lens: &lens,
         layout,
     };
-    unfold_under(contents, bodies, table, n, message)
+    unfold_under(contents, bodies, &table, n, message)
 }

@@ -33,13 +33,13 @@ fn put_entry(out: &mut [u8], at: usize, t: usize, b: &[u8], start: usize)
 pub(crate) fn list_item(
     out: &mut [u8],
     at: usize,
-    table: Table,
+    table: &Table,
     t: usize,
     b: &[u8],
     start: usize,
 ) -> usize
-    requires { Under table.lens.now table.layout.now (t + 1) × (start + length b.now < 2 ^ 32) × IsAccepted (read_item (tree_of table.layout.now t) b.now start) × Room out.old at (list_item_lem (tree_of table.layout.now t) b.now start) }
-    ensures { Stored out.old at (list_item_lem (tree_of table.entry.layout.now t) b.now start) result out.new }
+    requires { Under table.now.lens.now table.now.layout.now (t + 1) × (start + length b.now < 2 ^ 32) × IsAccepted (read_item (tree_of table.now.layout.now t) b.now start) × Room out.old at (list_item_lem (tree_of table.now.layout.now t) b.now start) }
+    ensures { Stored out.old at (list_item_lem (tree_of table.now.layout.now t) b.now start) result out.new }
 {
     put_entry(out, at, t, b, start);
     let next = at + 12;
@@ -63,13 +63,13 @@ pub(crate) fn list_item(
 fn list_fields(
     out: &mut [u8],
     at0: usize,
-    table: Table,
+    table: &Table,
     row: Series,
     b: &[u8],
     start: usize,
 ) -> usize
-    requires { Placed table row × (start + length b.now < 2 ^ 32) × InRange (heads (types_of table.layout.now row)) b.now 0 0 × IsAccepted (read_fields (types_of table.layout.now row) b.now 0 start) × Room out.old at0 (list_fields_lem (types_of table.layout.now row) b.now 0 start) }
-    ensures { Stored out.old at0 (list_fields_lem (types_of table.entry.layout.now row) b.now 0 start) result out.new }
+    requires { Placed table.now row × (start + length b.now < 2 ^ 32) × InRange (heads (types_of table.now.layout.now row)) b.now 0 0 × IsAccepted (read_fields (types_of table.now.layout.now row) b.now 0 start) × Room out.old at0 (list_fields_lem (types_of table.now.layout.now row) b.now 0 start) }
+    ensures { Stored out.old at0 (list_fields_lem (types_of table.now.layout.now row) b.now 0 start) result out.new }
 {
     let mut at = at0;
     let mut rest = row;

@@ -60,9 +60,9 @@ impl Series {
     }
 
     // Takes the first off, and says its type.
-    pub(crate) fn next(&mut self, table: Table) -> Option<usize>
-        requires { Placed table self.old }
-        ensures { Next table.entry.layout.now self.old result self.new }
+    pub(crate) fn next(&mut self, table: &Table) -> Option<usize>
+        requires { Placed table.now self.old }
+        ensures { Next table.now.layout.now self.old result self.new }
     {
         if self.many == 0 {
             return None;
@@ -75,9 +75,9 @@ impl Series {
 }
 
 // The fields or elements of an accepted item b of the type t, whose words are n. A leaf has none; a union has no series.
-pub(crate) fn series_in(table: Table, n: Node, t: usize, b: &[u8]) -> Series
-    requires { Under table.lens.now table.layout.now (t + 1) × (length b.now < 2 ^ 32) × (n ≡ node_of table.layout.now t) × (n.kind ≡ Kind.Union → ⊥) × IsAccepted (read_item (tree_of table.layout.now t) b.now 0) }
-    ensures { MadeOf table.entry.lens.now table.entry.layout.now t n b.now result }
+pub(crate) fn series_in(table: &Table, n: Node, t: usize, b: &[u8]) -> Series
+    requires { Under table.now.lens.now table.now.layout.now (t + 1) × (length b.now < 2 ^ 32) × (n ≡ node_of table.now.layout.now t) × (n.kind ≡ Kind.Union → ⊥) × IsAccepted (read_item (tree_of table.now.layout.now t) b.now 0) }
+    ensures { MadeOf table.now.lens.now table.now.layout.now t n b.now result }
 {
     if is_leaf(n.kind) {
         return Series::none();

@@ -29,17 +29,17 @@ pub(crate) struct Table<'a> {
 
 impl<'a> Table<'a> {
     // The i-th word.
-    pub(crate) fn word(self, i: usize) -> usize
-        requires { i < count self.layout.now }
-        ensures { (result ≡ word_at self.entry.layout.now i) × (result < 2 ^ 32) }
+    pub(crate) fn word(&self, i: usize) -> usize
+        requires { i < count self.now.layout.now }
+        ensures { (result ≡ word_at self.now.layout.now i) × (result < 2 ^ 32) }
     {
         four_in(self.layout, 4 * i)
     }
 
     // What the table says of the type t. The word behind the kind may be missing: a boolean has none.
-    pub(crate) fn look(self, t: usize) -> Node
-        requires { Legal self.layout.now (t + 1) }
-        ensures { result ≡ node_of self.entry.layout.now t }
+    pub(crate) fn look(&self, t: usize) -> Node
+        requires { Legal self.now.layout.now (t + 1) }
+        ensures { result ≡ node_of self.now.layout.now t }
     {
         let at = self.word(1 + t);
         let kind = Kind::of(self.word(at)).unwrap();
@@ -48,9 +48,9 @@ impl<'a> Table<'a> {
     }
 
     // The fixed length of the type t.
-    pub(crate) fn length(self, t: usize) -> usize
+    pub(crate) fn length(&self, t: usize) -> usize
         requires { t < 64 }
-        ensures { (result ≡ get_or self.entry.lens.now t 0) × (result < 2 ^ 32) }
+        ensures { (result ≡ get_or self.now.lens.now t 0) × (result < 2 ^ 32) }
     {
         self.lens[t] as usize
     }

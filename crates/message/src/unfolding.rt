@@ -158,9 +158,9 @@ fn put_count(contents: &mut [u32], at: Place, n: Node, m: usize) -> Place
 }
 
 // Whether the type whose words are n is a list of elements of fixed size.
-fn fixed_elements(table: Table, n: Node) -> bool
+fn fixed_elements(table: &Table, n: Node) -> bool
     requires { n.kind ≡ Kind.List → n.second < 64 }
-    ensures { result ≡ true → (n.kind ≡ Kind.List) × (0 < get_or table.entry.lens.now n.second 0) }
+    ensures { result ≡ true → (n.kind ≡ Kind.List) × (0 < get_or table.now.lens.now n.second 0) }
 {
     match n.kind {
         Kind::List => table.length(n.second) > 0,
@@ -184,13 +184,13 @@ fn begin(
     contents: &mut [u32],
     bodies: &mut [u8],
     at: Place,
-    table: Table,
+    table: &Table,
     n: Node,
     t: usize,
     b: &[u8],
 ) -> Opened
-    requires { Under table.lens.now table.layout.now (t + 1) × (length b.now < 2 ^ 32) × (n ≡ node_of table.layout.now t) × (n.kind ≡ Kind.Union → ⊥) × Accepts (tree_of table.layout.now t) b.now × Rooms contents.old bodies.old at (unfold_words (tree_of table.layout.now t) b.now) (unfold_bytes (tree_of table.layout.now t) b.now) }
-    ensures { Filling table.entry.lens.now table.entry.layout.now t b.now (unfold_words (tree_of table.entry.layout.now t) b.now) (unfold_bytes (tree_of table.entry.layout.now t) b.now) contents.old bodies.old at contents.new bodies.new result.at result.left 0 }
+    requires { Under table.now.lens.now table.now.layout.now (t + 1) × (length b.now < 2 ^ 32) × (n ≡ node_of table.now.layout.now t) × (n.kind ≡ Kind.Union → ⊥) × Accepts (tree_of table.now.layout.now t) b.now × Rooms contents.old bodies.old at (unfold_words (tree_of table.now.layout.now t) b.now) (unfold_bytes (tree_of table.now.layout.now t) b.now) }
+    ensures { Filling table.now.lens.now table.now.layout.now t b.now (unfold_words (tree_of table.now.layout.now t) b.now) (unfold_bytes (tree_of table.now.layout.now t) b.now) contents.old bodies.old at contents.new bodies.new result.at result.left 0 }
 {
     if table.length(t) > 0 {
         let end = put_bytes(bodies, at, b);
@@ -215,12 +215,12 @@ pub(crate) fn unfold_item(
     contents: &mut [u32],
     bodies: &mut [u8],
     at: Place,
-    table: Table,
+    table: &Table,
     t: usize,
     b: &[u8],
 ) -> Place
-    requires { Under table.lens.now table.layout.now (t + 1) × (length b.now < 2 ^ 32) × Accepts (tree_of table.layout.now t) b.now × Rooms contents.old bodies.old at (unfold_words (tree_of table.layout.now t) b.now) (unfold_bytes (tree_of table.layout.now t) b.now) }
-    ensures { Filled contents.old bodies.old at (unfold_words (tree_of table.entry.layout.now t) b.now) (unfold_bytes (tree_of table.entry.layout.now t) b.now) result contents.new bodies.new }
+    requires { Under table.now.lens.now table.now.layout.now (t + 1) × (length b.now < 2 ^ 32) × Accepts (tree_of table.now.layout.now t) b.now × Rooms contents.old bodies.old at (unfold_words (tree_of table.now.layout.now t) b.now) (unfold_bytes (tree_of table.now.layout.now t) b.now) }
+    ensures { Filled contents.old bodies.old at (unfold_words (tree_of table.now.layout.now t) b.now) (unfold_bytes (tree_of table.now.layout.now t) b.now) result contents.new bodies.new }
 {
     let n = table.look(t);
     match n.kind {
@@ -246,12 +246,12 @@ fn unfold_fields(
     contents: &mut [u32],
     bodies: &mut [u8],
     at0: Place,
-    table: Table,
+    table: &Table,
     row: Series,
     b: &[u8],
 ) -> Place
-    requires { Placed table row × (length b.now < 2 ^ 32) × InRange (heads (types_of table.layout.now row)) b.now 0 0 × AcceptsAll (types_of table.layout.now row) b.now 0 × Rooms contents.old bodies.old at0 (words_fields (types_of table.layout.now row) b.now 0) (bytes_fields (types_of table.layout.now row) b.now 0) }
-    ensures { Filled contents.old bodies.old at0 (words_fields (types_of table.entry.layout.now row) b.now 0) (bytes_fields (types_of table.entry.layout.now row) b.now 0) result contents.new bodies.new }
+    requires { Placed table.now row × (length b.now < 2 ^ 32) × InRange (heads (types_of table.now.layout.now row)) b.now 0 0 × AcceptsAll (types_of table.now.layout.now row) b.now 0 × Rooms contents.old bodies.old at0 (words_fields (types_of table.now.layout.now row) b.now 0) (bytes_fields (types_of table.now.layout.now row) b.now 0) }
+    ensures { Filled contents.old bodies.old at0 (words_fields (types_of table.now.layout.now row) b.now 0) (bytes_fields (types_of table.now.layout.now row) b.now 0) result contents.new bodies.new }
 {
     let mut at = at0;
     let mut rest = row;

@@ -7,5 +7,5 @@ use Rattle.message.proofs.unfold_under.Goals as goal
 pub unfold_item-requires : goal.unfold_item-requires
 unfold_item-requires c =
     let e : c.args.n - 1 + 1 ≡ c.args.n = omega (arith, c.requires.1) in
-    let q = under-accepted c.args.table.layout.now c.args.message.now c.args.n _ (sym c.in_ok-c.ensures) in
+    let q = under-accepted c.args.table.now.layout.now c.args.message.now c.args.n _ (sym c.in_ok-c.ensures) in
     (rw e c.requires.0, q.1, record { accepted = rw q.0 tt }, form-rooms _ _ _ _ _ q.0 c.if-words-contents.false c.if-bytes-bodies.false)

@@ -18,5 +18,5 @@ length-requires c = omega (arith, element-below _ _ _ _ c.requires.1 c.requires.
 pub returns-in_default : goal.returns-in_default
 returns-in_default c =
     let said = many-elements _ _ _ _ c.requires.1 c.requires.0 c.requires.2 _ 0 c.requires.3 c.in_default.not-Vector in
-    let limit = word_at c.args.table.layout.now (c.args.n.at + 2) in
+    let limit = word_at c.args.table.now.layout.now (c.args.n.at + 2) in
     c.count_of.ensures limit _ (rw (c.length.ensures.0, element-head _ _ _ _ c.requires.1 c.requires.0 c.requires.2) said)
