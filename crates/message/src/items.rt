@@ -238,7 +238,7 @@ fn row_inside(table: &Table, row: Series, e: usize, words: usize) -> Inside
     requires { Legal table.now.layout.now (e + 1) × (row.many < 2 ^ 34) }
     ensures { result ≡ pick (is_plain (node_of table.now.layout.now e).kind) (Inside.Counted (1 + row.many) words) (Inside.Fields row words) }
 {
-    if is_plain(table.look(e).kind) {
+    if is_plain(table.kind(e)) {
         return Inside::Counted {
             records: 1 + row.many,
             words,
@@ -249,8 +249,8 @@ fn row_inside(table: &Table, row: Series, e: usize, words: usize) -> Inside
 
 // The inside of the list or vector b of the type t, whose words are n.
 fn elements_inside(table: &Table, n: Node, t: usize, b: &[u8]) -> Result<Inside, Refusal>
-    requires { Under table.now.lens.now table.now.layout.now (t + 1) × (length b.now < 2 ^ 32) × (n ≡ node_of table.now.layout.now t) × (has_element n.kind ≡ true) }
-    ensures { Found table.now.lens.now table.now.layout.now t b.now result }
+    requires { Under table.now.lens table.now.layout.now (t + 1) × (length b.now < 2 ^ 32) × (n ≡ node_of table.now.layout.now t) × (has_element n.kind ≡ true) }
+    ensures { Found table.now.lens table.now.layout.now t b.now result }
 {
     let e = n.second;
     let third = table.word(n.at + 2);
@@ -270,8 +270,8 @@ fn elements_inside(table: &Table, n: Node, t: usize, b: &[u8]) -> Result<Inside,
 
 // The inside of the container, list or vector b of the type t, whose words are n.
 fn inside_of(table: &Table, n: Node, t: usize, b: &[u8]) -> Result<Inside, Refusal>
-    requires { Under table.now.lens.now table.now.layout.now (t + 1) × (length b.now < 2 ^ 32) × (n ≡ node_of table.now.layout.now t) × (is_leaf n.kind ≡ false) × (n.kind ≡ Kind.Union → ⊥) }
-    ensures { Found table.now.lens.now table.now.layout.now t b.now result }
+    requires { Under table.now.lens table.now.layout.now (t + 1) × (length b.now < 2 ^ 32) × (n ≡ node_of table.now.layout.now t) × (is_leaf n.kind ≡ false) × (n.kind ≡ Kind.Union → ⊥) }
+    ensures { Found table.now.lens table.now.layout.now t b.now result }
 {
     match n.kind {
         Kind::Container => {
@@ -291,7 +291,7 @@ pub(crate) fn item_check(
     b: &[u8],
     start: usize,
 ) -> Result<Counts, RefusedAt>
-    requires { Under table.now.lens.now table.now.layout.now (t + 1) × (start + length b.now < 2 ^ 32) }
+    requires { Under table.now.lens table.now.layout.now (t + 1) × (start + length b.now < 2 ^ 32) }
     ensures { result ≡ read_item (tree_of table.now.layout.now t) b.now start }
 {
     let n = table.look(t);
@@ -339,9 +339,9 @@ fn field_check(
     let mut rest = row;
     let mut p = 0;
     while let Some(f) = rest.next(table) {
-        let node = table.look(f);
+        let kind = table.kind(f);
         let k = table.length(f);
-        if is_plain(node.kind) {
+        if is_plain(kind) {
             sum = sum.add(Counts::item(0, k));
             p += k;
             continue;
@@ -349,13 +349,14 @@ fn field_check(
         let w = locate(table, rest, k, b, p);
         p = w.next;
         let len = w.to - w.from;
+        let node = table.node(f, kind);
         if is_within(node, len) {
             sum = sum.add(Counts::item(1, len));
             continue;
         }
         let at = start + w.from;
         let field = &b[w.from..w.to];
-        if is_leaf(node.kind) {
+        if is_leaf(kind) {
             match leaf_check(node, field) {
                 Ok(sizes) => sum = sum.add(Counts::item(sizes.words, sizes.bytes)),
                 Err(refusal) => return Err(located(refusal, f, at)),

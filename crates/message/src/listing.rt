@@ -38,7 +38,7 @@ pub(crate) fn list_item(
     b: &[u8],
     start: usize,
 ) -> usize
-    requires { Under table.now.lens.now table.now.layout.now (t + 1) × (start + length b.now < 2 ^ 32) × IsAccepted (read_item (tree_of table.now.layout.now t) b.now start) × Room out.old at (list_item_lem (tree_of table.now.layout.now t) b.now start) }
+    requires { Under table.now.lens table.now.layout.now (t + 1) × (start + length b.now < 2 ^ 32) × IsAccepted (read_item (tree_of table.now.layout.now t) b.now start) × Room out.old at (list_item_lem (tree_of table.now.layout.now t) b.now start) }
     ensures { Stored out.old at (list_item_lem (tree_of table.now.layout.now t) b.now start) result out.new }
 {
     put_entry(out, at, t, b, start);
@@ -79,7 +79,7 @@ fn list_fields(
         p = w.next;
         let field = &b[w.from..w.to];
         let place = start + w.from;
-        if is_leaf(table.look(f).kind) {
+        if is_leaf(table.kind(f)) {
             put_entry(out, at, f, field, place);
             at += 12;
             continue;

@@ -23,7 +23,7 @@ pub(crate) fn is_leaf(kind: Kind) -> bool
 // The bytes of the table, and the fixed length of each of its types, 0 for one of variable size.
 #[derive(Clone, Copy)]
 pub(crate) struct Table<'a> {
-    pub lens: &'a [u32; 64],
+    pub lens: [u32; 64],
     pub layout: &'a [u8],
 }
 
@@ -36,21 +36,37 @@ impl<'a> Table<'a> {
         four_in(self.layout, 4 * i)
     }
 
-    // What the table says of the type t. The word behind the kind may be missing: a boolean has none.
+    // The kind of the type t.
+    pub(crate) fn kind(&self, t: usize) -> Kind
+        requires { Legal self.now.layout.now (t + 1) }
+        ensures { result ≡ (node_of self.now.layout.now t).kind }
+    {
+        let at = self.word(1 + t);
+        Kind::of(self.word(at)).unwrap()
+    }
+
+    // What the table says of the type t, which has this kind. The word behind the kind may be missing: a boolean has none.
+    pub(crate) fn node(&self, t: usize, kind: Kind) -> Node
+        requires { Legal self.now.layout.now (t + 1) × (kind ≡ (node_of self.now.layout.now t).kind) }
+        ensures { result ≡ node_of self.now.layout.now t }
+    {
+        let at = self.word(1 + t);
+        let second = word_at(self.layout, at + 1);
+        Node { kind, at, second }
+    }
+
+    // What the table says of the type t.
     pub(crate) fn look(&self, t: usize) -> Node
         requires { Legal self.now.layout.now (t + 1) }
         ensures { result ≡ node_of self.now.layout.now t }
     {
-        let at = self.word(1 + t);
-        let kind = Kind::of(self.word(at)).unwrap();
-        let second = word_at(self.layout, at + 1);
-        Node { kind, at, second }
+        self.node(t, self.kind(t))
     }
 
     // The fixed length of the type t.
     pub(crate) fn length(&self, t: usize) -> usize
         requires { t < 64 }
-        ensures { (result ≡ get_or self.now.lens.now t 0) × (result < 2 ^ 32) }
+        ensures { (result ≡ get_or self.now.lens t 0) × (result < 2 ^ 32) }
     {
         self.lens[t] as usize
     }

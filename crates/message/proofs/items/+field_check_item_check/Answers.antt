@@ -1,6 +1,6 @@
 -- Each step of the loop is one of `Reading`, by where the field lies; an item goes by its kind. What is inside it was found before (`Found`).
 -- Assumes nothing.
-use Rattle.std.proofs.Common.{◌≡◌, ℕ, List, Some, get_or, sym, ap, ◌∙◌, arith, length-take, length-drop}
+use Rattle.std.proofs.Common.{◌≡◌, ℕ, List, Some, get_or, refl, sym, ap, ◌∙◌, arith, length-take, length-drop}
 use Rattle.standard.specs.Types.{Tys, head, heads}
 use Rattle.standard.specs.Parts.{span_of}
 use Rattle.standard.specs.declared.Span.{Span}
@@ -24,8 +24,8 @@ field_check-loop-f-init t c =
 pub field_check-next-requires : goal.field_check-next-requires
 field_check-next-requires t c = c.loop-f.invariant.row
 
-pub field_check-look-node-requires : goal.field_check-look-node-requires
-field_check-look-node-requires t c = (next_under _ _ _ _ _ c.loop-f.invariant.row c.in-Some.ensures).legal
+pub field_check-kind-kind-requires : goal.field_check-kind-kind-requires
+field_check-kind-kind-requires t c = (next_under _ _ _ _ _ c.loop-f.invariant.row c.in-Some.ensures).legal
 
 pub field_check-length-k-requires : goal.field_check-length-k-requires
 field_check-length-k-requires t c = next_few _ _ _ _ _ c.loop-f.invariant.row c.in-Some.ensures
@@ -36,14 +36,14 @@ field_check-add-sum-requires t c =
 
 pub field_check-overflow_add-p : goal.field_check-overflow_add-p
 field_check-overflow_add-p t c =
-    let plain = sym c.is_plain.ensures ∙ c.if-is_plain.true in
-    omega (arith, plain_fits c.loop-f.invariant c.in-Some.ensures c.look-node.ensures plain c.length-k.ensures.0, c.requires.1)
+    let plain = rw c.kind-kind.ensures at (sym c.is_plain.ensures ∙ c.if-is_plain.true) in
+    omega (arith, plain_fits c.loop-f.invariant c.in-Some.ensures refl plain c.length-k.ensures.0, c.requires.1)
 
 pub field_check-loop-f-preserved-then-is_plain : goal.field_check-loop-f-preserved-then-is_plain
 field_check-loop-f-preserved-then-is_plain t c =
-    let plain = sym c.is_plain.ensures ∙ c.if-is_plain.true in
+    let plain = rw c.kind-kind.ensures at (sym c.is_plain.ensures ∙ c.if-is_plain.true) in
     rw (c.add-sum.ensures, c.item.ensures)
-    (plain-next c.loop-f.invariant c.in-Some.ensures c.look-node.ensures plain c.length-k.ensures.0 c.requires.1)
+    (plain-next c.loop-f.invariant c.in-Some.ensures refl plain c.length-k.ensures.0 c.requires.1)
 
 pub field_check-locate-w-requires : goal.field_check-locate-w-requires
 field_check-locate-w-requires t c =
@@ -59,6 +59,9 @@ said :
     (g : Reading lens l t ts own b s sum r p) (i : Next l r (Some f) r') {k : ℕ} → k ≡ get_or lens f 0 → {w : Span}
     → w ≡ span_of (head_of k) (heads (types_of l r')) b p → w ≡ span_of (head (tree_of l f)) (heads (types_of l r')) b p
 said g i q e = span-said _ _ _ _ _ g.row i _ _ g.ranges _ q _ e
+
+pub field_check-node-node-requires : goal.field_check-node-node-requires
+field_check-node-node-requires t c = ((next_under _ _ _ _ _ c.loop-f.invariant.row c.in-Some.ensures).legal, c.kind-kind.ensures)
 
 pub field_check-overflow_sub-len : goal.field_check-overflow_sub-len
 field_check-overflow_sub-len t c =
@@ -79,7 +82,7 @@ field_check-loop-f-preserved-then-is_within t c =
     let span = said c.loop-f.invariant c.in-Some.ensures c.length-k.ensures.0 c.locate-w.ensures in
     let free = c.is_within.ensures c.if-is_within.true in
     rw (c.add-sum-then-is_within.ensures, c.item-then-is_within.ensures)
-    (free_next c.loop-f.invariant c.in-Some.ensures span c.look-node.ensures free.0 free.1 c.requires.1)
+    (free_next c.loop-f.invariant c.in-Some.ensures span c.node-node.ensures free.0 free.1 c.requires.1)
 
 pub field_check-overflow_add-at : goal.field_check-overflow_add-at
 field_check-overflow_add-at t c =
@@ -104,20 +107,20 @@ field_check-slice_bounds-field-end t c =
 pub field_check-add-sum-requires-in-Ok : goal.field_check-add-sum-requires-in-Ok
 field_check-add-sum-requires-in-Ok t c =
     let span = said c.loop-f.invariant c.in-Some.ensures c.length-k.ensures.0 c.locate-w.ensures in
-    let says = leaf-told _ _ _ c.look-node.ensures (sym c.is_leaf.ensures ∙ c.if-is_leaf.true) _ _ _ c.in-Ok.is c.leaf_check.ensures in
+    let says = leaf-told _ _ _ c.node-node.ensures (rw (c.node-node.ensures, ← c.kind-kind.ensures) (sym c.is_leaf.ensures ∙ c.if-is_leaf.true)) _ _ _ c.in-Ok.is c.leaf_check.ensures in
     let counts = reading-item c.loop-f.invariant c.in-Some.ensures span _ c.requires.1 (says _) in
     (reading_small c.loop-f.invariant, rw c.item-in-Ok.ensures (small-more _ counts))
 
 pub field_check-returns-in-Err : goal.field_check-returns-in-Err
 field_check-returns-in-Err t c =
     let span = said c.loop-f.invariant c.in-Some.ensures c.length-k.ensures.0 c.locate-w.ensures in
-    let says = leaf-told _ _ _ c.look-node.ensures (sym c.is_leaf.ensures ∙ c.if-is_leaf.true) _ _ _ c.in-Err.is c.leaf_check.ensures in
+    let says = leaf-told _ _ _ c.node-node.ensures (rw (c.node-node.ensures, ← c.kind-kind.ensures) (sym c.is_leaf.ensures ∙ c.if-is_leaf.true)) _ _ _ c.in-Err.is c.leaf_check.ensures in
     rw c.located.ensures (reading_stop c.loop-f.invariant c.in-Some.ensures span _ (says _))
 
 pub field_check-loop-f-preserved-then-is_leaf : goal.field_check-loop-f-preserved-then-is_leaf
 field_check-loop-f-preserved-then-is_leaf t c =
     let span = said c.loop-f.invariant c.in-Some.ensures c.length-k.ensures.0 c.locate-w.ensures in
-    let says = leaf-told _ _ _ c.look-node.ensures (sym c.is_leaf.ensures ∙ c.if-is_leaf.true) _ _ _ c.in-Ok.is c.leaf_check.ensures in
+    let says = leaf-told _ _ _ c.node-node.ensures (rw (c.node-node.ensures, ← c.kind-kind.ensures) (sym c.is_leaf.ensures ∙ c.if-is_leaf.true)) _ _ _ c.in-Ok.is c.leaf_check.ensures in
     rw (c.add-sum-in-Ok.ensures, c.item-in-Ok.ensures) (reading-next c.loop-f.invariant c.in-Some.ensures span _ c.requires.1 (says _))
 
 pub field_check-item_check-requires : goal.field_check-item_check-requires

@@ -1,5 +1,5 @@
 -- Items and fields call each other; the type number falls. The loop over the fields keeps `Storing`. Assumes nothing.
-use Rattle.std.proofs.Common.{◌≡◌, ℕ, List, Some, get_or, sym, ◌∙◌, arith, length-take, length-drop}
+use Rattle.std.proofs.Common.{◌≡◌, ℕ, List, Some, get_or, refl, sym, ◌∙◌, arith, length-take, length-drop}
 use Rattle.standard.specs.Types.{Tys, head, heads}
 use Rattle.standard.specs.Parts.{span_of}
 use Rattle.standard.specs.declared.Span.{Span}
@@ -54,8 +54,8 @@ list_fields-overflow_add-place t c =
     let span = said c.loop-f.invariant c.in-Some.ensures c.length.ensures.0 c.locate-w.ensures in
     omega (arith, storing_lies c.loop-f.invariant c.in-Some.ensures span, c.requires.1)
 
-pub list_fields-look-requires : goal.list_fields-look-requires
-list_fields-look-requires t c = (next_under _ _ _ _ _ c.loop-f.invariant.row c.in-Some.ensures).legal
+pub list_fields-kind-requires : goal.list_fields-kind-requires
+list_fields-kind-requires t c = (next_under _ _ _ _ _ c.loop-f.invariant.row c.in-Some.ensures).legal
 
 pub list_fields-put_entry-requires : goal.list_fields-put_entry-requires
 list_fields-put_entry-requires t c =
@@ -68,7 +68,7 @@ pub list_fields-loop-f-preserved-then-is_leaf : goal.list_fields-loop-f-preserve
 list_fields-loop-f-preserved-then-is_leaf t c =
     let span = said c.loop-f.invariant c.in-Some.ensures c.length.ensures.0 c.locate-w.ensures in
     storing_next c.loop-f.invariant c.in-Some.ensures span _ _
-    (leaf-stored _ _ _ c.look.ensures (sym c.is_leaf.ensures ∙ c.if-is_leaf.true) _ _ _ _ _ _ c.put_entry.ensures)
+    (leaf-stored _ _ _ refl (rw c.kind.ensures at (sym c.is_leaf.ensures ∙ c.if-is_leaf.true)) _ _ _ _ _ _ c.put_entry.ensures)
 
 pub list_fields-list_item-at-requires : goal.list_fields-list_item-at-requires
 list_fields-list_item-at-requires t c =

@@ -1,9 +1,9 @@
--- Three words of the table, of which a legal type has the first two. Assumes nothing.
-use Rattle.std.proofs.Common.{refl, arith}
+-- Two words of the table, of which the second is a kind word. Assumes nothing.
+use Rattle.std.proofs.Common.{arith, refl}
 use Rattle.layout.specs.Tree.{node_of}
 use Rattle.layout.specs.Table.{count}
 use Rattle.layout.proofs.Facts.{legal_node, legal-words}
-use Rattle.message.proofs.table.Table.look.Goals as goal
+use Rattle.message.proofs.table.Table.kind.Goals as goal
 
 pub overflow_add-t : goal.overflow_add-t
 unfolding count
@@ -15,20 +15,12 @@ word-at-requires c = (legal-words _ _ c.requires).0
 pub word-requires : goal.word-requires
 word-requires c = rw c.word-at.ensures.0 (legal-words _ _ c.requires).1
 
--- The kind word is one.
-pub unwrap-kind-requires : goal.unwrap-kind-requires
+pub unwrap-requires : goal.unwrap-requires
 unfolding node_of
-unwrap-kind-requires c =
+unwrap-requires c =
     let g = (legal_node _ _ _ refl c.requires).known in
     rw (c.of.ensures, c.word.ensures.0, c.word-at.ensures.0, g)
 
 pub returns : goal.returns
 unfolding node_of
-returns c =
-    rw (
-      ← c.word-at.ensures.0,
-      c.word_at-second.ensures.0,
-      ← c.word.ensures.0,
-      ← c.of.ensures,
-      c.unwrap-kind.ensures,
-    )
+returns c = rw (← c.word-at.ensures.0, ← c.word.ensures.0, ← c.of.ensures, c.unwrap.ensures)
