@@ -66,7 +66,7 @@ rest_of r = record { below = r.below; first = r.first + r.step; step = r.step; m
 
 -- They can be read in a table.
 abbrev pub Placed : Table → Series → Type 0
-Placed x r = Row x.lens x.layout.now r.below r.first r.step r.many
+Placed x r = Row x.lens.now x.layout.now r.below r.first r.step r.many
 
 -- The first is taken off: its type, if there is one, and what is left.
 abbrev pub Next : List ℕ → Series → Option ℕ → Series → Type 0

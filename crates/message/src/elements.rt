@@ -116,7 +116,7 @@ pub(crate) fn count_of(k: usize, b: &[u8]) -> usize
 
 // How many elements a list or vector of the type t has that was accepted, whose words are n.
 pub(crate) fn many_in(table: &Table, n: Node, t: usize, b: &[u8]) -> usize
-    requires { Under table.now.lens table.now.layout.now (t + 1) × (n ≡ node_of table.now.layout.now t) × (has_element n.kind ≡ true) × IsAccepted (read_item (tree_of table.now.layout.now t) b.now 0) }
+    requires { Under table.now.lens.now table.now.layout.now (t + 1) × (n ≡ node_of table.now.layout.now t) × (has_element n.kind ≡ true) × IsAccepted (read_item (tree_of table.now.layout.now t) b.now 0) }
     ensures { result ≡ many_in_lem table.now.layout.now n (head (tree_of table.now.layout.now n.second)) b.now }
 {
     match n.kind {

@@ -249,8 +249,8 @@ fn row_inside(table: &Table, row: Series, e: usize, words: usize) -> Inside
 
 // The inside of the list or vector b of the type t, whose words are n.
 fn elements_inside(table: &Table, n: Node, t: usize, b: &[u8]) -> Result<Inside, Refusal>
-    requires { Under table.now.lens table.now.layout.now (t + 1) × (length b.now < 2 ^ 32) × (n ≡ node_of table.now.layout.now t) × (has_element n.kind ≡ true) }
-    ensures { Found table.now.lens table.now.layout.now t b.now result }
+    requires { Under table.now.lens.now table.now.layout.now (t + 1) × (length b.now < 2 ^ 32) × (n ≡ node_of table.now.layout.now t) × (has_element n.kind ≡ true) }
+    ensures { Found table.now.lens.now table.now.layout.now t b.now result }
 {
     let e = n.second;
     let third = table.word(n.at + 2);
@@ -270,8 +270,8 @@ fn elements_inside(table: &Table, n: Node, t: usize, b: &[u8]) -> Result<Inside,
 
 // The inside of the container, list or vector b of the type t, whose words are n.
 fn inside_of(table: &Table, n: Node, t: usize, b: &[u8]) -> Result<Inside, Refusal>
-    requires { Under table.now.lens table.now.layout.now (t + 1) × (length b.now < 2 ^ 32) × (n ≡ node_of table.now.layout.now t) × (is_leaf n.kind ≡ false) × (n.kind ≡ Kind.Union → ⊥) }
-    ensures { Found table.now.lens table.now.layout.now t b.now result }
+    requires { Under table.now.lens.now table.now.layout.now (t + 1) × (length b.now < 2 ^ 32) × (n ≡ node_of table.now.layout.now t) × (is_leaf n.kind ≡ false) × (n.kind ≡ Kind.Union → ⊥) }
+    ensures { Found table.now.lens.now table.now.layout.now t b.now result }
 {
     match n.kind {
         Kind::Container => {
@@ -291,7 +291,7 @@ pub(crate) fn item_check(
     b: &[u8],
     start: usize,
 ) -> Result<Counts, RefusedAt>
-    requires { Under table.now.lens table.now.layout.now (t + 1) × (start + length b.now < 2 ^ 32) }
+    requires { Under table.now.lens.now table.now.layout.now (t + 1) × (start + length b.now < 2 ^ 32) }
     ensures { result ≡ read_item (tree_of table.now.layout.now t) b.now start }
 {
     let n = table.look(t);
@@ -335,21 +335,23 @@ fn field_check(
     requires { Placed table.now row × (start + length b.now < 2 ^ 32) × InRange (heads (types_of table.now.layout.now row)) b.now 0 0 × (words ≤ 1) }
     ensures { result ≡ and_then (one words 0) (read_fields (types_of table.now.layout.now row) b.now 0 start) }
 {
+    // A copy of the table stays in registers, whatever is stored meanwhile.
+    let known = *table;
     let mut sum = Counts::item(words, 0);
     let mut rest = row;
     let mut p = 0;
-    while let Some(f) = rest.next(table) {
-        let kind = table.kind(f);
-        let k = table.length(f);
+    while let Some(f) = rest.next(&known) {
+        let kind = known.kind(f);
+        let k = known.length(f);
         if is_plain(kind) {
             sum = sum.add(Counts::item(0, k));
             p += k;
             continue;
         }
-        let w = locate(table, rest, k, b, p);
+        let w = locate(&known, rest, k, b, p);
         p = w.next;
         let len = w.to - w.from;
-        let node = table.node(f, kind);
+        let node = known.node(f, kind);
         if is_within(node, len) {
             sum = sum.add(Counts::item(1, len));
             continue;

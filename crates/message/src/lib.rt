@@ -62,7 +62,7 @@ impl From<Refusal> for RefusedAt {
 
 // The message under a legal table of n types.
 fn check_under(table: &Table, n: usize, message: &[u8]) -> Result<Counts, RefusedAt>
-    requires { Under table.now.lens table.now.layout.now n × (1 ≤ n) }
+    requires { Under table.now.lens.now table.now.layout.now n × (1 ≤ n) }
     ensures { result ≡ under_table_lem (Ok n) table.now.layout.now message.now }
 {
     if message.len() > 4294967295 {
@@ -76,11 +76,12 @@ fn check_under(table: &Table, n: usize, message: &[u8]) -> Result<Counts, Refuse
 pub fn check(layout: &[u8], message: &[u8]) -> Result<Counts, RefusedAt>
     ensures { result ≡ check_message layout.now message.now }
 {
-    let mut table = Table {
-        lens: [0; 64],
+    let mut lens = [0u32; 64];
+    let n = table_of(&mut lens, layout)?;
+    let table = Table {
+        lens: &lens,
         layout,
     };
-    let n = table_of(&mut table.lens, layout)?;
     check_under(&table, n, message)
 }
 
@@ -91,7 +92,7 @@ fn list_under(
     n: usize,
     message: &[u8],
 ) -> Result<usize, RefusedAt>
-    requires { Under table.now.lens table.now.layout.now n × (1 ≤ n) }
+    requires { Under table.now.lens.now table.now.layout.now n × (1 ≤ n) }
     ensures value { result ≡ listed_of (under_table_lem (Ok n) table.now.layout.now message.now) records.old }
     ensures records_after { records.new ≡ records_of (under_table_lem (Ok n) table.now.layout.now message.now) (message_type table.now.layout.now n) message.now records.old }
 {
@@ -111,11 +112,12 @@ pub fn list(layout: &[u8], message: &[u8], records: &mut [u8]) -> Result<usize, 
     ensures value { result ≡ list_message layout.now message.now records.old }
     ensures records_after { records.new ≡ listed_records layout.now message.now records.old }
 {
-    let mut table = Table {
-        lens: [0; 64],
+    let mut lens = [0u32; 64];
+    let n = table_of(&mut lens, layout)?;
+    let table = Table {
+        lens: &lens,
         layout,
     };
-    let n = table_of(&mut table.lens, layout)?;
     list_under(records, &table, n, message)
 }
 
@@ -127,7 +129,7 @@ fn unfold_under(
     n: usize,
     message: &[u8],
 ) -> Result<Sizes, RefusedAt>
-    requires { Under table.now.lens table.now.layout.now n × (1 ≤ n) }
+    requires { Under table.now.lens.now table.now.layout.now n × (1 ≤ n) }
     ensures value { result ≡ unfolded_of (under_table_lem (Ok n) table.now.layout.now message.now) contents.old bodies.old }
     ensures contents_after { contents.new ≡ filled_of (under_table_lem (Ok n) table.now.layout.now message.now) contents.old bodies.old contents.old (unfold_words (message_type table.now.layout.now n) message.now) }
     ensures bodies_after { bodies.new ≡ filled_of (under_table_lem (Ok n) table.now.layout.now message.now) contents.old bodies.old bodies.old (unfold_bytes (message_type table.now.layout.now n) message.now) }
@@ -158,10 +160,11 @@ pub fn unfold(
     ensures contents_after { contents.new ≡ unfolded_words layout.now message.now contents.old bodies.old }
     ensures bodies_after { bodies.new ≡ unfolded_bytes layout.now message.now contents.old bodies.old }
 {
-    let mut table = Table {
-        lens: [0; 64],
+    let mut lens = [0u32; 64];
+    let n = table_of(&mut lens, layout)?;
+    let table = Table {
+        lens: &lens,
         layout,
     };
-    let n = table_of(&mut table.lens, layout)?;
     unfold_under(contents, bodies, &table, n, message)
 }

@@ -38,7 +38,7 @@ pub(crate) fn list_item(
     b: &[u8],
     start: usize,
 ) -> usize
-    requires { Under table.now.lens table.now.layout.now (t + 1) × (start + length b.now < 2 ^ 32) × IsAccepted (read_item (tree_of table.now.layout.now t) b.now start) × Room out.old at (list_item_lem (tree_of table.now.layout.now t) b.now start) }
+    requires { Under table.now.lens.now table.now.layout.now (t + 1) × (start + length b.now < 2 ^ 32) × IsAccepted (read_item (tree_of table.now.layout.now t) b.now start) × Room out.old at (list_item_lem (tree_of table.now.layout.now t) b.now start) }
     ensures { Stored out.old at (list_item_lem (tree_of table.now.layout.now t) b.now start) result out.new }
 {
     put_entry(out, at, t, b, start);
@@ -71,15 +71,17 @@ fn list_fields(
     requires { Placed table.now row × (start + length b.now < 2 ^ 32) × InRange (heads (types_of table.now.layout.now row)) b.now 0 0 × IsAccepted (read_fields (types_of table.now.layout.now row) b.now 0 start) × Room out.old at0 (list_fields_lem (types_of table.now.layout.now row) b.now 0 start) }
     ensures { Stored out.old at0 (list_fields_lem (types_of table.now.layout.now row) b.now 0 start) result out.new }
 {
+    // A copy of the table stays in registers, whatever is stored meanwhile.
+    let known = *table;
     let mut at = at0;
     let mut rest = row;
     let mut p = 0;
-    while let Some(f) = rest.next(table) {
-        let w = locate(table, rest, table.length(f), b, p);
+    while let Some(f) = rest.next(&known) {
+        let w = locate(&known, rest, known.length(f), b, p);
         p = w.next;
         let field = &b[w.from..w.to];
         let place = start + w.from;
-        if is_leaf(table.kind(f)) {
+        if is_leaf(known.kind(f)) {
             put_entry(out, at, f, field, place);
             at += 12;
             continue;

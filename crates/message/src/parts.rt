@@ -76,8 +76,8 @@ impl Series {
 
 // The fields or elements of an accepted item b of the type t, whose words are n. A leaf has none; a union has no series.
 pub(crate) fn series_in(table: &Table, n: Node, t: usize, b: &[u8]) -> Series
-    requires { Under table.now.lens table.now.layout.now (t + 1) × (length b.now < 2 ^ 32) × (n ≡ node_of table.now.layout.now t) × (n.kind ≡ Kind.Union → ⊥) × IsAccepted (read_item (tree_of table.now.layout.now t) b.now 0) }
-    ensures { MadeOf table.now.lens table.now.layout.now t n b.now result }
+    requires { Under table.now.lens.now table.now.layout.now (t + 1) × (length b.now < 2 ^ 32) × (n ≡ node_of table.now.layout.now t) × (n.kind ≡ Kind.Union → ⊥) × IsAccepted (read_item (tree_of table.now.layout.now t) b.now 0) }
+    ensures { MadeOf table.now.lens.now table.now.layout.now t n b.now result }
 {
     if is_leaf(n.kind) {
         return Series::none();

@@ -23,7 +23,7 @@ pub(crate) fn is_leaf(kind: Kind) -> bool
 // The bytes of the table, and the fixed length of each of its types, 0 for one of variable size.
 #[derive(Clone, Copy)]
 pub(crate) struct Table<'a> {
-    pub lens: [u32; 64],
+    pub lens: &'a [u32; 64],
     pub layout: &'a [u8],
 }
 
@@ -66,7 +66,7 @@ impl<'a> Table<'a> {
     // The fixed length of the type t.
     pub(crate) fn length(&self, t: usize) -> usize
         requires { t < 64 }
-        ensures { (result ≡ get_or self.now.lens t 0) × (result < 2 ^ 32) }
+        ensures { (result ≡ get_or self.now.lens.now t 0) × (result < 2 ^ 32) }
     {
         self.lens[t] as usize
     }

@@ -160,7 +160,7 @@ fn put_count(contents: &mut [u32], at: Place, n: Node, m: usize) -> Place
 // Whether the type whose words are n is a list of elements of fixed size.
 fn fixed_elements(table: &Table, n: Node) -> bool
     requires { n.kind ≡ Kind.List → n.second < 64 }
-    ensures { result ≡ true → (n.kind ≡ Kind.List) × (0 < get_or table.now.lens n.second 0) }
+    ensures { result ≡ true → (n.kind ≡ Kind.List) × (0 < get_or table.now.lens.now n.second 0) }
 {
     match n.kind {
         Kind::List => table.length(n.second) > 0,
@@ -189,8 +189,8 @@ fn begin(
     t: usize,
     b: &[u8],
 ) -> Opened
-    requires { Under table.now.lens table.now.layout.now (t + 1) × (length b.now < 2 ^ 32) × (n ≡ node_of table.now.layout.now t) × (n.kind ≡ Kind.Union → ⊥) × Accepts (tree_of table.now.layout.now t) b.now × Rooms contents.old bodies.old at (unfold_words (tree_of table.now.layout.now t) b.now) (unfold_bytes (tree_of table.now.layout.now t) b.now) }
-    ensures { Filling table.now.lens table.now.layout.now t b.now (unfold_words (tree_of table.now.layout.now t) b.now) (unfold_bytes (tree_of table.now.layout.now t) b.now) contents.old bodies.old at contents.new bodies.new result.at result.left 0 }
+    requires { Under table.now.lens.now table.now.layout.now (t + 1) × (length b.now < 2 ^ 32) × (n ≡ node_of table.now.layout.now t) × (n.kind ≡ Kind.Union → ⊥) × Accepts (tree_of table.now.layout.now t) b.now × Rooms contents.old bodies.old at (unfold_words (tree_of table.now.layout.now t) b.now) (unfold_bytes (tree_of table.now.layout.now t) b.now) }
+    ensures { Filling table.now.lens.now table.now.layout.now t b.now (unfold_words (tree_of table.now.layout.now t) b.now) (unfold_bytes (tree_of table.now.layout.now t) b.now) contents.old bodies.old at contents.new bodies.new result.at result.left 0 }
 {
     if table.length(t) > 0 {
         let end = put_bytes(bodies, at, b);
@@ -219,7 +219,7 @@ pub(crate) fn unfold_item(
     t: usize,
     b: &[u8],
 ) -> Place
-    requires { Under table.now.lens table.now.layout.now (t + 1) × (length b.now < 2 ^ 32) × Accepts (tree_of table.now.layout.now t) b.now × Rooms contents.old bodies.old at (unfold_words (tree_of table.now.layout.now t) b.now) (unfold_bytes (tree_of table.now.layout.now t) b.now) }
+    requires { Under table.now.lens.now table.now.layout.now (t + 1) × (length b.now < 2 ^ 32) × Accepts (tree_of table.now.layout.now t) b.now × Rooms contents.old bodies.old at (unfold_words (tree_of table.now.layout.now t) b.now) (unfold_bytes (tree_of table.now.layout.now t) b.now) }
     ensures { Filled contents.old bodies.old at (unfold_words (tree_of table.now.layout.now t) b.now) (unfold_bytes (tree_of table.now.layout.now t) b.now) result contents.new bodies.new }
 {
     let n = table.look(t);
@@ -253,21 +253,23 @@ fn unfold_fields(
     requires { Placed table.now row × (length b.now < 2 ^ 32) × InRange (heads (types_of table.now.layout.now row)) b.now 0 0 × AcceptsAll (types_of table.now.layout.now row) b.now 0 × Rooms contents.old bodies.old at0 (words_fields (types_of table.now.layout.now row) b.now 0) (bytes_fields (types_of table.now.layout.now row) b.now 0) }
     ensures { Filled contents.old bodies.old at0 (words_fields (types_of table.now.layout.now row) b.now 0) (bytes_fields (types_of table.now.layout.now row) b.now 0) result contents.new bodies.new }
 {
+    // A copy of the table stays in registers, whatever is stored meanwhile.
+    let known = *table;
     let mut at = at0;
     let mut rest = row;
     let mut p = 0;
-    while let Some(f) = rest.next(table) {
-        let k = table.length(f);
+    while let Some(f) = rest.next(&known) {
+        let k = known.length(f);
         if k > 0 {
             let to = p + k;
             at = put_bytes(bodies, at, &b[p..to]);
             p = to;
             continue;
         }
-        let w = locate(table, rest, k, b, p);
+        let w = locate(&known, rest, k, b, p);
         p = w.next;
         let field = &b[w.from..w.to];
-        let n = table.look(f);
+        let n = known.look(f);
         at = if is_leaf(n.kind) {
             unfold_leaf(contents, bodies, at, n, f, field)
         } else {

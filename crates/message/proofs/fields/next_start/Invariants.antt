@@ -6,7 +6,7 @@ use Rattle.message.proofs.fields.next_start.Given as goal
 
 abbrev pub invariant-loop-f : goal.invariant-loop-f
 invariant-loop-f l =
-    Seeking l.table.lens l.table.layout.now l.b (next (heads (types_of l.table.layout.now l.fn.row)) l.b l.p0) l.rest l.p
+    Seeking l.table.lens.now l.table.layout.now l.b (next (heads (types_of l.table.layout.now l.fn.row)) l.b l.p0) l.rest l.p
 
 abbrev pub decreases-loop-f : goal.decreases-loop-f
 decreases-loop-f l = l.rest.many

@@ -12,7 +12,7 @@ decreases-item_check l = 2 * l.t + 1
 
 abbrev pub invariant-field_check-loop-f : goal.invariant-field_check-loop-f
 invariant-field_check-loop-f l =
-    Reading l.table.lens l.table.layout.now l.fn.row.below (types_of l.table.layout.now l.fn.row) l.words l.b l.start l.sum l.rest l.p
+    Reading l.table.lens.now l.table.layout.now l.fn.row.below (types_of l.table.layout.now l.fn.row) l.words l.b l.start l.sum l.rest l.p
 
 abbrev pub decreases-field_check-loop-f : goal.decreases-field_check-loop-f
 decreases-field_check-loop-f l = l.rest.many

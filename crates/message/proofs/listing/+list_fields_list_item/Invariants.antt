@@ -12,7 +12,7 @@ decreases-list_item l = 2 * l.t + 1
 
 abbrev pub invariant-list_fields-loop-f : goal.invariant-list_fields-loop-f
 invariant-list_fields-loop-f l =
-    Storing l.table.lens l.table.layout.now l.fn.row.below (types_of l.table.layout.now l.fn.row) l.b l.start l.initial.out l.fn.at0 l.out l.at l.rest l.p
+    Storing l.table.lens.now l.table.layout.now l.fn.row.below (types_of l.table.layout.now l.fn.row) l.b l.start l.initial.out l.fn.at0 l.out l.at l.rest l.p
 
 abbrev pub decreases-list_fields-loop-f : goal.decreases-list_fields-loop-f
 decreases-list_fields-loop-f l = l.rest.many

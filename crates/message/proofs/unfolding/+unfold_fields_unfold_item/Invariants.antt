@@ -13,7 +13,7 @@ decreases-unfold_item l = 2 * l.t + 1
 
 abbrev pub invariant-unfold_fields-loop-f : goal.invariant-unfold_fields-loop-f
 invariant-unfold_fields-loop-f l =
-    Filling l.table.lens l.table.layout.now l.fn.row.below l.b (words_fields (types_of l.table.layout.now l.fn.row) l.b 0)
+    Filling l.table.lens.now l.table.layout.now l.fn.row.below l.b (words_fields (types_of l.table.layout.now l.fn.row) l.b 0)
     (bytes_fields (types_of l.table.layout.now l.fn.row) l.b 0) l.initial.contents l.initial.bodies l.initial.at l.contents l.bodies l.at l.rest l.p
 
 abbrev pub decreases-unfold_fields-loop-f : goal.decreases-unfold_fields-loop-f
