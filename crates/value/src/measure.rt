@@ -32,6 +32,7 @@ fn add(a: usize, b: usize) -> usize
 }
 
 // The raw bytes of so many bits.
+// kept: message says the same. It is one expression, and a call into another crate would be no plainer.
 pub(crate) fn raw_bytes(bits: usize) -> usize
     ensures { result ≡ raw_bytes_lem bits }
 {
@@ -39,6 +40,7 @@ pub(crate) fn raw_bytes(bits: usize) -> usize
 }
 
 // A number or fixed bytes: as many body bytes as the type's length says, and no contents word.
+// kept: message says the same. It is one expression, and a call into another crate would be no plainer.
 #[tactic(auto, unfolding(message::specs::Steps::is_plain))]
 fn is_plain(kind: Kind) -> bool
     ensures { result ≡ is_plain kind }

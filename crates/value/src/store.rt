@@ -27,7 +27,8 @@ pub(crate) struct Stop {
     pub to: usize,
 }
 
-// Stores the bytes of src from to on.
+// Stores the bytes of src from `to` on.
+// kept: encode and message have it too. A shared one would be public, and a public function has no `requires` (a rule of the project).
 #[tactic(auto, using(standard::proofs::Store::part_sets))]
 fn copy_into(out: &mut [u8], to: usize, src: &[u8])
     requires { to + length src.now ≤ length out.old }
@@ -111,6 +112,7 @@ fn put_selector(out: &mut [u8], to: usize, form: Form, at: Place) -> Stop
 }
 
 // How much of a fixed portion a type with this length takes.
+// kept: layout says the same. It is one expression, and a call into another crate would be no plainer.
 #[tactic(auto, unfolding(standard::specs::Types::width))]
 fn width_of(len: usize) -> usize
     ensures { result ≡ width (head_of len) }

@@ -10,6 +10,8 @@ ghost use Rattle.layout.specs.Kinds.{is_leaf};
 use layout::{Kind, Node};
 use standard::words::{four_at, word_at};
 
+// kept: message has such a table too. A shared one would be public, and a public function has no `requires` (a rule of the project).
+//
 // The table, the fixed length of each of its types, where 0 stands for variable size, and how many these are.
 #[derive(Clone, Copy)]
 pub(crate) struct Table<'a> {
@@ -21,6 +23,7 @@ pub(crate) struct Table<'a> {
 }
 
 // A leaf names no other type.
+// kept: message says the same. It is one expression, and a call into another crate would be no plainer.
 pub(crate) fn is_leaf(kind: Kind) -> bool
     ensures { result ≡ is_leaf kind }
 {
