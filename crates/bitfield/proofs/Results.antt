@@ -1,4 +1,4 @@
--- From what the private calls make to the answers of the public ones. Assumes nothing.
+-- An array as raw bytes, and what into_bytes needs and writes. Assumes nothing.
 use mathlib.Core.Path.{◌≡◌, sym, ap, ◌∙◌}
 use mathlib.Core.List.{List, ◌++◌}
 use Prim.Native.Nat.{ℕ, ◌+◌, ◌/◌, ◌≤◌, max}
@@ -13,7 +13,7 @@ use Rattle.bitfield.specs.Raw.{Raw}
 use Rattle.bitfield.specs.Facts.{Kept}
 use Rattle.bitfield.specs.Held.{bits_in, raw_bytes_lem, room_for}
 use Rattle.bitfield.specs.Lists.{BitList}
-use Rattle.bitfield.specs.Vectors.{BitVector, vector_told_lem, vector_room, vector_buffer}
+use Rattle.bitfield.specs.Vectors.{BitVector, vector_told_lem, vector_buffer}
 use Rattle.bitfield.proofs.Tops.{bytes-known}
 use Rattle.bitfield.proofs.Ties.{bits-length, bits-number, take-number}
 use Rattle.std.specs.declared.result.Result.TheVariants.{Ok}
@@ -39,7 +39,7 @@ vector-bytes a k =
 
 pub vector_put : (a : BitVector) (out o' : List ℕ) (need : ℕ) → Kept a.bytes a.len → need ≡ max 1 (bytes_for_lem a.len)
     → vector_told_lem a ≡ Ok tt → room_for need (length out) ≡ Ok tt → o' ≡ take need a.bytes ++ drop need out → o' ≡ vector_buffer a out
-unfolding vector_buffer vector_room
+unfolding vector_buffer
 vector_put a out o' need k n e r w =
     let f = rw (n, ← vector_needs a) at r in
     let m : need ≡ length (raw_bytes_lem (bits_in a.bytes a.len)) = n ∙ sym (vector_needs a) in

@@ -49,6 +49,8 @@ list_few l n k e = (list_says l n k e).1
 pub list_there : (l : List ℕ) (n k : ℕ) → bit_list_body l n ≡ Ok k → bytes_for_lem k ≤ length l
 list_there l n k e = let s = list_says l n k e in omega (arith, s.0)
 
+pub ruleset list_body = (list_few, list_there)
+
 -- A bit list's body: sound, complete, and one
 pub list-sound : (l : List ℕ) (n k : ℕ) → Bytes l → bit_list_body l n ≡ Ok k → (marked (bits_of k (num l)) ≡ l) × (k ≤ n)
 unfolding bit_list_body

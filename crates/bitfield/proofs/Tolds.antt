@@ -42,3 +42,6 @@ room_fine need room e = leb-true _ _ (picked (leb need room) _ _ e).0
 
 pub clean-kept : (l : List ℕ) (len : ℕ) → Raw l → clean l len ≡ true → Kept l len
 clean-kept l len r e = let s = clean-says l len e in record { raw = r; few = s.0; small = s.1 }
+
+-- All of them, for functions that use a test
+pub ruleset fine = (limited_fine, inside_fine, up_to_fine, not_below_fine, room_fine)

@@ -16,7 +16,7 @@ abbrev pub BitList : Type 0
 BitList = Bitfield Variable
 
 -- 23, 14: a list has at most as many bits as its limit says
-unfoldable pub list_told : BitList → Result ⊤ Refusal
+abbrev pub list_told : BitList → Result ⊤ Refusal
 list_told a = field_told leb a
 
 unfoldable pub list_with_capacity : ℕ → ℕ → Result BitList Refusal
@@ -32,7 +32,7 @@ unfoldable pub list_from_bytes : List ℕ → ℕ → Result BitList Refusal
 list_from_bytes l n = of_body (limited n) (bit_list_body l n) l n
 
 -- into_bytes: whether it went well, for a buffer of so many bytes
-unfoldable pub list_room : BitList → ℕ → Result ⊤ Refusal
+abbrev pub list_room : BitList → ℕ → Result ⊤ Refusal
 list_room a room = and_then (list_told a) (room_for (length (marked (bits a))) room)
 
 unfoldable pub list_into_bytes : BitList → ℕ → Result ℕ Refusal

@@ -15,7 +15,7 @@ abbrev pub BitVector : Type 0
 BitVector = Bitfield Fixed
 
 -- 23, 14: a vector has as many bits as its limit says
-unfoldable pub vector_told_lem : BitVector → Result ⊤ Refusal
+abbrev pub vector_told_lem : BitVector → Result ⊤ Refusal
 vector_told_lem a = field_told eqb a
 
 unfoldable pub vector_new : ℕ → Result BitVector Refusal
@@ -25,7 +25,7 @@ unfoldable pub vector_from_bytes : List ℕ → ℕ → Result BitVector Refusal
 vector_from_bytes l n = answer (and_then (limited n) (bit_vector_body l n)) (held (bits_of n (num l)) n)
 
 -- into_bytes: whether it went well, for a buffer of so many bytes
-unfoldable pub vector_room : BitVector → ℕ → Result ⊤ Refusal
+abbrev pub vector_room : BitVector → ℕ → Result ⊤ Refusal
 vector_room a room = and_then (vector_told_lem a) (room_for (length (raw_bytes_lem (bits a))) room)
 
 unfoldable pub vector_into_bytes : BitVector → ℕ → Result ℕ Refusal

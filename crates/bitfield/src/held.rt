@@ -71,7 +71,7 @@ impl<T: BitfieldBehaviour> Bitfield<T> {
     }
 
     // Bit i made the value.
-    #[tactic(auto, using(crate::proofs::Tolds::inside_fine), unfolding(crate::specs::Bitfields::field_set))]
+    #[tactic(auto, using(crate::proofs::Tolds::fine), unfolding(crate::specs::Bitfields::field_set))]
     pub fn set(self, i: usize, value: bool) -> Result<Self, Refused<Self>>
         ensures { result ≡ field_set T.fits self i value }
     {
@@ -85,7 +85,7 @@ impl<T: BitfieldBehaviour> Bitfield<T> {
     }
 
     // Bit i.
-    #[tactic(auto, using(crate::proofs::Tolds::inside_fine), unfolding(crate::specs::Bitfields::field_get))]
+    #[tactic(auto, using(crate::proofs::Tolds::fine), unfolding(crate::specs::Bitfields::field_get))]
     pub fn get(self, i: usize) -> Result<bool, Refusal>
         ensures { result ≡ field_get T.fits self i }
     {
@@ -135,7 +135,7 @@ impl<T: BitfieldBehaviour> Bitfield<T> {
     }
 
     // Every bit k places up; what passes the end is lost.
-    #[tactic(auto, using(crate::proofs::Tolds::up_to_fine), unfolding(crate::specs::Bitfields::field_shift_up))]
+    #[tactic(auto, using(crate::proofs::Tolds::fine), unfolding(crate::specs::Bitfields::field_shift_up))]
     pub fn shift_up(self, k: usize) -> Result<Self, Refused<Self>>
         ensures { result ≡ field_shift_up T.fits self k }
     {

@@ -9,7 +9,7 @@ use standard::{Refusal, Refused};
 
 impl Bitfield<Variable> {
     // So many bits, of at most n, and none of them set.
-    #[tactic(auto, using(crate::proofs::Tolds::limited_fine, crate::proofs::Tolds::up_to_fine), unfolding(crate::specs::Lists::list_with_capacity))]
+    #[tactic(auto, using(crate::proofs::Tolds::fine), unfolding(crate::specs::Lists::list_with_capacity))]
     pub fn with_capacity(len: usize, n: usize) -> Result<Self, Refusal>
         ensures { result ≡ list_with_capacity len n }
     {
@@ -19,7 +19,7 @@ impl Bitfield<Variable> {
     }
 
     // The bits of a bit list's serialization.
-    #[tactic(auto, using(crate::proofs::Tolds::limited_fine, crate::proofs::Standard::list_few, crate::proofs::Standard::list_there), unfolding(crate::specs::Lists::list_from_bytes))]
+    #[tactic(auto, using(crate::proofs::Tolds::fine, crate::proofs::Standard::list_body), unfolding(crate::specs::Lists::list_from_bytes))]
     pub fn from_bytes(bytes: &[u8], n: usize) -> Result<Self, Refusal>
         ensures { result ≡ list_from_bytes bytes.now n }
     {
@@ -29,7 +29,7 @@ impl Bitfield<Variable> {
     }
 
     // Writes the serialization into a buffer, which keeps the rest, and says how many bytes it has.
-    #[tactic(auto, using(crate::proofs::Tolds::room_fine, crate::proofs::Results::list_needs), unfolding(crate::specs::Lists::list_told, crate::specs::Lists::list_room, crate::specs::Lists::list_into_bytes, crate::specs::Lists::list_buffer))]
+    #[tactic(auto, using(crate::proofs::Tolds::fine, crate::proofs::Results::list_needs), unfolding(crate::specs::Lists::list_into_bytes, crate::specs::Lists::list_buffer))]
     pub fn into_bytes(self, out: &mut [u8]) -> Result<usize, Refusal>
         ensures answer { result ≡ list_into_bytes self (length out.old) }
         ensures buffer { out.new ≡ list_buffer self out.old }
@@ -42,7 +42,7 @@ impl Bitfield<Variable> {
     }
 
     // The same bits with the limit m, m of them.
-    #[tactic(auto, using(crate::proofs::Tolds::limited_fine, crate::proofs::Tolds::not_below_fine), unfolding(crate::specs::Lists::list_told, crate::specs::Lists::list_resize))]
+    #[tactic(auto, using(crate::proofs::Tolds::fine), unfolding(crate::specs::Lists::list_resize))]
     pub fn resize(self, m: usize) -> Result<Self, Refused<Self>>
         ensures { result ≡ list_resize self m }
     {
@@ -57,7 +57,7 @@ impl Bitfield<Variable> {
     }
 
     // As many bits, and none of them set.
-    #[tactic(auto, unfolding(crate::specs::Lists::list_told, crate::specs::Lists::list_clone_zeroed))]
+    #[tactic(auto, unfolding(crate::specs::Lists::list_clone_zeroed))]
     pub fn clone_zeroed(self) -> Result<Self, Refused<Self>>
         ensures { result ≡ list_clone_zeroed self }
     {

@@ -78,7 +78,7 @@ impl<T: BitfieldBehaviour> Bitfield<T> {
     }
 
     // 23, 14. What they leave is well formed.
-    #[tactic(auto, using(crate::proofs::Tolds::limited_fine), unfolding(crate::specs::Held::one_told_lem, crate::specs::Bitfields::field_told))]
+    #[tactic(auto, using(crate::proofs::Tolds::fine), unfolding(crate::specs::Held::one_told_lem, crate::specs::Bitfields::field_told))]
     pub(crate) fn tested(&self) -> Result<(), Refusal>
         ensures told { result ≡ field_told T.fits self.now }
         ensures kept { result ≡ (Ok tt) → WellFormed self.now × (self.now.len ≤ self.now.n) × (self.now.n ≤ 2048) }

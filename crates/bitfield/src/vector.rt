@@ -18,7 +18,7 @@ fn raw_len(len: usize) -> usize
 
 impl Bitfield<Fixed> {
     // n bits, and none of them set.
-    #[tactic(auto, using(crate::proofs::Tolds::limited_fine), unfolding(crate::specs::Vectors::vector_new))]
+    #[tactic(auto, using(crate::proofs::Tolds::fine), unfolding(crate::specs::Vectors::vector_new))]
     pub fn new(n: usize) -> Result<Self, Refusal>
         ensures { result ≡ vector_new n }
     {
@@ -27,7 +27,7 @@ impl Bitfield<Fixed> {
     }
 
     // The bits of a bit vector's serialization.
-    #[tactic(auto, using(crate::proofs::Tolds::limited_fine, crate::proofs::Standard::vector_says), unfolding(crate::specs::Vectors::vector_from_bytes))]
+    #[tactic(auto, using(crate::proofs::Tolds::fine, crate::proofs::Standard::vector_says), unfolding(crate::specs::Vectors::vector_from_bytes))]
     pub fn from_bytes(bytes: &[u8], n: usize) -> Result<Self, Refusal>
         ensures { result ≡ vector_from_bytes bytes.now n }
     {
@@ -37,7 +37,7 @@ impl Bitfield<Fixed> {
     }
 
     // Writes the serialization into a buffer, which keeps the rest, and says how many bytes it has.
-    #[tactic(auto, using(crate::proofs::Tolds::room_fine, crate::proofs::Results::vector_needs), unfolding(crate::specs::Vectors::vector_told_lem, crate::specs::Vectors::vector_room, crate::specs::Vectors::vector_into_bytes, crate::specs::Vectors::vector_buffer))]
+    #[tactic(auto, using(crate::proofs::Tolds::fine, crate::proofs::Results::vector_needs), unfolding(crate::specs::Vectors::vector_into_bytes, crate::specs::Vectors::vector_buffer))]
     pub fn into_bytes(self, out: &mut [u8]) -> Result<usize, Refusal>
         ensures answer { result ≡ vector_into_bytes self (length out.old) }
         ensures buffer { out.new ≡ vector_buffer self out.old }
