@@ -211,7 +211,7 @@ pub(crate) fn select(table: &Table, n: Node, b: &[u8]) -> Result<Option<usize>, 
 fn is_plain(kind: Kind) -> bool
     ensures { result ≡ is_plain kind }
 {
-    matches!(kind, Kind::Number | Kind::FixedBytes)
+    kind == Kind::Number || kind == Kind::FixedBytes
 }
 
 // Free bytes within their limit: of them nothing else is asked.

@@ -1,6 +1,7 @@
 // The listing of an accepted message: three words an item, in preorder.
-ghost use Rattle.std.specs.Prelude.{◌+◌, ◌≤◌, ◌<◌, ◌^◌, length};
-ghost use Rattle.standard.specs.Bytes.{Stored, Room};
+ghost use Rattle.std.specs.Prelude.{◌≡◌, ◌+◌, ◌≤◌, ◌<◌, ◌^◌, length};
+ghost use Rattle.std.proofs.lemmas.List.Edits.{sets};
+ghost use Rattle.standard.specs.Bytes.{le, Stored, Room};
 ghost use Rattle.standard.specs.Types.{heads};
 ghost use Rattle.standard.specs.Parts.{InRange};
 ghost use Rattle.layout.specs.Tree.{tree_of};
@@ -13,19 +14,24 @@ use crate::items::select;
 use crate::parts::{Series, series_in};
 use crate::table::{Table, is_leaf};
 use layout::Kind;
-use standard::words::put_four;
+
+// Stores a word of a record, which has room. `put_four` would compare it with the room.
+fn put_word(out: &mut [u8], at: usize, x: usize)
+    requires { (at + 4 ≤ length out.old) × (x < 2 ^ 32) }
+    ensures { out.new ≡ sets out.old at (le 4 x) }
+{
+    out[at..at + 4].copy_from_slice(&(x as u32).to_le_bytes());
+}
 
 // Stores the record of an item b of type t that starts at start.
 fn put_entry(out: &mut [u8], at: usize, t: usize, b: &[u8], start: usize)
-    requires { (at + 12 ≤ length out.old) × (start + length b.now < 2 ^ 32) }
+    requires { (at + 12 ≤ length out.old) × (t < 64) × (start + length b.now < 2 ^ 32) }
     ensures { Stored out.old at (entry t b.now start) (at + 12) out.new }
 {
-    put_four(out, at, t);
-    let second = at + 4;
-    put_four(out, second, start);
-    let third = at + 8;
+    put_word(out, at, t);
+    put_word(out, at + 4, start);
     let end = start + b.len();
-    put_four(out, third, end);
+    put_word(out, at + 8, end);
 }
 
 // Stores the listing of the item b from at on, and returns where it ends.

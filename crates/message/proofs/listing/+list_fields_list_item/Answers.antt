@@ -61,6 +61,7 @@ pub list_fields-put_entry-requires : goal.list_fields-put_entry-requires
 list_fields-put_entry-requires t c =
     let span = said c.loop-f.invariant c.in-Some.ensures c.length.ensures.0 c.locate-w.ensures in (
       room-long _ _ _ _ _ (storing_room c.loop-f.invariant c.in-Some.ensures span),
+      next_few _ _ _ _ _ c.loop-f.invariant.row c.in-Some.ensures,
       omega (arith, storing_lies c.loop-f.invariant c.in-Some.ensures span, c.requires.1),
     )
 
@@ -92,7 +93,7 @@ pub list_fields-returns : goal.list_fields-returns
 list_fields-returns t c = storing_end c.loop-f.invariant c.in_default.ensures
 
 pub list_item-put_entry-requires : goal.list_item-put_entry-requires
-list_item-put_entry-requires t c = (room-long _ _ _ _ _ c.requires.3, c.requires.1)
+list_item-put_entry-requires t c = (room-long _ _ _ _ _ c.requires.3, omega (arith, c.requires.0.few), c.requires.1)
 
 pub list_item-select-requires : goal.list_item-select-requires
 list_item-select-requires t c = (node_legal _ _ _ _ c.look-n.ensures c.requires.0).near
