@@ -29,10 +29,8 @@ fn further_offsets(b: &[u8], first: usize, n: usize) -> Result<(), Refusal>
 {
     let len = b.len();
     let mut previous = first;
-    let mut p = 4;
-    let mut left = n;
-    while left > 0 {
-        let o = four_in(b, p);
+    for i in 0..n {
+        let o = four_in(b, 4 + 4 * i);
         if o < first {
             return Err(Refusal::OffsetIntoFixedPortion(o));
         }
@@ -43,8 +41,6 @@ fn further_offsets(b: &[u8], first: usize, n: usize) -> Result<(), Refusal>
             return Err(Refusal::OffsetsAreDecreasing(o));
         }
         previous = o;
-        p += 4;
-        left -= 1;
     }
     Ok(())
 }

@@ -66,14 +66,7 @@ impl Counts {
 fn raw_bytes(bits: usize) -> usize
     ensures { result ≡ raw_bytes_lem bits }
 {
-    let q = bits / 8;
-    if bits % 8 != 0 {
-        return q + 1;
-    }
-    if q == 0 {
-        return 1;
-    }
-    q
+    bits.div_ceil(8).max(1)
 }
 
 // A number or fixed bytes: w bytes. Where a leaf lies its caller knows, here and below.

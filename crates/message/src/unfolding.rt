@@ -75,12 +75,11 @@ fn unfold_free(contents: &mut [u32], bodies: &mut [u8], at: Place, b: &[u8]) -> 
     requires { (length b.now < 2 ^ 32) × Rooms contents.old bodies.old at (length b.now ∷ []) b.now }
     ensures { Filled contents.old bodies.old at (length b.now ∷ []) b.now result contents.new bodies.new }
 {
-    let place = at.word;
-    let from = at.byte;
-    contents[place] = b.len() as u32;
-    let word = place + 1;
-    let byte = copy_into(bodies, from, b);
-    Place { word, byte }
+    contents[at.word] = b.len() as u32;
+    Place {
+        word: at.word + 1,
+        byte: copy_into(bodies, at.byte, b),
+    }
 }
 
 // A bit list: how many bits, and their raw bytes.
@@ -88,12 +87,11 @@ fn unfold_bits(contents: &mut [u32], bodies: &mut [u8], at: Place, k: usize, b: 
     requires { (k < 2 ^ 32) × MarkedAt b.now k × Rooms contents.old bodies.old at (k ∷ []) (raw_of b.now k) }
     ensures { Filled contents.old bodies.old at (k ∷ []) (raw_of b.now k) result contents.new bodies.new }
 {
-    let place = at.word;
-    let from = at.byte;
-    contents[place] = k as u32;
-    let word = place + 1;
-    let byte = put_raw(bodies, from, b, k);
-    Place { word, byte }
+    contents[at.word] = k as u32;
+    Place {
+        word: at.word + 1,
+        byte: put_raw(bodies, at.byte, b, k),
+    }
 }
 
 // Stores body bytes that need no contents word.
@@ -101,10 +99,8 @@ fn put_bytes(bodies: &mut [u8], at: Place, b: &[u8]) -> Place
     requires { Room bodies.old at.byte b.now }
     ensures { Stored bodies.old at.byte b.now result.byte bodies.new × (result.word ≡ at.word) }
 {
-    let word = at.word;
-    let place = at.byte;
-    let byte = copy_into(bodies, place, b);
-    Place { word, byte }
+    let byte = copy_into(bodies, at.byte, b);
+    Place { byte, ..at }
 }
 
 // A leaf of variable size: free bytes or a bit list.
@@ -133,11 +129,11 @@ fn put_selector(contents: &mut [u32], at: Place, b: &[u8]) -> Place
     requires { (at.word < length contents.old) × (1 ≤ length b.now) }
     ensures { Stored contents.old at.word (get_or b.now 0 0 ∷ []) result.word contents.new × (result.byte ≡ at.byte) }
 {
-    let place = at.word;
-    let byte = at.byte;
-    contents[place] = b[0] as u32;
-    let word = place + 1;
-    Place { word, byte }
+    contents[at.word] = b[0] as u32;
+    Place {
+        word: at.word + 1,
+        ..at
+    }
 }
 
 // Stores the count of a list; a container and a vector have none.
@@ -147,11 +143,11 @@ fn put_count(contents: &mut [u32], at: Place, n: Node, m: usize) -> Place
 {
     match n.kind {
         Kind::List => {
-            let place = at.word;
-            let byte = at.byte;
-            contents[place] = m as u32;
-            let word = place + 1;
-            Place { word, byte }
+            contents[at.word] = m as u32;
+            Place {
+                word: at.word + 1,
+                ..at
+            }
         }
         _ => at,
     }

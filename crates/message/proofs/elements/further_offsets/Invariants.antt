@@ -1,8 +1,6 @@
+use Rattle.std.proofs.Common.{◌+◌, ◌-◌, ◌*◌}
 use Rattle.message.proofs.Counting.{Following}
 use Rattle.message.proofs.elements.further_offsets.Given as goal
 
-abbrev pub invariant-loop-left : goal.invariant-loop-left
-invariant-loop-left l = Following l.b l.first l.n l.previous l.p l.left
-
-abbrev pub decreases-loop-left : goal.decreases-loop-left
-decreases-loop-left l = l.left
+abbrev pub invariant-loop-i : goal.invariant-loop-i
+invariant-loop-i l = Following l.b l.first l.fn.n l.previous (4 + 4 * l.i) (l.fn.n - l.i)
