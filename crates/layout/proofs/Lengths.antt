@@ -21,7 +21,7 @@ use Rattle.standard.specs.declared.Head.{Head}
 use Rattle.standard.specs.declared.Head.TheVariants.{Fixed, Variable}
 use Rattle.standard.specs.declared.Refusal.{Refusal}
 use Rattle.standard.specs.declared.Refusal.TheVariants.{BadLayout}
-use Rattle.layout.specs.Kinds.{kind_of, is_leaf}
+use Rattle.layout.specs.Kinds.{kind_of}
 use Rattle.layout.specs.Tree.{node_of, type_with, from_node, fields, trees, tree_of, len_of, head_of, filled}
 use Rattle.layout.specs.Table.{count, refs, counted, many, container_end_lem, list_end_lem, vector_end_lem, leaf_end_lem, kind_end, body_end_lem}
 use Rattle.layout.specs.Steps.{Known, Lengthened, leaf_len_lem, sizes_of, with_len}
@@ -30,7 +30,7 @@ use Rattle.layout.specs.declared.Kind.{Kind}
 use Rattle.layout.specs.declared.Node.{Node}
 use Rattle.layout.specs.declared.types.Sizes.{Sizes}
 use Rattle.layout.specs.declared.types.Body.{Body}
-use Rattle.layout.proofs.Facts.{trees-get, fields_at, fields-none, filled-get, filled-set, each-kind, head_len, legal_node, as_container}
+use Rattle.layout.proofs.Facts.{trees-get, fields_at, fields-none, filled-get, filled-set, head_len, legal_node, as_container}
 use Rattle.layout.proofs.Tables.{refs-wrong, refs-next, refs-none, refs-cut, refs-lower}
 use Rattle.layout.proofs.Tables.{Counted, counted-says, element-lower, known_len, known-head, known_small}
 use Rattle.layout.proofs.Trees.{legal_tree, len_small, leaf-number, vector-length, vector_len}
@@ -195,25 +195,29 @@ module _ (lens l : List ℕ) (t at e n f : ℕ) (g : Known lens l t) (r : Ok e �
         with_len (vector_end_lem l t at) (word_at l (at + 2) * len_of (head (get_or (trees l t) (word_at l (at + 1)) (boolean 0))))
     vector-ends h = rw (vector-tests, le-leb _ _ h, elements_len)
 
--- A kind that is none of the four others is a leaf's.
-pub rest_leaf : (k : Kind) → (k ≡ Kind.Container → ⊥) → (k ≡ Kind.Union → ⊥) → (k ≡ Kind.List → ⊥) → (k ≡ Kind.Vector → ⊥) → is_leaf k ≡ true
-rest_leaf k six seven eight nine =
-    each-kind (is_leaf k ≡ true) k (λ h. h) (λ h. absurd (six h)) (λ h. absurd (seven h)) (λ h. absurd (eight h)) (λ h. absurd (nine h))
+-- A leaf with a word behind its kind
+abbrev pub with_word : Kind → Bool
+with_word Kind.Number = true
+with_word Kind.FixedBytes = true
+with_word Kind.FreeBytes = true
+with_word Kind.BitVector = true
+with_word Kind.BitList = true
+with_word k = false
 
 -- A leaf with one word, by its kind.
-leaf_with_word : (k : Kind) (l : List ℕ) (t at : ℕ) → is_leaf k ≡ true → (k ≡ Kind.Boolean → ⊥) →
+leaf_with_word : (k : Kind) (l : List ℕ) (t at : ℕ) → with_word k ≡ true →
     with_len (kind_end (Some k) l t at) (len_of (head (type_with k l (trees l t) t at (word_at l (at + 1))))) ≡
     with_len (leaf_end_lem k l at) (leaf_len_lem k (word_at l (at + 1)))
-leaf_with_word Kind.Boolean l t at h b = absurd (b refl)
-leaf_with_word Kind.Container l t at h b = absurd (cc)
-leaf_with_word Kind.Union l t at h b = absurd (cc)
-leaf_with_word Kind.List l t at h b = absurd (cc)
-leaf_with_word Kind.Vector l t at h b = absurd (cc)
-leaf_with_word Kind.Number l t at h b = ap (with_len (leaf_end_lem Kind.Number l at)) (leaf-number Kind.Number t _)
-leaf_with_word Kind.FixedBytes l t at h b = ap (with_len (leaf_end_lem Kind.FixedBytes l at)) (leaf-number Kind.FixedBytes t _)
-leaf_with_word Kind.FreeBytes l t at h b = ap (with_len (leaf_end_lem Kind.FreeBytes l at)) (leaf-number Kind.FreeBytes t _)
-leaf_with_word Kind.BitVector l t at h b = ap (with_len (leaf_end_lem Kind.BitVector l at)) (leaf-number Kind.BitVector t _)
-leaf_with_word Kind.BitList l t at h b = ap (with_len (leaf_end_lem Kind.BitList l at)) (leaf-number Kind.BitList t _)
+leaf_with_word Kind.Boolean l t at h = absurd (cc)
+leaf_with_word Kind.Container l t at h = absurd (cc)
+leaf_with_word Kind.Union l t at h = absurd (cc)
+leaf_with_word Kind.List l t at h = absurd (cc)
+leaf_with_word Kind.Vector l t at h = absurd (cc)
+leaf_with_word Kind.Number l t at h = ap (with_len (leaf_end_lem Kind.Number l at)) (leaf-number Kind.Number t _)
+leaf_with_word Kind.FixedBytes l t at h = ap (with_len (leaf_end_lem Kind.FixedBytes l at)) (leaf-number Kind.FixedBytes t _)
+leaf_with_word Kind.FreeBytes l t at h = ap (with_len (leaf_end_lem Kind.FreeBytes l at)) (leaf-number Kind.FreeBytes t _)
+leaf_with_word Kind.BitVector l t at h = ap (with_len (leaf_end_lem Kind.BitVector l at)) (leaf-number Kind.BitVector t _)
+leaf_with_word Kind.BitList l t at h = ap (with_len (leaf_end_lem Kind.BitList l at)) (leaf-number Kind.BitList t _)
 
 -- The type t, whose body starts at the word at, which names the kind k.
 module _ (l : List ℕ) (t at : ℕ) (k : Kind) (x : ℕ) (w : at ≡ word_at l (1 + t)) (i : at < count l) (y : x ≡ word_at l at) (q : Some k ≡ kind_of x) where
@@ -226,9 +230,9 @@ module _ (l : List ℕ) (t at : ℕ) (k : Kind) (x : ℕ) (w : at ≡ word_at l 
   unfolding body_end_lem
   body_here = rw (tree_here, lt-ltb _ _ i, ← y, ← q)
 
-  pub leaf_here : is_leaf k ≡ true → (k ≡ Kind.Boolean → ⊥) → with_len (leaf_end_lem k l at) (leaf_len_lem k (word_at l (at + 1))) ≡
+  pub leaf_here : {j : Kind} → k ≡ j → with_word j ≡ true → with_len (leaf_end_lem j l at) (leaf_len_lem j (word_at l (at + 1))) ≡
       with_len (body_end_lem l t at) (len_of (head (tree_of l t)))
-  leaf_here h b = sym (leaf_with_word k l t at h b) ∙ body_here
+  leaf_here {j} h b = sym (leaf_with_word j l t at b) ∙ (rw h at body_here)
 
   pub boolean_here : k ≡ Kind.Boolean → Ok (record { end = at + 1; len = 1 }) ≡ with_len (body_end_lem l t at) (len_of (head (tree_of l t)))
   unfolding head

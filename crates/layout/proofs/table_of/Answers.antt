@@ -2,5 +2,5 @@
 use Rattle.layout.proofs.Tables.{nothing_known}
 use Rattle.layout.proofs.table_of.Goals as goal
 
-pub table_end-end-requires : goal.table_end-end-requires
-table_end-end-requires c = nothing_known _
+pub table_end-requires : goal.table_end-requires
+table_end-requires c = nothing_known _
