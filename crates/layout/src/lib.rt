@@ -117,7 +117,7 @@ pub fn table_of(lens: &mut [u32; 64], layout: &[u8]) -> Result<usize, Refusal>
     ensures lens_after { lens.new ≡ lengths_of (table_of layout.now) layout.now }
 {
     *lens = [0; 64];
-    // kept: a match: `is_err` on the answer, given back after it, takes 2 instructions more a table (measured)
+    // kept: a match: `is_err` on the answer, given back after it, is slower (measured: a table of a byte 88 instructions, so 86)
     match table_end(lens, layout) {
         Ok(n) => Ok(n),
         Err(refusal) => {

@@ -320,7 +320,7 @@ pub(crate) fn body_end(
             end: at + 1,
             len: 1,
         }),
-        // kept: each leaf by its name: one arm for all of them jumps on the kind again (measured: 8 to 10 instructions a leaf more)
+        // kept: each leaf by its name: one arm for all jumps on the kind again (measured: a table of a byte 96 instructions, so 88)
         Kind::Number => leaf_end(layout, Kind::Number, at),
         Kind::FixedBytes => leaf_end(layout, Kind::FixedBytes, at),
         Kind::FreeBytes => leaf_end(layout, Kind::FreeBytes, at),
