@@ -2,7 +2,7 @@
 use mathlib.Core.Path.{◌≡◌, refl, sym, ap}
 use mathlib.Core.Bool.{Bool, true, false}
 use Prim.Native.Nat.{ℕ}
-use native.Mathlib.Nat.{zero-add, add_assoc}
+use native.Mathlib.Nat.{add_assoc}
 use native.Mathlib.Omega.{arith}
 use Rattle.standard.specs.Choice.{pick}
 use Rattle.standard.specs.declared.Refusal.{Refusal}
@@ -114,15 +114,8 @@ many-both (Ok n) t s x h = (n, refl, h)
 many-both (Err r) t s x h = absurd h
 
 -- Laws of adding up.
-pub plus_none : (c : Counts) → plus none c ≡ c
-plus_none c = simp zero-add
-
 pub plus_assoc : (a b c : Counts) → plus (plus a b) c ≡ plus a (plus b c)
 plus_assoc a b c = simp add_assoc
-
-pub then_none : (x : Result Counts RefusedAt) → and_then (Ok none) x ≡ x
-then_none (Err r) = refl
-then_none (Ok c) = ap Ok (plus_none c)
 
 pub then_assoc : (x y z : Result Counts RefusedAt) → and_then (and_then x y) z ≡ and_then x (and_then y z)
 then_assoc (Err r) y z = refl

@@ -19,8 +19,6 @@ use Rattle.standard.specs.declared.Span.{Span}
 use Rattle.standard.specs.declared.Refusal.{Refusal}
 use Rattle.standard.specs.declared.Refusal.TheVariants.{OutOfBoundsByte, UnionSelectorInvalid, InvalidByteLength, OverLimit}
 use Rattle.decode.specs.Builder.{lay_out_lem}
-use Rattle.decode.specs.Unions.{selector_of, split_union}
-use Rattle.decode.specs.declared.union_selector.UnionSelector.{UnionSelector}
 use Rattle.layout.specs.Tree.{node_of, leaf_of, options, trees, tree_of, len_of}
 use Rattle.layout.specs.Legal.{LowerOrBare}
 use Rattle.layout.specs.declared.Node.{Node}
@@ -367,14 +365,6 @@ body-says l a n b o e =
     let q = right_choice l a n b (Ok (Some o)) (λ r h. let z : ◌≡◌ {A = ℕ} 0 1 = cc in omega arith) e in
     let r = body-option (word_at l (a + get_or b 0 0)) (length b) o q.1 in
     (q.0, r.0, r.1, q.2)
-
-pub split-some : (b : List ℕ) (k : UnionSelector) → split_union b ≡ Ok k → 1 ≤ length b
-split-some b k e = go (eqb (length b) 0) refl e
-  where
-    go : (c : Bool) → eqb (length b) 0 ≡ c → pick c (Err (OutOfBoundsByte 0)) (selector_of (get_or b 0 0)) ≡
-        Ok k → 1 ≤ length b
-    go true p h = let z : ◌≡◌ {A = ℕ} 0 1 = cc in absurd (omega arith)
-    go false p h = let y : length b ≡ 0 → ⊥ = eqb-false _ _ p in omega arith
 
 -- What is chosen, of the tree.
 module _ (lens l : List ℕ) (t : ℕ) (n : Node) (e : n ≡ node_of l t) (g : Under lens l (t + 1)) (k : n.kind ≡ Kind.Union) (b : List ℕ) where

@@ -41,9 +41,6 @@ further-none b first previous p zero z = refl
 further-none b first previous p (suc m) z = absurd (omega arith)
 
 module _ {b : List ℕ} {first n : ℕ} where
-  pub following_new : 4 + 4 * n ≤ length b → Following b first n first 4 n
-  following_new h = record { room = h; same = refl }
-
   module _ {previous p left : ℕ} (g : Following b first n previous p left) where
     pub following_end : left ≤ 0 → (Ok tt) ≡ further b first first 4 n
     following_end z = sym (further-none b first previous p left z) ∙ g.same

@@ -21,7 +21,7 @@ use Rattle.message.specs.Read.{one, and_then, built, of_elements, elements, many
 use Rattle.message.specs.Listing.{entry, list_item_lem, list_fields_lem}
 use Rattle.message.specs.Unfold.{unfold_words, unfold_bytes, words_fields, bytes_fields}
 use Rattle.message.specs.Steps.{Under, Row, Named, row_of, heads_of}
-use Rattle.message.proofs.Rows.{node_legal, under-below, under-head, under-small}
+use Rattle.message.proofs.Rows.{node_legal, under-below, under-head}
 use Rattle.message.proofs.Copies.{TakesBytes, read-copies, list-copies, words-copies, bytes-copies}
 use Rattle.standard.specs.declared.Refusal.{Refusal}
 use Rattle.std.specs.declared.result.Result.{Result}
@@ -90,9 +90,6 @@ module _ (lens l : List ℕ) (t : ℕ) (n : Node) (e : n ≡ node_of l t) (g : U
 
   pub element-head : head_of (get_or lens n.second 0) ≡ head element_type
   element-head = under-head lens l t under-elements n.second element-below
-
-  pub element-small : get_or lens n.second 0 < 2 ^ 32
-  element-small = under-small lens l t under-elements n.second element-below
 
   pub element-copies : (m : ℕ) → row_of l t (n.at + 1) 0 m ≡ copies element_type m
   element-copies m = shared-copies l t (n.at + 1) n.second element-word element-below m

@@ -56,9 +56,6 @@ module _ (lens l : List ℕ) (t : ℕ) (g : Under lens l t) (f : ℕ) (h : f < t
   pub under-legal : Legal l (f + 1)
   under-legal = legal-below l t (f + 1) (omega arith) g.legal
 
-  pub under_index : f < length lens
-  under_index = omega (arith, g.few, g.room)
-
 -- A length of 0 says variable, another one is the fixed length.
 pub len_head : (h : Head) (k : ℕ) → k ≡ len_of h → (k ≡ 0 → ⊥) → Fixed k ≡ h
 len_head (Fixed n) k e z = ap Fixed e
@@ -117,9 +114,6 @@ module _ (lens l : List ℕ) (t a apart left f : ℕ) (g : Row lens l t a apart 
   pub row_below : f < t
   row_below = rw e (named-first l t a apart left g.named p).1
 
-  pub row_index : f < length lens
-  row_index = under_index lens l t g.under f row_below
-
   pub row-few : f < 64
   row-few = let b = row_below in omega (arith, g.under.few)
 
@@ -131,9 +125,6 @@ module _ (lens l : List ℕ) (t a apart left f : ℕ) (g : Row lens l t a apart 
 
   pub row_under : Under lens l (f + 1)
   row_under = let b = row_below in under-below lens l t (f + 1) (omega arith) g.under
-
-  pub row-legal : Legal l (f + 1)
-  row-legal = row_under.legal
 
   pub row-fixed : (k : ℕ) → k ≡ get_or lens f 0 → (k ≡ 0 → ⊥) → Fixed k ≡ head (tree_of l f)
   row-fixed k q z = len_head (head (tree_of l f)) k (q ∙ g.under.found f row_below) z

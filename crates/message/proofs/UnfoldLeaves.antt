@@ -3,7 +3,7 @@ use mathlib.Core.Path.{◌≡◌, refl, sym, ap, ◌∙◌}
 use mathlib.Core.List.{List, [], ◌∷◌, ◌++◌}
 use Prim.Native.Nat.{ℕ, suc, ◌+◌, ◌-◌, ◌*◌, ◌/◌, ◌%◌, ◌≤◌, ◌<◌, ◌^◌, max}
 use native.Mathlib.Omega.{arith}
-use lib.ListN.{length, get_or, take, drop, set, length-append, length-take, take-append-drop}
+use lib.ListN.{length, get_or, take, drop, length-append, length-take, take-append-drop}
 use lib.Seq.{length-sets, drop-cons, drop-length}
 use lib.Pow.{pow-add}
 use lib.Pow as Pow
@@ -28,10 +28,6 @@ use Rattle.layout.specs.declared.Kind.{Kind}
 
 pub stored-length : (o : List ℕ) (at : ℕ) (x : List ℕ) (r : ℕ) (o' : List ℕ) → Stored o at x r o' → length o' ≡ length o
 stored-length o at x r o' g = ap length g.list ∙ length-sets o at x
-
--- One value
-pub stored_one : (o : List ℕ) (at x : ℕ) → Stored o at (x ∷ []) (at + 1) (set o at x)
-stored_one o at x = record { list = refl; ends = refl }
 
 -- Raw bytes: what they are in numbers
 pub length-raw : (b : List ℕ) (k : ℕ) → length (raw_of b k) ≡ max 1 ((k + 7) / 8)

@@ -16,7 +16,7 @@ use Rattle.standard.specs.Parts.{span_of, part, InRange}
 use Rattle.standard.specs.declared.Head.TheVariants.{Fixed, Variable}
 use Rattle.standard.specs.declared.Span.{Span}
 use Rattle.standard.specs.declared.Refusal.{Refusal}
-use Rattle.standard.proofs.Store.{stored_then, stored-none, room-first, room_then}
+use Rattle.standard.proofs.Store.{stored_then, room-first, room_then}
 use Rattle.layout.specs.Tree.{node_of, leaf_of, options, trees, tree_of}
 use Rattle.layout.specs.declared.Node.{Node}
 use Rattle.layout.proofs.Facts.{trees-get, as_union, as_leaf}
@@ -54,9 +54,6 @@ filled_then o p at x y r o₁ p₁ x' y' r' o₂ p₂ u v g h e f =
       words = stored_then o at.word x r.word o₁ x' r'.word o₂ u g.words h.words e;
       bytes = stored_then p at.byte y r.byte p₁ y' r'.byte p₂ v g.bytes h.bytes f;
     }
-
-pub filled_none : (o p : List ℕ) (at : Place) → Filled o p at [] [] at o p
-filled_none o p at = record { words = stored-none o at.word [] refl; bytes = stored-none p at.byte [] refl }
 
 pub rooms-first :
     (o p : List ℕ) (at : Place) (u v x y x' y' : List ℕ) → Rooms o p at u v → u ≡ x ++ x' → v ≡ y ++ y' → Rooms o p at x y
@@ -260,9 +257,6 @@ list-below lens l t n e g k = omega (arith, element-below lens l t n e g (rw k),
 -- An item that is made of fields or elements: a list's count, then theirs.
 module _ {lens l : List ℕ} {t : ℕ} {n : Node} {b : List ℕ} {r : Series} (g : MadeOf lens l t n b r) (k : is_leaf n.kind ≡ false) {o p : List ℕ} {at : Place}
     (h : Rooms o p at (unfold_words (tree_of l t) b) (unfold_bytes (tree_of l t) b)) where
-  pub count_room : Room o at.word (count_word n r.many)
-  count_room = room-first o at.word _ (count_word n r.many) _ h.words (g.words k)
-
   module _ (i : Place) (o' : List ℕ) (s : Stored o at.word (count_word n r.many) i.word o') (q : i.byte ≡ at.byte) where
     pub parts-rooms : Rooms o' p i (words_fields (types_of l r) b 0) (bytes_fields (types_of l r) b 0)
     parts-rooms = rooms_then o p at _ _ _ _ _ _ i o' p h (g.words k) (g.bytes k) (words-filled o p at _ i o' s q)
