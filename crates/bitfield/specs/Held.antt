@@ -1,4 +1,4 @@
--- Held bitfields: what their bytes mean, when they are well formed, and what is said first of them. Assumes nothing: these are definitions.
+-- Held bitfields: what their bytes mean, and what is said first of them. Assumes nothing: these are definitions.
 use Rattle.std.specs.Prelude.{List, ◌++◌, Bool, ⊤, ℕ, ◌+◌, max, eqb, leb, ltb, length, drop}
 use Rattle.std.specs.declared.result.Result.{Result}
 use Rattle.std.specs.declared.result.Result.TheVariants.{Ok, Err}

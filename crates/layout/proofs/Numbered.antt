@@ -5,7 +5,7 @@ use mathlib.Core.List.{List}
 use mathlib.Core.Bool.{Bool, true, false}
 use Prim.Native.Nat.{ℕ, ◌+◌, ◌≤◌, ◌<◌}
 use native.Mathlib.Omega.{arith}
-use borrow.Author.Tests.{eqb-true, eqb-false, ne_eqb, le-ltb}
+use borrow.Author.Tests.{ltb-true, ltb-false, eqb-true, eqb-false, ne_eqb, le-ltb}
 use lib.ListN.{get_or}
 use lib.Dec.{eqb, ltb}
 use Rattle.std.specs.Prelude.{unwrap_or}
@@ -138,3 +138,19 @@ pub body_numbered : (l : List ℕ) (t at : ℕ) →
     body_end_lem l t at ≡ pick (ltb at (count l)) (numbered_end (word_at l at) l t at) (Err (BadLayout (count l)))
 unfolding body_end_lem
 body_numbered l t at = rw (end_numbered l t at (word_at l at))
+
+-- What holds of leaves, of containers, of unions, of lists and of vectors holds of every kind, by its number.
+pub each-number : (P : Type 0) (k : ℕ) → k ≤ 9 → (k < 6 → P) → (k ≡ 6 → P) → (k ≡ 7 → P) → (k ≡ 8 → P) → (k ≡ 9 → P) → P
+each-number P k h leaf six seven eight nine = go (ltb k 6) (eqb k 6) (eqb k 7) (eqb k 8) refl refl refl refl
+  where
+    go : (a b c d : Bool) → ltb k 6 ≡ a → eqb k 6 ≡ b → eqb k 7 ≡ c → eqb k 8 ≡ d → P
+    go true b c d p q r s = leaf (ltb-true k 6 p)
+    go false true c d p q r s = six (eqb-true k 6 q)
+    go false false true d p q r s = seven (eqb-true k 7 r)
+    go false false false true p q r s = eight (eqb-true k 8 s)
+    go false false false false p q r s =
+        let x = ltb-false k 6 p in
+        let y = eqb-false k 6 q in
+        let z = eqb-false k 7 r in
+        let w = eqb-false k 8 s in
+        nine (omega arith)

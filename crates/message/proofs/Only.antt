@@ -5,12 +5,17 @@ use contract.Lifetimes.{Lfts}
 use denote.Triple.Clauses.{AtExit}
 use borrow.Fn.Kinds.{Dens, res_t, ended_of}
 use Rattle.standard.proofs.Only.{Only, only_answer}
+use Rattle.message.proofs.RefusedAtFromRefusal.from.Kinds as refused_kinds
+use Rattle.message.proofs.RefusedAtFromRefusal.from.Reads as refused_reads
 use Rattle.message.proofs.check.Kinds as check_kinds
 use Rattle.message.proofs.check.Reads as check_reads
 use Rattle.message.proofs.list.Kinds as list_kinds
 use Rattle.message.proofs.list.Reads as list_reads
 use Rattle.message.proofs.unfold.Kinds as unfold_kinds
 use Rattle.message.proofs.unfold.Reads as unfold_reads
+
+pub refused_only : Only refused_kinds.ps refused_kinds.r refused_reads.Post
+refused_only κs a x y e f p q = only_answer _ x y p q
 
 pub check_only : Only check_kinds.ps check_kinds.r check_reads.Post
 check_only κs a x y e f p q = only_answer _ x y p q

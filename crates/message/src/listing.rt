@@ -63,7 +63,7 @@ pub(crate) fn list_item(
     }
 }
 
-// Stores the listing of the fields or elements of the item b from at0 on, and returns where it ends. A kind below 6 has no lower types: its
+// Stores the listing of the fields or elements of the item b from at0 on, and returns where it ends. A leaf has no lower types: its
 // record is its listing.
 #[cycle(list_fields_list_item)]
 fn list_fields(
