@@ -28,6 +28,7 @@ use Rattle.layout.proofs.Tables.{known_len, known-length}
 use Rattle.layout.proofs.Trees.{legal_tree, len_small}
 use Rattle.message.specs.Steps.{Under, Row, Named, row_of, heads_of, types_of, Next}
 use Rattle.message.specs.declared.parts.Series.{Series}
+use Rattle.message.specs.declared.table.Table.{Table}
 use Rattle.std.specs.declared.result.Result.{Result}
 use Rattle.std.specs.declared.result.Result.TheVariants.{Ok, Err}
 use Rattle.std.specs.declared.option.Option.TheVariants.{Some, None}
@@ -36,6 +37,12 @@ use Rattle.layout.specs.declared.Kind.{Kind}
 -- The lengths that the table check found.
 pub under_table : (lens l : List ℕ) (k : ℕ) → Known lens l k → Under lens l k
 under_table lens l k g = record { legal = g.legal; few = g.few; room = known-length lens l k g; found = λ f h. known_len lens l k g f h }
+
+-- What is known of a table's types, of those up to t.
+pub known-below : (x : Table) (t : ℕ) → t < x.types → Under x.lens.now x.layout.now (t + 1)
+known-below x t h =
+    let g = under_table x.lens.now x.layout.now x.types x.known in
+    record { legal = legal-below x.layout.now x.types (t + 1) (omega arith) g.legal; few = omega (arith, g.few); room = g.room; found = λ f k. g.found f (omega arith) }
 
 -- What a table that is legal so far says of a type
 pub node_legal : (lens l : List ℕ) (t : ℕ) (n : Node) → n ≡ node_of l t → Under lens l (t + 1) → LegalNode l t n

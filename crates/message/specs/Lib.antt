@@ -7,3 +7,4 @@ pub mod Steps
 pub mod Unfold
 pub mod Series
 pub mod Unfolding
+pub mod Held

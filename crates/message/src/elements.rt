@@ -5,7 +5,7 @@ ghost use Rattle.layout.specs.Kinds.{has_element};
 ghost use Rattle.layout.specs.Tree.{node_of, tree_of, head_of};
 ghost use Rattle.message.specs.Read.{within, further, behind_first_lem, offset_elements_lem, elements, vector_told_lem, read_item};
 ghost use Rattle.std.specs.declared.result.Result.TheVariants.{Ok};
-ghost use Rattle.message.specs.Steps.{Under, IsAccepted, many_in_lem};
+ghost use Rattle.message.specs.Steps.{IsAccepted, many_in_lem};
 
 use crate::table::Table;
 use crate::words::four_in;
@@ -112,7 +112,7 @@ pub(crate) fn count_of(k: usize, b: &[u8]) -> usize
 
 // How many elements a list or vector of the type t has that was accepted, whose words are n.
 pub(crate) fn many_in(table: &Table, n: Node, t: usize, b: &[u8]) -> usize
-    requires { Under table.now.lens.now table.now.layout.now (t + 1) × (n ≡ node_of table.now.layout.now t) × (has_element n.kind ≡ true) × IsAccepted (read_item (tree_of table.now.layout.now t) b.now 0) }
+    requires { (t < table.now.types) × (n ≡ node_of table.now.layout.now t) × (has_element n.kind ≡ true) × IsAccepted (read_item (tree_of table.now.layout.now t) b.now 0) }
     ensures { result ≡ many_in_lem table.now.layout.now n (head (tree_of table.now.layout.now n.second)) b.now }
 {
     match n.kind {

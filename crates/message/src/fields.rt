@@ -6,7 +6,7 @@ ghost use Rattle.standard.specs.Parts.{next, span_of, InRange};
 ghost use Rattle.decode.specs.Builder.{build_at, lay_out_lem};
 ghost use Rattle.layout.specs.Tree.{tree_of, head_of};
 ghost use Rattle.message.specs.Read.{vector_told_lem};
-ghost use Rattle.message.specs.Steps.{Under, Placed, types_of};
+ghost use Rattle.message.specs.Steps.{Placed, types_of};
 
 use crate::elements::exact_told;
 use crate::parts::Series;
@@ -66,7 +66,7 @@ fn lay_out(table: &Table, row: Series, b: &[u8]) -> Result<(), Refusal>
 
 // What the registration of a container's fields finds. One of fixed size that has its length needs no look at them.
 pub(crate) fn container_told(table: &Table, row: Series, b: &[u8]) -> Result<(), Refusal>
-    requires { Under table.now.lens.now table.now.layout.now (row.below + 1) × Placed table.now row × (length b.now < 2 ^ 32) × (tree_of table.now.layout.now row.below ≡ container row.below (types_of table.now.layout.now row)) }
+    requires { (row.below < table.now.types) × Placed table.now row × (length b.now < 2 ^ 32) × (tree_of table.now.layout.now row.below ≡ container row.below (types_of table.now.layout.now row)) }
     ensures { result ≡ lay_out_lem (heads (types_of table.now.layout.now row)) b.now }
 {
     let own = table.length(row.below);

@@ -5,14 +5,13 @@ ghost use Rattle.standard.specs.Bytes.{word_at};
 ghost use Rattle.standard.specs.Types.{boolean, free_bytes, bit_vector, bit_list, heads};
 ghost use Rattle.standard.specs.Parts.{InRange};
 ghost use Rattle.layout.specs.Tree.{node_of, leaf_of, tree_of};
-ghost use Rattle.layout.specs.Legal.{Legal};
 ghost use Rattle.layout.specs.Kinds.{is_leaf, has_element};
 ghost use Rattle.layout.specs.declared.Kind.{Kind};
 ghost use Rattle.std.specs.declared.result.Result.TheVariants.{Ok};
 ghost use Rattle.message.specs.Read.{located, raw_bytes_lem, one, plus, and_then, read_exact, read_item, read_fields};
 ghost use Rattle.message.specs.declared.Counts.{Counts};
 ghost use Rattle.message.specs.declared.items.Inside.{Inside};
-ghost use Rattle.message.specs.Steps.{Under, Placed, types_of, Found, placed, option_at_lem, choice_of, choose, is_plain, Small};
+ghost use Rattle.message.specs.Steps.{Placed, types_of, Found, placed, option_at_lem, choice_of, choose, is_plain, Small};
 
 use crate::elements::elements_of;
 use crate::fields::{container_told, locate, vector_told};
@@ -228,7 +227,7 @@ enum Inside {
 // Elements of the type e, which lie as they should. Numbers and fixed bytes have no rule of their own left to fail, so they are counted and not
 // looked at.
 fn row_inside(table: &Table, row: Series, e: usize, words: usize) -> Inside
-    requires { Legal table.now.layout.now (e + 1) × (row.many < 2 ^ 34) }
+    requires { (e < table.now.types) × (row.many < 2 ^ 34) }
     ensures { result ≡ pick (is_plain (node_of table.now.layout.now e).kind) (Inside.Counted (1 + row.many) words) (Inside.Fields row words) }
 {
     if is_plain(table.kind(e)) {
@@ -242,7 +241,7 @@ fn row_inside(table: &Table, row: Series, e: usize, words: usize) -> Inside
 
 // The inside of the list or vector b of the type t, whose words are n.
 fn elements_inside(table: &Table, n: Node, t: usize, b: &[u8]) -> Result<Inside, Refusal>
-    requires { Under table.now.lens.now table.now.layout.now (t + 1) × (length b.now < 2 ^ 32) × (n ≡ node_of table.now.layout.now t) × (has_element n.kind ≡ true) }
+    requires { (t < table.now.types) × (length b.now < 2 ^ 32) × (n ≡ node_of table.now.layout.now t) × (has_element n.kind ≡ true) }
     ensures { Found table.now.lens.now table.now.layout.now t b.now result }
 {
     let e = n.second;
@@ -263,7 +262,7 @@ fn elements_inside(table: &Table, n: Node, t: usize, b: &[u8]) -> Result<Inside,
 
 // The inside of the container, list or vector b of the type t, whose words are n.
 fn inside_of(table: &Table, n: Node, t: usize, b: &[u8]) -> Result<Inside, Refusal>
-    requires { Under table.now.lens.now table.now.layout.now (t + 1) × (length b.now < 2 ^ 32) × (n ≡ node_of table.now.layout.now t) × (is_leaf n.kind ≡ false) × (n.kind ≡ Kind.Union → ⊥) }
+    requires { (t < table.now.types) × (length b.now < 2 ^ 32) × (n ≡ node_of table.now.layout.now t) × (is_leaf n.kind ≡ false) × (n.kind ≡ Kind.Union → ⊥) }
     ensures { Found table.now.lens.now table.now.layout.now t b.now result }
 {
     match n.kind {
@@ -284,7 +283,7 @@ pub(crate) fn item_check(
     b: &[u8],
     start: usize,
 ) -> Result<Counts, RefusedAt>
-    requires { Under table.now.lens.now table.now.layout.now (t + 1) × (start + length b.now < 2 ^ 32) }
+    requires { (t < table.now.types) × (start + length b.now < 2 ^ 32) }
     ensures { result ≡ read_item (tree_of table.now.layout.now t) b.now start }
 {
     let n = table.look(t);
@@ -325,7 +324,7 @@ fn field_check(
     b: &[u8],
     start: usize,
 ) -> Result<Counts, RefusedAt>
-    requires { Placed table.now row × (start + length b.now < 2 ^ 32) × InRange (heads (types_of table.now.layout.now row)) b.now 0 0 × (words ≤ 1) }
+    requires { Placed table.now row × (start + length b.now < 2 ^ 32) × InRange (heads (types_of table.now.layout.now row)) b.now 0 0 × (words ≤ 1) × (row.below ≤ table.now.types) }
     ensures { result ≡ and_then (one words 0) (read_fields (types_of table.now.layout.now row) b.now 0 start) }
 {
     // A copy of the table stays in registers, whatever is stored meanwhile.

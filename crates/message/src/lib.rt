@@ -14,7 +14,6 @@ ghost use Rattle.std.specs.Prelude.{◌≡◌, ◌-◌, ◌+◌, ◌≤◌, ◌<
 ghost use Rattle.std.specs.declared.result.Result.TheVariants.{Ok};
 ghost use Rattle.message.specs.Read.{located};
 ghost use Rattle.message.specs.Check.{message_type, under_table_lem, check_message, listed_of, records_of, list_message, listed_records};
-ghost use Rattle.message.specs.Steps.{Under};
 ghost use Rattle.message.specs.Unfold.{unfold_words, unfold_bytes, unfolded_of, filled_of, unfold_message, unfolded_words, unfolded_bytes};
 
 use items::item_check;
@@ -60,15 +59,14 @@ impl From<Refusal> for RefusedAt {
     }
 }
 
-// The message under a legal table of n types.
-fn check_under(table: &Table, n: usize, message: &[u8]) -> Result<Counts, RefusedAt>
-    requires { Under table.now.lens.now table.now.layout.now n × (1 ≤ n) }
-    ensures { result ≡ under_table_lem (Ok n) table.now.layout.now message.now }
+// The message under a legal table.
+fn check_under(table: &Table, message: &[u8]) -> Result<Counts, RefusedAt>
+    ensures { result ≡ under_table_lem (Ok table.now.types) table.now.layout.now message.now }
 {
     if message.len() > 4294967295 {
         return Err(RefusedAt::from(Refusal::TooLarge));
     }
-    item_check(table, n - 1, message, 0)
+    item_check(table, table.types - 1, message, 0)
 }
 
 // Checks a message: 20 for a bad table, 21 for 2^32 bytes or more, then the rules of reading.
@@ -77,32 +75,27 @@ pub fn check(layout: &[u8], message: &[u8]) -> Result<Counts, RefusedAt>
     ensures { result ≡ check_message layout.now message.now }
 {
     let mut lens = [0u32; 64];
-    let n = table_of(&mut lens, layout)?;
+    let types = table_of(&mut lens, layout)?;
     let table = Table {
         lens: &lens,
         layout,
+        types,
     };
-    check_under(&table, n, message)
+    check_under(&table, message)
 }
 
 // Stores the listing of a message that was checked, where there is room for it.
-fn list_under(
-    records: &mut [u8],
-    table: &Table,
-    n: usize,
-    message: &[u8],
-) -> Result<usize, RefusedAt>
-    requires { Under table.now.lens.now table.now.layout.now n × (1 ≤ n) }
-    ensures value { result ≡ listed_of (under_table_lem (Ok n) table.now.layout.now message.now) records.old }
-    ensures records_after { records.new ≡ records_of (under_table_lem (Ok n) table.now.layout.now message.now) (message_type table.now.layout.now n) message.now records.old }
+fn list_under(records: &mut [u8], table: &Table, message: &[u8]) -> Result<usize, RefusedAt>
+    ensures value { result ≡ listed_of (under_table_lem (Ok table.now.types) table.now.layout.now message.now) records.old }
+    ensures records_after { records.new ≡ records_of (under_table_lem (Ok table.now.types) table.now.layout.now message.now) (message_type table.now.layout.now table.now.types) message.now records.old }
 {
-    let c = check_under(table, n, message)?;
+    let c = check_under(table, message)?;
     let room = records.len() / 12;
     let need = c.records;
     if need > room {
         return Err(RefusedAt::from(Refusal::NoRoom(need, room)));
     }
-    list_item(records, 0, table, n - 1, message, 0);
+    list_item(records, 0, table, table.types - 1, message, 0);
     Ok(need)
 }
 
@@ -113,12 +106,13 @@ pub fn list(layout: &[u8], message: &[u8], records: &mut [u8]) -> Result<usize, 
     ensures records_after { records.new ≡ listed_records layout.now message.now records.old }
 {
     let mut lens = [0u32; 64];
-    let n = table_of(&mut lens, layout)?;
+    let types = table_of(&mut lens, layout)?;
     let table = Table {
         lens: &lens,
         layout,
+        types,
     };
-    list_under(records, &table, n, message)
+    list_under(records, &table, message)
 }
 
 // Stores the value form of a message that was checked, where there is room for it.
@@ -126,15 +120,13 @@ fn unfold_under(
     contents: &mut [u32],
     bodies: &mut [u8],
     table: &Table,
-    n: usize,
     message: &[u8],
 ) -> Result<Sizes, RefusedAt>
-    requires { Under table.now.lens.now table.now.layout.now n × (1 ≤ n) }
-    ensures value { result ≡ unfolded_of (under_table_lem (Ok n) table.now.layout.now message.now) contents.old bodies.old }
-    ensures contents_after { contents.new ≡ filled_of (under_table_lem (Ok n) table.now.layout.now message.now) contents.old bodies.old contents.old (unfold_words (message_type table.now.layout.now n) message.now) }
-    ensures bodies_after { bodies.new ≡ filled_of (under_table_lem (Ok n) table.now.layout.now message.now) contents.old bodies.old bodies.old (unfold_bytes (message_type table.now.layout.now n) message.now) }
+    ensures value { result ≡ unfolded_of (under_table_lem (Ok table.now.types) table.now.layout.now message.now) contents.old bodies.old }
+    ensures contents_after { contents.new ≡ filled_of (under_table_lem (Ok table.now.types) table.now.layout.now message.now) contents.old bodies.old contents.old (unfold_words (message_type table.now.layout.now table.now.types) message.now) }
+    ensures bodies_after { bodies.new ≡ filled_of (under_table_lem (Ok table.now.types) table.now.layout.now message.now) contents.old bodies.old bodies.old (unfold_bytes (message_type table.now.layout.now table.now.types) message.now) }
 {
-    let c = check_under(table, n, message)?;
+    let c = check_under(table, message)?;
     let words = c.words;
     let bytes = c.bytes;
     if words > contents.len() {
@@ -144,7 +136,7 @@ fn unfold_under(
         return Err(RefusedAt::from(Refusal::NoRoom(words, bytes)));
     }
     let start = Place { word: 0, byte: 0 };
-    unfold_item(contents, bodies, start, table, n - 1, message);
+    unfold_item(contents, bodies, start, table, table.types - 1, message);
     Ok(Sizes { words, bytes })
 }
 
@@ -161,10 +153,11 @@ pub fn unfold(
     ensures bodies_after { bodies.new ≡ unfolded_bytes layout.now message.now contents.old bodies.old }
 {
     let mut lens = [0u32; 64];
-    let n = table_of(&mut lens, layout)?;
+    let types = table_of(&mut lens, layout)?;
     let table = Table {
         lens: &lens,
         layout,
+        types,
     };
-    unfold_under(contents, bodies, &table, n, message)
+    unfold_under(contents, bodies, &table, message)
 }

@@ -7,7 +7,7 @@ ghost use Rattle.standard.specs.Parts.{InRange};
 ghost use Rattle.layout.specs.Tree.{tree_of};
 ghost use Rattle.message.specs.Read.{read_item, read_fields};
 ghost use Rattle.message.specs.Listing.{entry, list_item_lem, list_fields_lem};
-ghost use Rattle.message.specs.Steps.{Under, Placed, types_of, IsAccepted};
+ghost use Rattle.message.specs.Steps.{Placed, types_of, IsAccepted};
 
 use crate::fields::locate;
 use crate::items::select;
@@ -44,7 +44,7 @@ pub(crate) fn list_item(
     b: &[u8],
     start: usize,
 ) -> usize
-    requires { Under table.now.lens.now table.now.layout.now (t + 1) × (start + length b.now < 2 ^ 32) × IsAccepted (read_item (tree_of table.now.layout.now t) b.now start) × Room out.old at (list_item_lem (tree_of table.now.layout.now t) b.now start) }
+    requires { (t < table.now.types) × (start + length b.now < 2 ^ 32) × IsAccepted (read_item (tree_of table.now.layout.now t) b.now start) × Room out.old at (list_item_lem (tree_of table.now.layout.now t) b.now start) }
     ensures { Stored out.old at (list_item_lem (tree_of table.now.layout.now t) b.now start) result out.new }
 {
     put_entry(out, at, t, b, start);
@@ -74,7 +74,7 @@ fn list_fields(
     b: &[u8],
     start: usize,
 ) -> usize
-    requires { Placed table.now row × (start + length b.now < 2 ^ 32) × InRange (heads (types_of table.now.layout.now row)) b.now 0 0 × IsAccepted (read_fields (types_of table.now.layout.now row) b.now 0 start) × Room out.old at0 (list_fields_lem (types_of table.now.layout.now row) b.now 0 start) }
+    requires { Placed table.now row × (start + length b.now < 2 ^ 32) × InRange (heads (types_of table.now.layout.now row)) b.now 0 0 × IsAccepted (read_fields (types_of table.now.layout.now row) b.now 0 start) × Room out.old at0 (list_fields_lem (types_of table.now.layout.now row) b.now 0 start) × (row.below ≤ table.now.types) }
     ensures { Stored out.old at0 (list_fields_lem (types_of table.now.layout.now row) b.now 0 start) result out.new }
 {
     // A copy of the table stays in registers, whatever is stored meanwhile.

@@ -3,7 +3,7 @@ ghost use Rattle.std.specs.Prelude.{◌≡◌, ◌+◌, ◌<◌, ◌^◌, length
 ghost use Rattle.layout.specs.declared.Kind.{Kind};
 ghost use Rattle.layout.specs.Tree.{node_of, tree_of};
 ghost use Rattle.message.specs.Read.{read_item};
-ghost use Rattle.message.specs.Steps.{Under, Placed, Next, IsAccepted};
+ghost use Rattle.message.specs.Steps.{Placed, Next, IsAccepted};
 ghost use Rattle.message.specs.Series.{MadeOf};
 
 use crate::elements::many_in;
@@ -76,7 +76,7 @@ impl Series {
 
 // The fields or elements of an accepted item b of the type t, whose words are n. A leaf has none; a union has no series.
 pub(crate) fn series_in(table: &Table, n: Node, t: usize, b: &[u8]) -> Series
-    requires { Under table.now.lens.now table.now.layout.now (t + 1) × (length b.now < 2 ^ 32) × (n ≡ node_of table.now.layout.now t) × (n.kind ≡ Kind.Union → ⊥) × IsAccepted (read_item (tree_of table.now.layout.now t) b.now 0) }
+    requires { (t < table.now.types) × (length b.now < 2 ^ 32) × (n ≡ node_of table.now.layout.now t) × (n.kind ≡ Kind.Union → ⊥) × IsAccepted (read_item (tree_of table.now.layout.now t) b.now 0) }
     ensures { MadeOf table.now.lens.now table.now.layout.now t n b.now result }
 {
     if is_leaf(n.kind) {

@@ -1,9 +1,10 @@
 // A table that is known to be legal, with the lengths of its types: all its words are there, so none is compared with a length.
-ghost use Rattle.std.specs.Prelude.{◌≡◌, ◌+◌, ◌<◌, ◌^◌, get_or};
+ghost use Rattle.std.specs.Prelude.{◌≡◌, ◌+◌, ◌≤◌, ◌<◌, ◌^◌, get_or};
 ghost use Rattle.standard.specs.Bytes.{word_at};
 ghost use Rattle.layout.specs.Table.{count};
 ghost use Rattle.layout.specs.Tree.{node_of};
-ghost use Rattle.layout.specs.Legal.{Legal};
+ghost use Rattle.layout.specs.Steps.{Known};
+ghost use Rattle.message.specs.Held.{known_prop};
 ghost use Rattle.layout.specs.Kinds.{is_leaf};
 
 use crate::words::four_in;
@@ -20,11 +21,14 @@ pub(crate) fn is_leaf(kind: Kind) -> bool
     )
 }
 
-// The bytes of the table, and the fixed length of each of its types, 0 for one of variable size.
+// The bytes of the table, the fixed length of each of its types, 0 for one of variable size, and how many these are.
 #[derive(Clone, Copy)]
 pub(crate) struct Table<'a> {
     pub lens: &'a [u32; 64],
     pub layout: &'a [u8],
+    pub types: usize,
+    ghost known: { Known lens.now layout.now types } by { known_prop lens.now layout.now types },
+    ghost some: { 1 ≤ types },
 }
 
 impl<'a> Table<'a> {
@@ -38,7 +42,7 @@ impl<'a> Table<'a> {
 
     // The kind of the type t.
     pub(crate) fn kind(&self, t: usize) -> Kind
-        requires { Legal self.now.layout.now (t + 1) }
+        requires { t < self.now.types }
         ensures { result ≡ (node_of self.now.layout.now t).kind }
     {
         let at = self.word(1 + t);
@@ -47,7 +51,7 @@ impl<'a> Table<'a> {
 
     // What the table says of the type t, which has this kind. The word behind the kind may be missing: a boolean has none.
     pub(crate) fn node(&self, t: usize, kind: Kind) -> Node
-        requires { Legal self.now.layout.now (t + 1) × (kind ≡ (node_of self.now.layout.now t).kind) }
+        requires { (t < self.now.types) × (kind ≡ (node_of self.now.layout.now t).kind) }
         ensures { result ≡ node_of self.now.layout.now t }
     {
         let at = self.word(1 + t);
@@ -57,7 +61,7 @@ impl<'a> Table<'a> {
 
     // What the table says of the type t.
     pub(crate) fn look(&self, t: usize) -> Node
-        requires { Legal self.now.layout.now (t + 1) }
+        requires { t < self.now.types }
         ensures { result ≡ node_of self.now.layout.now t }
     {
         self.node(t, self.kind(t))

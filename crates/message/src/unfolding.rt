@@ -6,7 +6,7 @@ ghost use Rattle.standard.specs.declared.Head.TheVariants.{Variable};
 ghost use Rattle.standard.specs.Parts.{InRange};
 ghost use Rattle.layout.specs.declared.Kind.{Kind};
 ghost use Rattle.layout.specs.Tree.{node_of, leaf_of, tree_of};
-ghost use Rattle.message.specs.Steps.{Under, Placed, types_of};
+ghost use Rattle.message.specs.Steps.{Placed, types_of};
 ghost use Rattle.message.specs.Unfold.{raw_of, unfold_words, words_fields, unfold_bytes, bytes_fields, Accepts, AcceptsAll, Rooms, Filled, MarkedAt};
 ghost use Rattle.message.specs.Series.{count_word};
 ghost use Rattle.message.specs.Unfolding.{Filling};
@@ -185,7 +185,7 @@ fn begin(
     t: usize,
     b: &[u8],
 ) -> Opened
-    requires { Under table.now.lens.now table.now.layout.now (t + 1) × (length b.now < 2 ^ 32) × (n ≡ node_of table.now.layout.now t) × (n.kind ≡ Kind.Union → ⊥) × Accepts (tree_of table.now.layout.now t) b.now × Rooms contents.old bodies.old at (unfold_words (tree_of table.now.layout.now t) b.now) (unfold_bytes (tree_of table.now.layout.now t) b.now) }
+    requires { (t < table.now.types) × (length b.now < 2 ^ 32) × (n ≡ node_of table.now.layout.now t) × (n.kind ≡ Kind.Union → ⊥) × Accepts (tree_of table.now.layout.now t) b.now × Rooms contents.old bodies.old at (unfold_words (tree_of table.now.layout.now t) b.now) (unfold_bytes (tree_of table.now.layout.now t) b.now) }
     ensures { Filling table.now.lens.now table.now.layout.now t b.now (unfold_words (tree_of table.now.layout.now t) b.now) (unfold_bytes (tree_of table.now.layout.now t) b.now) contents.old bodies.old at contents.new bodies.new result.at result.left 0 }
 {
     if table.length(t) > 0 {
@@ -215,7 +215,7 @@ pub(crate) fn unfold_item(
     t: usize,
     b: &[u8],
 ) -> Place
-    requires { Under table.now.lens.now table.now.layout.now (t + 1) × (length b.now < 2 ^ 32) × Accepts (tree_of table.now.layout.now t) b.now × Rooms contents.old bodies.old at (unfold_words (tree_of table.now.layout.now t) b.now) (unfold_bytes (tree_of table.now.layout.now t) b.now) }
+    requires { (t < table.now.types) × (length b.now < 2 ^ 32) × Accepts (tree_of table.now.layout.now t) b.now × Rooms contents.old bodies.old at (unfold_words (tree_of table.now.layout.now t) b.now) (unfold_bytes (tree_of table.now.layout.now t) b.now) }
     ensures { Filled contents.old bodies.old at (unfold_words (tree_of table.now.layout.now t) b.now) (unfold_bytes (tree_of table.now.layout.now t) b.now) result contents.new bodies.new }
 {
     let n = table.look(t);
@@ -246,7 +246,7 @@ fn unfold_fields(
     row: Series,
     b: &[u8],
 ) -> Place
-    requires { Placed table.now row × (length b.now < 2 ^ 32) × InRange (heads (types_of table.now.layout.now row)) b.now 0 0 × AcceptsAll (types_of table.now.layout.now row) b.now 0 × Rooms contents.old bodies.old at0 (words_fields (types_of table.now.layout.now row) b.now 0) (bytes_fields (types_of table.now.layout.now row) b.now 0) }
+    requires { Placed table.now row × (length b.now < 2 ^ 32) × InRange (heads (types_of table.now.layout.now row)) b.now 0 0 × AcceptsAll (types_of table.now.layout.now row) b.now 0 × Rooms contents.old bodies.old at0 (words_fields (types_of table.now.layout.now row) b.now 0) (bytes_fields (types_of table.now.layout.now row) b.now 0) × (row.below ≤ table.now.types) }
     ensures { Filled contents.old bodies.old at0 (words_fields (types_of table.now.layout.now row) b.now 0) (bytes_fields (types_of table.now.layout.now row) b.now 0) result contents.new bodies.new }
 {
     // A copy of the table stays in registers, whatever is stored meanwhile.

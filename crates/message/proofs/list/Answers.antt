@@ -1,11 +1,11 @@
--- As the table goes. Assumes nothing.
+-- As the table goes: the types of a legal one are known. Assumes nothing.
 use Rattle.std.proofs.Common.{sym}
-use Rattle.bitfield.proofs.Tops.{bytes-known}
+use Rattle.standard.proofs.Bytes.{bytes-known}
 use Rattle.layout.proofs.Tables.{table_known}
-use Rattle.message.proofs.Rows.{under_table}
 use Rattle.message.proofs.list.Goals as goal
 
-pub list_under-requires : goal.list_under-requires
-list_under-requires c =
-    let k = table_known _ _ _ (bytes-known _ c.type_inv.layout) (sym c.in_ok-n.ensures.value) c.in_ok-n.ensures.lens_after in
-    (under_table _ _ _ k.0, k.1)
+pub invariant_of-table : goal.invariant_of-table
+invariant_of-table c =
+    let b = bytes-known _ (λ i. (c.type_inv.layout i).fits) in
+    let k = table_known _ _ _ b (sym c.in_ok-types.ensures.value) c.in_ok-types.ensures.lens_after in
+    record { known = k.0; some = k.1 }

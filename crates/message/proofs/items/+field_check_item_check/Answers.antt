@@ -10,7 +10,7 @@ use Rattle.message.specs.declared.Counts.{Counts}
 use Rattle.message.specs.declared.parts.Series.{Series}
 use Rattle.message.specs.Read.{one, and_then}
 use Rattle.message.proofs.Answers.{handed}
-use Rattle.message.proofs.Rows.{node_legal, next_few, next_below, next_under, next_row, head-ranges, span-said, under-below}
+use Rattle.message.proofs.Rows.{known-below, node_legal, next_few, next_below, next_row, head-ranges, span-said, under-below}
 use Rattle.message.proofs.Bodies.{Reading, reading-new, reading_small, reading_span, reading-item, reading-next, reading_stop, reading-end}
 use Rattle.message.proofs.Bodies.{plain_fits, plain-next, free_next}
 use Rattle.message.proofs.Bodies.{item-small, small-more, leaf-told}
@@ -25,7 +25,8 @@ pub field_check-next-requires : goal.field_check-next-requires
 field_check-next-requires t c = c.loop-f.invariant.row
 
 pub field_check-kind-kind-requires : goal.field_check-kind-kind-requires
-field_check-kind-kind-requires t c = (next_under _ _ _ _ _ c.loop-f.invariant.row c.in-Some.ensures).legal
+field_check-kind-kind-requires t c =
+    omega (arith, next_below _ _ _ _ _ c.loop-f.invariant.row c.in-Some.ensures, c.loop-f.invariant.below, c.requires.4)
 
 pub field_check-length-k-requires : goal.field_check-length-k-requires
 field_check-length-k-requires t c = next_few _ _ _ _ _ c.loop-f.invariant.row c.in-Some.ensures
@@ -61,7 +62,9 @@ said :
 said g i q e = span-said _ _ _ _ _ g.row i _ _ g.ranges _ q _ e
 
 pub field_check-node-node-requires : goal.field_check-node-node-requires
-field_check-node-node-requires t c = ((next_under _ _ _ _ _ c.loop-f.invariant.row c.in-Some.ensures).legal, c.kind-kind.ensures)
+field_check-node-node-requires t c =
+    let lower = next_below _ _ _ _ _ c.loop-f.invariant.row c.in-Some.ensures in
+    (omega (arith, lower, c.loop-f.invariant.below, c.requires.4), c.kind-kind.ensures)
 
 pub field_check-overflow_sub-len : goal.field_check-overflow_sub-len
 field_check-overflow_sub-len t c =
@@ -128,8 +131,7 @@ field_check-item_check-requires t c =
     let span = said c.loop-f.invariant c.in-Some.ensures c.length-k.ensures.0 c.locate-w.ensures in
     let lies = reading_span c.loop-f.invariant c.in-Some.ensures span in
     let lower = next_below _ _ _ _ _ c.loop-f.invariant.row c.in-Some.ensures in
-    let under = next_under _ _ _ _ _ c.loop-f.invariant.row c.in-Some.ensures in
-    (omega (arith, lower, c.loop-f.invariant.below, c.decreases), (under, omega (arith, lies, c.requires.1)))
+    (omega (arith, lower, c.loop-f.invariant.below, c.decreases), (omega (arith, lower, c.loop-f.invariant.below, c.requires.4), omega (arith, lies, c.requires.1)))
 
 pub field_check-add-sum-requires-in-Some : goal.field_check-add-sum-requires-in-Some
 field_check-add-sum-requires-in-Some t c =
@@ -161,32 +163,32 @@ item_check-returns-in-Err t c =
     (leaf-told _ _ _ c.look-n.ensures (sym c.is_leaf.ensures ∙ c.if-is_leaf.true) _ _ _ c.in-Err.is c.leaf_check.ensures c.args.start)
 
 pub item_check-select-requires : goal.item_check-select-requires
-item_check-select-requires t c = (node_legal _ _ _ _ c.look-n.ensures c.requires.0).near
+item_check-select-requires t c = (node_legal _ _ _ _ c.look-n.ensures (known-below c.args.table.now _ c.requires.0)).near
 
 pub item_check-slice_bounds-item_check-count : goal.item_check-slice_bounds-item_check-count
 item_check-slice_bounds-item_check-count t c =
     let o = rw c.in-Ok-Some.field-0-is at c.in-Ok-Some.ensures in
-    (body_below _ _ _ _ c.look-n.ensures c.requires.0 c.in-Union.is _ _ o).1
+    (body_below _ _ _ _ c.look-n.ensures (known-below c.args.table.now _ c.requires.0) c.in-Union.is _ _ o).1
 
 pub item_check-slice_bounds-item_check-start : goal.item_check-slice_bounds-item_check-start
 item_check-slice_bounds-item_check-start t c =
     let o = rw c.in-Ok-Some.field-0-is at c.in-Ok-Some.ensures in
-    (body_below _ _ _ _ c.look-n.ensures c.requires.0 c.in-Union.is _ _ o).1
+    (body_below _ _ _ _ c.look-n.ensures (known-below c.args.table.now _ c.requires.0) c.in-Union.is _ _ o).1
 
 pub item_check-item_check-requires : goal.item_check-item_check-requires
 item_check-item_check-requires t c =
     let o = rw c.in-Ok-Some.field-0-is at c.in-Ok-Some.ensures in
-    let z = body_below _ _ _ _ c.look-n.ensures c.requires.0 c.in-Union.is _ _ o in (
+    let z = body_below _ _ _ _ c.look-n.ensures (known-below c.args.table.now _ c.requires.0) c.in-Union.is _ _ o in (
       omega (arith, c.decreases, z),
-      (under-below _ _ _ _ (omega (arith, z)) c.requires.0, simp (length-take, length-drop) (omega (arith, c.requires.1, z))),
+      (omega (arith, z, c.requires.0), simp (length-take, length-drop) (omega (arith, c.requires.1, z))),
     )
 
 pub item_check-add-requires : goal.item_check-add-requires
 item_check-add-requires t c =
     let o = rw c.in-Ok-Some.field-0-is at c.in-Ok-Some.ensures in
-    let z = body_below _ _ _ _ c.look-n.ensures c.requires.0 c.in-Union.is _ _ o in
+    let z = body_below _ _ _ _ c.look-n.ensures (known-below c.args.table.now _ c.requires.0) c.in-Union.is _ _ o in
     let small =
-    item-small _ _ _ _ _ _ (under-below _ _ _ _ (omega (arith, z)) c.requires.0)
+    item-small _ _ _ _ _ _ (under-below _ _ _ _ (omega (arith, z)) (known-below c.args.table.now _ c.requires.0))
     (simp (length-take, length-drop) (omega (arith, c.requires.1, z))) c.in_ok-body-in-Ok-Some.ensures in (
       rw c.item-in-Ok-Some.ensures (record { records = omega arith; words = omega arith; bytes = omega arith }),
       small-more _ small,
@@ -195,21 +197,21 @@ item_check-add-requires t c =
 pub item_check-returns-in-Ok-None : goal.item_check-returns-in-Ok-None
 item_check-returns-in-Ok-None t c =
     let o = rw c.in-Ok-None.field-0-is at c.in-Ok-None.ensures in
-    rw c.item-in-Ok-None.ensures (bare-read _ _ _ _ c.look-n.ensures c.requires.0 c.in-Union.is _ c.args.start o)
+    rw c.item-in-Ok-None.ensures (bare-read _ _ _ _ c.look-n.ensures (known-below c.args.table.now _ c.requires.0) c.in-Union.is _ c.args.start o)
 
 pub item_check-returns-in_ok-body-in-Ok-Some : goal.item_check-returns-in_ok-body-in-Ok-Some
 item_check-returns-in_ok-body-in-Ok-Some t c =
     let o = rw c.in-Ok-Some.field-0-is at c.in-Ok-Some.ensures in
     rw (c.add.ensures, c.item-in-Ok-Some.ensures)
-    (ap (and_then (one 1 0)) c.in_ok-body-in-Ok-Some.ensures ∙ body-read _ _ _ _ c.look-n.ensures c.requires.0 c.in-Union.is _ _ o c.args.start)
+    (ap (and_then (one 1 0)) c.in_ok-body-in-Ok-Some.ensures ∙ body-read _ _ _ _ c.look-n.ensures (known-below c.args.table.now _ c.requires.0) c.in-Union.is _ _ o c.args.start)
 
 pub item_check-returns-in_err-body-in-Ok-Some : goal.item_check-returns-in_err-body-in-Ok-Some
 item_check-returns-in_err-body-in-Ok-Some t c =
     let o = rw c.in-Ok-Some.field-0-is at c.in-Ok-Some.ensures in
     rw (handed _ _ c.from_residual.ensures.1)
-    (ap (and_then (one 1 0)) c.in_err-body-in-Ok-Some.ensures ∙ body-read _ _ _ _ c.look-n.ensures c.requires.0 c.in-Union.is _ _ o c.args.start)
+    (ap (and_then (one 1 0)) c.in_err-body-in-Ok-Some.ensures ∙ body-read _ _ _ _ c.look-n.ensures (known-below c.args.table.now _ c.requires.0) c.in-Union.is _ _ o c.args.start)
 
 pub item_check-returns-in-Err-select : goal.item_check-returns-in-Err-select
 item_check-returns-in-Err-select t c =
     rw c.located-in-Err-select.ensures
-    (wrong-read _ _ _ _ c.look-n.ensures c.requires.0 c.in-Union.is _ c.args.start _ c.in-Err-select.ensures)
+    (wrong-read _ _ _ _ c.look-n.ensures (known-below c.args.table.now _ c.requires.0) c.in-Union.is _ c.args.start _ c.in-Err-select.ensures)

@@ -7,7 +7,7 @@ use Rattle.standard.proofs.Store.{stored_then, room_then}
 use Rattle.layout.specs.Tree.{tree_of, head_of}
 use Rattle.message.specs.Steps.{types_of, Next}
 use Rattle.message.specs.declared.parts.Series.{Series}
-use Rattle.message.proofs.Rows.{node_legal, next_few, next_below, next_under, next_row, head-ranges, span-said, under-below}
+use Rattle.message.proofs.Rows.{known-below, node_legal, next_few, next_below, next_row, head-ranges, span-said}
 use Rattle.message.proofs.Bodies.{body_below}
 use Rattle.message.proofs.Entries.{Storing, storing_lies, storing_accepted, storing_room, storing_next, storing_end, room-long}
 use Rattle.message.proofs.Entries.{leaf-stored, accepted-start, union-bare, union-body, union-never, body-accepted}
@@ -55,7 +55,8 @@ list_fields-overflow_add-place t c =
     omega (arith, storing_lies c.loop-f.invariant c.in-Some.ensures span, c.requires.1)
 
 pub list_fields-kind-requires : goal.list_fields-kind-requires
-list_fields-kind-requires t c = (next_under _ _ _ _ _ c.loop-f.invariant.row c.in-Some.ensures).legal
+list_fields-kind-requires t c =
+    omega (arith, next_below _ _ _ _ _ c.loop-f.invariant.row c.in-Some.ensures, c.loop-f.invariant.below, c.requires.5)
 
 pub list_fields-put_entry-requires : goal.list_fields-put_entry-requires
 list_fields-put_entry-requires t c =
@@ -77,7 +78,7 @@ list_fields-list_item-at-requires t c =
     let lower = next_below _ _ _ _ _ c.loop-f.invariant.row c.in-Some.ensures in (
       omega (arith, lower, c.loop-f.invariant.below, c.decreases),
       (
-        next_under _ _ _ _ _ c.loop-f.invariant.row c.in-Some.ensures,
+        omega (arith, lower, c.loop-f.invariant.below, c.requires.5),
         omega (arith, storing_lies c.loop-f.invariant c.in-Some.ensures span, c.requires.1),
         storing_accepted c.loop-f.invariant c.in-Some.ensures span,
         storing_room c.loop-f.invariant c.in-Some.ensures span,
@@ -93,32 +94,32 @@ pub list_fields-returns : goal.list_fields-returns
 list_fields-returns t c = storing_end c.loop-f.invariant c.in_default.ensures
 
 pub list_item-put_entry-requires : goal.list_item-put_entry-requires
-list_item-put_entry-requires t c = (room-long _ _ _ _ _ c.requires.3, omega (arith, c.requires.0.few), c.requires.1)
+list_item-put_entry-requires t c = (room-long _ _ _ _ _ c.requires.3, omega (arith, (known-below c.args.table.now _ c.requires.0).few), c.requires.1)
 
 pub list_item-select-requires : goal.list_item-select-requires
-list_item-select-requires t c = (node_legal _ _ _ _ c.look-n.ensures c.requires.0).near
+list_item-select-requires t c = (node_legal _ _ _ _ c.look-n.ensures (known-below c.args.table.now _ c.requires.0)).near
 
 pub list_item-slice_bounds-list_item-count : goal.list_item-slice_bounds-list_item-count
 list_item-slice_bounds-list_item-count t c =
     let o = rw c.in-Ok-Some.field-0-is at c.in-Ok-Some.ensures in
-    (body_below _ _ _ _ c.look-n.ensures c.requires.0 c.in-Union.is _ _ o).1
+    (body_below _ _ _ _ c.look-n.ensures (known-below c.args.table.now _ c.requires.0) c.in-Union.is _ _ o).1
 
 pub list_item-slice_bounds-list_item-start : goal.list_item-slice_bounds-list_item-start
 list_item-slice_bounds-list_item-start t c =
     let o = rw c.in-Ok-Some.field-0-is at c.in-Ok-Some.ensures in
-    (body_below _ _ _ _ c.look-n.ensures c.requires.0 c.in-Union.is _ _ o).1
+    (body_below _ _ _ _ c.look-n.ensures (known-below c.args.table.now _ c.requires.0) c.in-Union.is _ _ o).1
 
 pub list_item-list_item-requires : goal.list_item-list_item-requires
 list_item-list_item-requires t c =
     let o = rw c.in-Ok-Some.field-0-is at c.in-Ok-Some.ensures in
-    let z = body_below _ _ _ _ c.look-n.ensures c.requires.0 c.in-Union.is _ _ o in (
+    let z = body_below _ _ _ _ c.look-n.ensures (known-below c.args.table.now _ c.requires.0) c.in-Union.is _ _ o in (
       omega (arith, c.decreases, z),
       (
-        under-below _ _ _ _ (omega (arith, z)) c.requires.0,
+        omega (arith, z, c.requires.0),
         simp (length-take, length-drop) (omega (arith, c.requires.1, z)),
-        body-accepted _ _ _ _ c.look-n.ensures c.requires.0 _ _ c.requires.2 c.in-Union.is _ o,
+        body-accepted _ _ _ _ c.look-n.ensures (known-below c.args.table.now _ c.requires.0) _ _ c.requires.2 c.in-Union.is _ o,
         room_then _ _ _ _ _ _ _ c.requires.3
-            (union-body _ _ _ _ c.look-n.ensures c.requires.0 _ _ c.requires.2 c.in-Union.is _ o) c.put_entry.ensures,
+            (union-body _ _ _ _ c.look-n.ensures (known-below c.args.table.now _ c.requires.0) _ _ c.requires.2 c.in-Union.is _ o) c.put_entry.ensures,
       ),
     )
 
@@ -136,22 +137,23 @@ list_item-list_fields-requires t c =
         made.ranges,
         made.accepted _,
         room_then _ _ _ _ _ _ _ c.requires.3 (made.listed _) c.put_entry.ensures,
+        omega (arith, made.below, c.requires.0),
       ),
     )
 
 pub list_item-returns-in-Ok-None : goal.list_item-returns-in-Ok-None
 list_item-returns-in-Ok-None t c =
     let o = rw c.in-Ok-None.field-0-is at c.in-Ok-None.ensures in
-    rw (union-bare _ _ _ _ c.look-n.ensures c.requires.0 _ _ c.requires.2 c.in-Union.is o) c.put_entry.ensures
+    rw (union-bare _ _ _ _ c.look-n.ensures (known-below c.args.table.now _ c.requires.0) _ _ c.requires.2 c.in-Union.is o) c.put_entry.ensures
 
 pub list_item-returns-in-Ok-Some : goal.list_item-returns-in-Ok-Some
 list_item-returns-in-Ok-Some t c =
     let o = rw c.in-Ok-Some.field-0-is at c.in-Ok-Some.ensures in
     stored_then _ _ _ _ _ _ _ _ _ c.put_entry.ensures c.list_item.ensures
-    (union-body _ _ _ _ c.look-n.ensures c.requires.0 _ _ c.requires.2 c.in-Union.is _ o)
+    (union-body _ _ _ _ c.look-n.ensures (known-below c.args.table.now _ c.requires.0) _ _ c.requires.2 c.in-Union.is _ o)
 
 pub list_item-returns-in-Err : goal.list_item-returns-in-Err
-list_item-returns-in-Err t c = union-never _ _ _ _ c.look-n.ensures c.requires.0 _ _ c.requires.2 c.in-Union.is _ c.in-Err.ensures
+list_item-returns-in-Err t c = union-never _ _ _ _ c.look-n.ensures (known-below c.args.table.now _ c.requires.0) _ _ c.requires.2 c.in-Union.is _ c.in-Err.ensures
 
 pub list_item-returns-in_default : goal.list_item-returns-in_default
 list_item-returns-in_default t c =

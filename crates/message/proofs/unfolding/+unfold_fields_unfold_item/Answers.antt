@@ -8,7 +8,7 @@ use Rattle.message.specs.Steps.{types_of, Next}
 use Rattle.message.specs.Unfolding.{Filling}
 use Rattle.message.specs.declared.parts.Series.{Series}
 use Rattle.message.specs.declared.unfolding.Place.{Place}
-use Rattle.message.proofs.Rows.{node_legal, next_few, next_below, next_under, next_row, head-ranges, span-said, under-below}
+use Rattle.message.proofs.Rows.{known-below, node_legal, next_few, next_below, next_under, next_row, head-ranges, span-said}
 use Rattle.message.proofs.Bodies.{body_below}
 use Rattle.message.proofs.Unfolds.{filled_then, rooms_then, words-filled, filling_lies, filling_accepts, filling_rooms, filling_next, filling_end}
 use Rattle.message.proofs.Unfolds.{filling_last, own-fits, own_room, own-next, no_more, leaf_variable, leaf_accepts, leaf-rooms, leaf-filled}
@@ -66,7 +66,8 @@ unfold_fields-slice_bounds-field-end t c =
     (filling_lies c.loop-f.invariant c.in-Some.ensures span).1
 
 pub unfold_fields-look-n-requires : goal.unfold_fields-look-n-requires
-unfold_fields-look-n-requires t c = (next_under _ _ _ _ _ c.loop-f.invariant.row c.in-Some.ensures).legal
+unfold_fields-look-n-requires t c =
+    omega (arith, next_below _ _ _ _ _ c.loop-f.invariant.row c.in-Some.ensures, c.loop-f.invariant.below, c.requires.5)
 
 pub unfold_fields-unfold_leaf-at-requires : goal.unfold_fields-unfold_leaf-at-requires
 unfold_fields-unfold_leaf-at-requires t c =
@@ -87,7 +88,7 @@ unfold_fields-unfold_item-at-requires t c =
     let lower = next_below _ _ _ _ _ c.loop-f.invariant.row c.in-Some.ensures in (
       omega (arith, lower, c.loop-f.invariant.below, c.decreases),
       (
-        next_under _ _ _ _ _ c.loop-f.invariant.row c.in-Some.ensures,
+        omega (arith, lower, c.loop-f.invariant.below, c.requires.5),
         omega (arith, filling_lies c.loop-f.invariant c.in-Some.ensures span, c.requires.1),
         filling_accepts c.loop-f.invariant c.in-Some.ensures span,
         filling_rooms c.loop-f.invariant c.in-Some.ensures span,
@@ -112,42 +113,42 @@ pub unfold_fields-returns : goal.unfold_fields-returns
 unfold_fields-returns t c = filling_end c.loop-f.invariant c.in_default.ensures
 
 pub unfold_item-select-requires : goal.unfold_item-select-requires
-unfold_item-select-requires t c = (node_legal _ _ _ _ c.look-n.ensures c.requires.0).near
+unfold_item-select-requires t c = (node_legal _ _ _ _ c.look-n.ensures (known-below c.args.table.now _ c.requires.0)).near
 
 pub unfold_item-put_selector-requires : goal.unfold_item-put_selector-requires
 unfold_item-put_selector-requires t c = (
-  union-room _ _ _ _ c.look-n.ensures c.requires.0 _ c.requires.2 c.in-Union.is _ _ _ c.requires.3,
-  union-long _ _ _ _ c.look-n.ensures c.requires.0 _ c.requires.2 c.in-Union.is,
+  union-room _ _ _ _ c.look-n.ensures (known-below c.args.table.now _ c.requires.0) _ c.requires.2 c.in-Union.is _ _ _ c.requires.3,
+  union-long _ _ _ _ c.look-n.ensures (known-below c.args.table.now _ c.requires.0) _ c.requires.2 c.in-Union.is,
 )
 
 pub unfold_item-put_selector-inside-requires : goal.unfold_item-put_selector-inside-requires
 unfold_item-put_selector-inside-requires t c = (
-  union-room _ _ _ _ c.look-n.ensures c.requires.0 _ c.requires.2 c.in-Union.is _ _ _ c.requires.3,
-  union-long _ _ _ _ c.look-n.ensures c.requires.0 _ c.requires.2 c.in-Union.is,
+  union-room _ _ _ _ c.look-n.ensures (known-below c.args.table.now _ c.requires.0) _ c.requires.2 c.in-Union.is _ _ _ c.requires.3,
+  union-long _ _ _ _ c.look-n.ensures (known-below c.args.table.now _ c.requires.0) _ c.requires.2 c.in-Union.is,
 )
 
 pub unfold_item-slice_bounds-unfold_item-count : goal.unfold_item-slice_bounds-unfold_item-count
 unfold_item-slice_bounds-unfold_item-count t c =
     let o = rw c.in-Ok-Some.field-0-is at c.in-Ok-Some.ensures in
-    (body_below _ _ _ _ c.look-n.ensures c.requires.0 c.in-Union.is _ _ o).1
+    (body_below _ _ _ _ c.look-n.ensures (known-below c.args.table.now _ c.requires.0) c.in-Union.is _ _ o).1
 
 pub unfold_item-slice_bounds-unfold_item-start : goal.unfold_item-slice_bounds-unfold_item-start
 unfold_item-slice_bounds-unfold_item-start t c =
     let o = rw c.in-Ok-Some.field-0-is at c.in-Ok-Some.ensures in
-    (body_below _ _ _ _ c.look-n.ensures c.requires.0 c.in-Union.is _ _ o).1
+    (body_below _ _ _ _ c.look-n.ensures (known-below c.args.table.now _ c.requires.0) c.in-Union.is _ _ o).1
 
 pub unfold_item-unfold_item-requires : goal.unfold_item-unfold_item-requires
 unfold_item-unfold_item-requires t c =
     let o = rw c.in-Ok-Some.field-0-is at c.in-Ok-Some.ensures in
-    let z = body_below _ _ _ _ c.look-n.ensures c.requires.0 c.in-Union.is _ _ o in (
+    let z = body_below _ _ _ _ c.look-n.ensures (known-below c.args.table.now _ c.requires.0) c.in-Union.is _ _ o in (
       omega (arith, c.decreases, z),
       (
-        under-below _ _ _ _ (omega (arith, z)) c.requires.0,
+        omega (arith, z, c.requires.0),
         simp (length-take, length-drop) (omega (arith, c.requires.1, z)),
-        body_accepts _ _ _ _ c.look-n.ensures c.requires.0 _ c.requires.2 c.in-Union.is _ o,
+        body_accepts _ _ _ _ c.look-n.ensures (known-below c.args.table.now _ c.requires.0) _ c.requires.2 c.in-Union.is _ o,
         rooms_then _ _ _ _ _ _ _ _ _ _ _ _ c.requires.3
-            (body-words _ _ _ _ c.look-n.ensures c.requires.0 _ c.requires.2 c.in-Union.is _ o)
-            (body_bytes _ _ _ _ c.look-n.ensures c.requires.0 _ c.requires.2 c.in-Union.is _ o)
+            (body-words _ _ _ _ c.look-n.ensures (known-below c.args.table.now _ c.requires.0) _ c.requires.2 c.in-Union.is _ o)
+            (body_bytes _ _ _ _ c.look-n.ensures (known-below c.args.table.now _ c.requires.0) _ c.requires.2 c.in-Union.is _ o)
             (words-filled _ _ _ _ _ _ c.put_selector-inside.ensures.0 c.put_selector-inside.ensures.1),
       ),
     )
@@ -155,12 +156,12 @@ unfold_item-unfold_item-requires t c =
 pub unfold_item-unfold_fields-requires : goal.unfold_item-unfold_fields-requires
 unfold_item-unfold_fields-requires t c =
     let made = c.begin-s.ensures in
-    (omega (arith, made.below, c.decreases), (made.row, c.requires.1, made.ranges, made.accepted, made.rooms))
+    (omega (arith, made.below, c.decreases), (made.row, c.requires.1, made.ranges, made.accepted, made.rooms, omega (arith, made.below, c.requires.0)))
 
 pub unfold_item-returns-in-Ok-None : goal.unfold_item-returns-in-Ok-None
 unfold_item-returns-in-Ok-None t c =
     let o = rw c.in-Ok-None.field-0-is at c.in-Ok-None.ensures in
-    bare-filled _ _ _ _ c.look-n.ensures c.requires.0 _ c.requires.2 c.in-Union.is o _ _ _ _ _ _
+    bare-filled _ _ _ _ c.look-n.ensures (known-below c.args.table.now _ c.requires.0) _ c.requires.2 c.in-Union.is o _ _ _ _ _ _
     (words-filled _ _ _ _ _ _ c.put_selector.ensures.0 c.put_selector.ensures.1)
 
 pub unfold_item-returns-in-Ok-Some : goal.unfold_item-returns-in-Ok-Some
@@ -168,11 +169,11 @@ unfold_item-returns-in-Ok-Some t c =
     let o = rw c.in-Ok-Some.field-0-is at c.in-Ok-Some.ensures in
     filled_then _ _ _ _ _ _ _ _ _ _ _ _ _ _ _
     (words-filled _ _ _ _ _ _ c.put_selector-inside.ensures.0 c.put_selector-inside.ensures.1) c.unfold_item.ensures
-    (body-words _ _ _ _ c.look-n.ensures c.requires.0 _ c.requires.2 c.in-Union.is _ o)
-    (body_bytes _ _ _ _ c.look-n.ensures c.requires.0 _ c.requires.2 c.in-Union.is _ o)
+    (body-words _ _ _ _ c.look-n.ensures (known-below c.args.table.now _ c.requires.0) _ c.requires.2 c.in-Union.is _ o)
+    (body_bytes _ _ _ _ c.look-n.ensures (known-below c.args.table.now _ c.requires.0) _ c.requires.2 c.in-Union.is _ o)
 
 pub unfold_item-returns-in-Err : goal.unfold_item-returns-in-Err
-unfold_item-returns-in-Err t c = never _ _ _ _ c.look-n.ensures c.requires.0 _ c.requires.2 c.in-Union.is _ c.in-Err.ensures
+unfold_item-returns-in-Err t c = never _ _ _ _ c.look-n.ensures (known-below c.args.table.now _ c.requires.0) _ c.requires.2 c.in-Union.is _ c.in-Err.ensures
 
 pub unfold_item-returns-in_default : goal.unfold_item-returns-in_default
 unfold_item-returns-in_default t c = filling_last c.begin-s.ensures _ _ _ c.unfold_fields.ensures
