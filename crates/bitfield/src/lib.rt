@@ -55,6 +55,7 @@ impl BitfieldBehaviour for Fixed {
 }
 
 // A bitfield with the limit n: the first len of its bytes' bits. Any state can be handed in: every call tests it first.
+// kept: 256 bytes and a length, as document 01 has a held bitfield; a length that does not fit is answered with 23.
 #[derive_where(Clone, Copy, Debug, PartialEq, Eq)]
 pub struct Bitfield<T> {
     pub bytes: [u8; 256],

@@ -8,6 +8,7 @@ ghost use Rattle.cartwhisker.specs.Calls.{which_of_lem, check_number, list_numbe
 use message::{RefusedAt, check, list};
 
 // 0 to 4 pick number, a, b, type, start.
+// kept: a number, since C hands it in.
 fn which_of(which: u32, e: RefusedAt) -> u64
     ensures { result ≡ which_of_lem which (numbers_of_lem e.refusal) e.type_number e.start }
 {

@@ -188,6 +188,7 @@ impl SszDecoderBuilder {
     }
 
     // Registers an item of either kind, as the source's function of this name does.
+    // kept: the flag and the length are the source's parameters.
     pub fn register_type_parameterized(
         self,
         is_ssz_fixed_len: bool,
@@ -248,6 +249,7 @@ impl SszDecoder {
     }
 
     // The item, as a part of the caller's own bytes; the empty part at their start where `item_told` refuses.
+    // kept: it cannot fail, and still can't; `item_told` says why there is no item.
     #[tactic(auto, using(crate::proofs::Items::item_fine))]
     pub fn item<'a>(self, index: usize, bytes: &'a [u8]) -> &'a [u8]
         ensures { result.now ≡ item_of self index bytes.now }

@@ -58,6 +58,7 @@ pub fn split_union_bytes(bytes: &[u8]) -> Result<UnionSelector, Refusal>
 }
 
 // The bytes behind the selector, as a part of the caller's own; none where there is no selector.
+// kept: it cannot fail, and still can't; `split_union_bytes` says why there is no selector.
 pub fn union_body(bytes: &[u8]) -> &[u8]
     ensures { result.now ≡ union_body_lem bytes.now }
 {

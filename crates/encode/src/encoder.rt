@@ -13,6 +13,7 @@ use standard::Refusal;
 use standard::words::put_four;
 
 // The size of the fixed portion, and how many bytes of each buffer are used.
+// kept: lengths beside lent buffers, as document 01 has it ("a state by value .. over two lent buffers").
 #[derive(Clone, Copy, Debug, PartialEq, Eq)]
 pub struct SszEncoder {
     pub offset: usize,
@@ -118,6 +119,7 @@ impl SszEncoder {
     }
 
     // Appends an item of either kind.
+    // kept: the flag is the source's parameter.
     pub fn append_parameterized(
         self,
         is_ssz_fixed_len: bool,

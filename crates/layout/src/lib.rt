@@ -13,6 +13,7 @@ use standard::Refusal;
 use standard::words::word_at;
 
 // What stands in an option's place where it has no body.
+// kept: a number, since it is a word of the table (document 01: "4294967295 for no body").
 pub const NO_BODY: usize = 4294967295;
 
 // What a type is, by its kind word: 0 to 9 in this order.
@@ -112,6 +113,7 @@ fn table_end(lens: &mut [u32; 64], layout: &[u8]) -> Result<usize, Refusal>
 }
 
 // The number of types of a legal table, or the first bad word. `lens` gets the types' lengths, and 0 for all others.
+// kept: 0 for a type of variable size, in 64 numbers: the clause `lens_after` promises them (`lengths_of`).
 pub fn table_of(lens: &mut [u32; 64], layout: &[u8]) -> Result<usize, Refusal>
     ensures value { result ≡ table_of layout.now }
     ensures lens_after { lens.new ≡ lengths_of (table_of layout.now) layout.now }

@@ -56,6 +56,7 @@ pub(crate) fn run<T: Serialized>(
     let bytes = part(plan, 2);
     let f = T::read(bytes, n).unwrap_or(Bitfield::from_parts([0; 256], 0, 0));
     let g = T::read(part(plan, 3), n).unwrap_or(Bitfield::from_parts([0; 256], 0, 0));
+    // kept: numbers, as docs/CASES.md has them: the plan names an operation by its number, and each is named once
     Some(match op {
         11 => repeat(rounds, |round| made(T::read(bytes, n), round)),
         12 => repeat(rounds, |round| written(f, out, round)),

@@ -14,6 +14,7 @@ pub(crate) fn run(
 ) -> Option<usize> {
     let layout = part(plan, 1);
     let message = part(plan, 2);
+    // kept: numbers, as in `bits`
     match op {
         71 => Some(repeat(rounds, |_| match check(layout, message) {
             Ok(c) => c.records.wrapping_add(c.words.wrapping_add(c.bytes)),

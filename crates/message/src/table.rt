@@ -22,6 +22,7 @@ pub(crate) fn is_leaf(kind: Kind) -> bool
 }
 
 // The bytes of the table, the fixed length of each of its types, 0 for one of variable size, and how many these are.
+// kept: value has such a table too. A shared one would be public, and a public function has no `requires` (a rule of the project).
 #[derive(Clone, Copy)]
 pub(crate) struct Table<'a> {
     pub lens: &'a [u32; 64],

@@ -68,6 +68,7 @@ pub fn decode_next<'a>(r: SszReader<'a>) -> Result<Taken<'a>, Refused<SszReader<
 }
 
 // The item behind so many, by a reader; the empty part where there is none. Its parameters are plain.
+// kept, and `item_then`: they cannot fail, and still can't; `step_after` says why there is no item.
 pub fn item_after<'a>(bytes: &'a [u8], ranges: SszDecoder, skip: usize) -> &'a [u8]
     ensures { result.now ≡ item_of ranges skip bytes.now }
 {

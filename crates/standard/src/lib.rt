@@ -49,7 +49,7 @@ pub enum Refusal {
     BadState,
     // 24
     LimitsDiffer,
-    // 25: 0 contents or 1 bodies, index
+    // 25: 0 contents or 1 bodies, index; kept: a and b as document 01 gives them, like those of the other cases
     BadValue(usize, usize),
     // 26: 64
     BuilderFull(usize),
