@@ -28,6 +28,12 @@ is_leaf Kind.List = false
 is_leaf Kind.Vector = false
 is_leaf k = true
 
+-- Kind 0 is a number, kind 2 fixed bytes: "wrong length is 1", and no other rule
+unfoldable pub is_plain : Kind → Bool
+is_plain Kind.Number = true
+is_plain Kind.FixedBytes = true
+is_plain k = false
+
 -- Kinds 6 and 7: a number of fields or options, and as many words
 abbrev pub has_many : Kind → Bool
 has_many Kind.Container = true

@@ -2,7 +2,7 @@
 #![tactic(auto)]
 
 ghost use Rattle.std.specs.Prelude.{◌≡◌, ◌≤◌, ◌<◌};
-ghost use Rattle.layout.specs.Kinds.{kind_of};
+ghost use Rattle.layout.specs.Kinds.{kind_of, is_leaf, is_plain};
 ghost use Rattle.layout.specs.Table.{count, types_of, table_of, lengths_of, told_of};
 ghost use Rattle.layout.specs.Steps.{Known, Typed, Tabled};
 
@@ -50,6 +50,24 @@ impl Kind {
             9 => Some(Kind::Vector),
             _ => None,
         }
+    }
+
+    // A leaf names no other type.
+    pub fn is_leaf(self) -> bool
+        ensures { result ≡ is_leaf self }
+    {
+        !matches!(
+            self,
+            Kind::Container | Kind::Union | Kind::List | Kind::Vector
+        )
+    }
+
+    // A number or fixed bytes: of their items only the length is asked.
+    #[tactic(auto, unfolding(crate::specs::Kinds::is_plain))]
+    pub fn is_plain(self) -> bool
+        ensures { result ≡ is_plain self }
+    {
+        matches!(self, Kind::Number | Kind::FixedBytes)
     }
 }
 

@@ -20,7 +20,7 @@ use Rattle.decode.specs.Builder.{lay_out_lem}
 use Rattle.layout.specs.Tree.{node_of, tree_of, head_of}
 use Rattle.layout.specs.declared.Node.{Node}
 use Rattle.message.specs.Read.{one, plus, and_then, elements, vector_told_lem, read_exact, read_item, read_fields}
-use Rattle.message.specs.Steps.{Under, Row, Alike, Found, row_of, heads_of, is_plain}
+use Rattle.message.specs.Steps.{Under, Row, Alike, Found, row_of, heads_of}
 use Rattle.message.specs.declared.items.Inside.{Inside}
 use Rattle.message.specs.declared.parts.Series.{Series}
 use Rattle.message.proofs.Answers.{single, then_accepts}
@@ -32,7 +32,7 @@ use Rattle.message.proofs.Bodies.{plain_type, exact_read}
 use Rattle.std.specs.declared.result.Result.TheVariants.{Ok, Err}
 use Rattle.message.specs.Read.{located}
 use Rattle.layout.specs.declared.Kind.{Kind}
-use Rattle.layout.specs.Kinds.{has_element}
+use Rattle.layout.specs.Kinds.{is_plain, has_element}
 
 -- n elements of k bytes, of which only the length is asked
 plain-each :

@@ -24,7 +24,7 @@ use Rattle.layout.specs.Legal.{LowerOrBare}
 use Rattle.layout.specs.declared.Node.{Node}
 use Rattle.layout.proofs.Facts.{trees-get, as_union, as_leaf}
 use Rattle.message.specs.Read.{one, plus, and_then, built, read_exact, read_item, read_fields, read_option}
-use Rattle.message.specs.Steps.{Under, Row, row_of, heads_of, placed, option_at_lem, choice_of, choose, is_plain, Small, types_of, Next}
+use Rattle.message.specs.Steps.{Under, Row, row_of, heads_of, placed, option_at_lem, choice_of, choose, Small, types_of, Next}
 use Rattle.message.specs.declared.Counts.{Counts}
 use Rattle.message.proofs.Answers.{then_assoc}
 use Rattle.message.proofs.Bounds.{counts_small}
@@ -38,7 +38,7 @@ use Rattle.message.specs.declared.RefusedAt.{RefusedAt}
 use Rattle.message.specs.declared.Sizes.{Sizes}
 use Rattle.message.specs.Read.{located}
 use Rattle.layout.specs.declared.Kind.{Kind}
-use Rattle.layout.specs.Kinds.{is_leaf}
+use Rattle.layout.specs.Kinds.{is_leaf, is_plain}
 use Rattle.message.specs.declared.parts.Series.{Series}
 
 plus-zero : (a : Counts) → plus a (record { records = 0; words = 0; bytes = 0 }) ≡ a

@@ -131,12 +131,6 @@ choice_of (Ok k) l a n len = pick (ltb k.0 n) (option_at_lem (word_at l (a + k.0
 unfoldable pub choose : List ℕ → ℕ → ℕ → List ℕ → Result (Option ℕ) Refusal
 choose l a n b = choice_of (split_union b) l a n (length b)
 
--- Kind 0 is a number, kind 2 fixed bytes: "wrong length is 1", and no other rule
-unfoldable pub is_plain : Kind → Bool
-is_plain Kind.Number = true
-is_plain Kind.FixedBytes = true
-is_plain k = false
-
 -- Counts that add up without loss
 pub record Small (c : Counts) (k : ℕ) : Type 0 where
   pub records : c.records ≤ k

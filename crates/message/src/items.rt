@@ -5,18 +5,18 @@ ghost use Rattle.standard.specs.Bytes.{word_at};
 ghost use Rattle.standard.specs.Types.{boolean, free_bytes, bit_vector, bit_list, heads};
 ghost use Rattle.standard.specs.Parts.{InRange};
 ghost use Rattle.layout.specs.Tree.{node_of, leaf_of, tree_of};
-ghost use Rattle.layout.specs.Kinds.{is_leaf, has_element};
+ghost use Rattle.layout.specs.Kinds.{is_leaf, is_plain, has_element};
 ghost use Rattle.layout.specs.declared.Kind.{Kind};
 ghost use Rattle.std.specs.declared.result.Result.TheVariants.{Ok};
 ghost use Rattle.message.specs.Read.{located, raw_bytes_lem, one, plus, and_then, read_exact, read_item, read_fields};
 ghost use Rattle.message.specs.declared.Counts.{Counts};
 ghost use Rattle.message.specs.declared.items.Inside.{Inside};
-ghost use Rattle.message.specs.Steps.{Placed, types_of, Found, placed, option_at_lem, choice_of, choose, is_plain, Small};
+ghost use Rattle.message.specs.Steps.{Placed, types_of, Found, placed, option_at_lem, choice_of, choose, Small};
 
 use crate::elements::elements_of;
 use crate::fields::{container_told, locate, vector_told};
 use crate::parts::Series;
-use crate::table::{Table, is_leaf};
+use crate::table::Table;
 use crate::{Counts, RefusedAt, Sizes};
 use bitfield::body::{bitlist_body, bitvector_body};
 use decode::split_union_bytes;
@@ -198,14 +198,6 @@ pub(crate) fn select(table: &Table, n: Node, b: &[u8]) -> Result<Option<usize>, 
     option_of(table, n, selector, b.len())
 }
 
-// A number or fixed bytes: of their items only the length is asked.
-#[tactic(auto, unfolding(crate::specs::Steps::is_plain))]
-fn is_plain(kind: Kind) -> bool
-    ensures { result ≡ is_plain kind }
-{
-    kind == Kind::Number || kind == Kind::FixedBytes
-}
-
 // Free bytes within their limit: of them nothing else is asked.
 fn is_within(n: Node, len: usize) -> bool
     ensures { result ≡ true → (n.kind ≡ Kind.FreeBytes) × (len ≤ n.second) }
@@ -230,7 +222,7 @@ fn row_inside(table: &Table, row: Series, e: usize, words: usize) -> Inside
     requires { (e < table.now.types) × (row.many < 2 ^ 34) }
     ensures { result ≡ pick (is_plain (node_of table.now.layout.now e).kind) (Inside.Counted (1 + row.many) words) (Inside.Fields row words) }
 {
-    if is_plain(table.kind(e)) {
+    if table.kind(e).is_plain() {
         return Inside::Counted {
             records: 1 + row.many,
             words,
@@ -287,7 +279,7 @@ pub(crate) fn item_check(
     ensures { result ≡ read_item (tree_of table.now.layout.now t) b.now start }
 {
     let n = table.look(t);
-    if is_leaf(n.kind) {
+    if n.kind.is_leaf() {
         return match leaf_check(n, b) {
             Ok(sizes) => Ok(Counts::item(sizes.words, sizes.bytes)),
             Err(refusal) => Err(located(refusal, t, start)),
@@ -335,7 +327,7 @@ fn field_check(
     while let Some(f) = rest.next(&known) {
         let kind = known.kind(f);
         let k = known.length(f);
-        if is_plain(kind) {
+        if kind.is_plain() {
             sum = sum.add(Counts::item(0, k));
             p += k;
             continue;
@@ -350,7 +342,7 @@ fn field_check(
         }
         let at = start + w.from;
         let field = &b[w.from..w.to];
-        if is_leaf(kind) {
+        if kind.is_leaf() {
             match leaf_check(node, field) {
                 Ok(sizes) => sum = sum.add(Counts::item(sizes.words, sizes.bytes)),
                 Err(refusal) => return Err(located(refusal, f, at)),

@@ -12,7 +12,7 @@ ghost use Rattle.message.specs.Steps.{Placed, types_of, IsAccepted};
 use crate::fields::locate;
 use crate::items::select;
 use crate::parts::{Series, series_in};
-use crate::table::{Table, is_leaf};
+use crate::table::Table;
 use layout::Kind;
 
 // Stores a word of a record, which has room. `put_four` would compare it with the room.
@@ -87,7 +87,7 @@ fn list_fields(
         p = w.next;
         let field = &b[w.from..w.to];
         let place = start + w.from;
-        if is_leaf(known.kind(f)) {
+        if known.kind(f).is_leaf() {
             put_entry(out, at, f, field, place);
             at += 12;
             continue;

@@ -7,7 +7,7 @@ ghost use Rattle.message.specs.Steps.{Placed, Next, IsAccepted};
 ghost use Rattle.message.specs.Series.{MadeOf};
 
 use crate::elements::many_in;
-use crate::table::{Table, is_leaf};
+use crate::table::Table;
 use layout::{Kind, Node};
 
 // So many fields or elements: the word first names the type of the first, each next one is named step words behind (1 for fields, 0 for
@@ -79,7 +79,7 @@ pub(crate) fn series_in(table: &Table, n: Node, t: usize, b: &[u8]) -> Series
     requires { (t < table.now.types) × (length b.now < 2 ^ 32) × (n ≡ node_of table.now.layout.now t) × (n.kind ≡ Kind.Union → ⊥) × IsAccepted (read_item (tree_of table.now.layout.now t) b.now 0) }
     ensures { MadeOf table.now.lens.now table.now.layout.now t n b.now result }
 {
-    if is_leaf(n.kind) {
+    if n.kind.is_leaf() {
         return Series::none();
     }
     match n.kind {

@@ -5,21 +5,10 @@ ghost use Rattle.layout.specs.Table.{count};
 ghost use Rattle.layout.specs.Tree.{node_of};
 ghost use Rattle.layout.specs.Steps.{Known};
 ghost use Rattle.message.specs.Held.{known_prop};
-ghost use Rattle.layout.specs.Kinds.{is_leaf};
 
 use crate::words::four_in;
 use layout::{Kind, Node};
 use standard::words::word_at;
-
-// A leaf names no other type.
-pub(crate) fn is_leaf(kind: Kind) -> bool
-    ensures { result ≡ is_leaf kind }
-{
-    !matches!(
-        kind,
-        Kind::Container | Kind::Union | Kind::List | Kind::Vector
-    )
-}
 
 // The bytes of the table, the fixed length of each of its types, 0 for one of variable size, and how many these are.
 // kept: value has such a table too. A shared one would be public, and a public function has no `requires` (a rule of the project).

@@ -14,7 +14,7 @@ ghost use Rattle.message.specs.Unfolding.{Filling};
 use crate::fields::locate;
 use crate::items::select;
 use crate::parts::{Series, series_in};
-use crate::table::{Table, is_leaf};
+use crate::table::Table;
 use bitfield::body::bitlist_body;
 use layout::{Kind, Node};
 
@@ -192,7 +192,7 @@ fn begin(
         let end = put_bytes(bodies, at, b);
         return nothing_left(end);
     }
-    if is_leaf(n.kind) {
+    if n.kind.is_leaf() {
         let end = unfold_leaf(contents, bodies, at, n, t, b);
         return nothing_left(end);
     }
@@ -266,7 +266,7 @@ fn unfold_fields(
         p = w.next;
         let field = &b[w.from..w.to];
         let n = known.look(f);
-        at = if is_leaf(n.kind) {
+        at = if n.kind.is_leaf() {
             unfold_leaf(contents, bodies, at, n, f, field)
         } else {
             unfold_item(contents, bodies, at, table, f, field)

@@ -12,7 +12,8 @@ use Rattle.standard.specs.Bytes.{word_at}
 use Rattle.standard.specs.Parts.{join}
 use Rattle.layout.specs.Tree.{node_of, tree_of}
 use Rattle.layout.specs.declared.Kind.{Kind}
-use Rattle.message.specs.Steps.{Row, row_of, is_plain}
+use Rattle.layout.specs.Kinds.{is_plain}
+use Rattle.message.specs.Steps.{Row, row_of}
 use Rattle.value.specs.Walk.{upto, with_body, walk_fields}
 use Rattle.value.specs.Write.{parts_from}
 use Rattle.value.specs.Steps.{cap, measured, AllPlain}

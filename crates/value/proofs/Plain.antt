@@ -14,11 +14,11 @@ use Rattle.standard.specs.Parts.{join}
 use Rattle.standard.specs.declared.Head.TheVariants.{Fixed, Variable}
 use Rattle.standard.specs.declared.Refusal.TheVariants.{BadValue}
 use Rattle.layout.specs.Tree.{node_of, tree_of, leaf_with, leaf_of, len_of, head_of}
-use Rattle.layout.specs.Kinds.{is_leaf}
+use Rattle.layout.specs.Kinds.{is_leaf, is_plain}
 use Rattle.layout.specs.declared.Kind.{Kind}
 use Rattle.layout.specs.declared.Node.{Node}
 use Rattle.layout.proofs.Facts.{as_leaf}
-use Rattle.message.specs.Steps.{Under, Row, row_of, is_plain}
+use Rattle.message.specs.Steps.{Under, Row, row_of}
 use Rattle.message.proofs.Rows.{under-head, row_below, row-head}
 use Rattle.value.specs.Walk.{upto, wrong, with_body, walk_item, walk_fields}
 use Rattle.value.specs.Write.{bytes_at, write_item_lem, parts_from}

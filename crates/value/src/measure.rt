@@ -5,13 +5,12 @@ ghost use Rattle.standard.specs.Types.{free_bytes, bit_list};
 ghost use Rattle.standard.specs.declared.Refusal.TheVariants.{BadValue};
 ghost use Rattle.layout.specs.Tree.{leaf_of, tree_of, head_of};
 ghost use Rattle.message.specs.Read.{raw_bytes_lem};
-ghost use Rattle.message.specs.Steps.{is_plain};
 ghost use Rattle.value.specs.Walk.{upto, wrong, with_body, walk_bits, walk_item};
 ghost use Rattle.value.specs.Steps.{InRow, types_in, cap, measured, measured_item, measured_row, selected, extra, AllPlain};
 
 use crate::form::{Form, Place};
 use crate::laid::{Laid, Members, lay};
-use crate::table::{Table, is_leaf};
+use crate::table::Table;
 use layout::{Kind, Node};
 use standard::Refusal;
 
@@ -37,15 +36,6 @@ pub(crate) fn raw_bytes(bits: usize) -> usize
     ensures { result ≡ raw_bytes_lem bits }
 {
     bits.div_ceil(8).max(1)
-}
-
-// A number or fixed bytes: as many body bytes as the type's length says, and no contents word.
-// kept: message says the same. It is one expression, and a call into another crate would be no plainer.
-#[tactic(auto, unfolding(message::specs::Steps::is_plain))]
-fn is_plain(kind: Kind) -> bool
-    ensures { result ≡ is_plain kind }
-{
-    matches!(kind, Kind::Number | Kind::FixedBytes)
 }
 
 // A number or fixed bytes: n bytes.
@@ -164,7 +154,7 @@ fn plain_bytes(table: Table, row: Members) -> usize
         return 0;
     }
     let f = table.word(row.first);
-    if !is_plain(table.kind(f)) {
+    if !table.kind(f).is_plain() {
         return 0;
     }
     row.many * (table.lens[f] as usize)
@@ -177,7 +167,7 @@ pub(crate) fn measure_item(table: Table, t: usize, form: Form, at: Place) -> Res
     ensures { result ≡ measured_item (tree_of table.entry.layout.now t) form.entry.contents.now form.entry.bodies.now at.word at.byte }
 {
     let n = table.look(t);
-    if is_leaf(n.kind) {
+    if n.kind.is_leaf() {
         return measure_leaf(n, form, at);
     }
     match lay(table, t, n, form, at.word)? {
@@ -214,7 +204,7 @@ fn measure_fields(table: Table, row: Members, form: Form, start: Place) -> Resul
         let f = table.word(a);
         let k = table.lens[f] as usize;
         a += row.step;
-        if is_plain(table.kind(f)) {
+        if table.kind(f).is_plain() {
             if !form.has(at.byte, k) {
                 return Err(form.short());
             }
@@ -223,7 +213,7 @@ fn measure_fields(table: Table, row: Members, form: Form, start: Place) -> Resul
             continue;
         }
         let n = table.look(f);
-        let r = if is_leaf(n.kind) {
+        let r = if n.kind.is_leaf() {
             measure_leaf(n, form, at)
         } else {
             measure_item(table, f, form, at)

@@ -16,7 +16,7 @@ ghost use Rattle.value.specs.Stores.{Put, Together, Fields};
 use crate::form::{Form, Place};
 use crate::laid::{Laid, Members, lay};
 use crate::measure::raw_bytes;
-use crate::table::{Table, is_leaf};
+use crate::table::Table;
 use layout::{Kind, Node};
 use standard::words::put_four;
 
@@ -168,7 +168,7 @@ pub(crate) fn write_item(
         return put_part(out, to, form, at, own);
     }
     let n = table.look(t);
-    if is_leaf(n.kind) {
+    if n.kind.is_leaf() {
         return put_leaf(out, to, n, form, at);
     }
     let Ok(made) = lay(table, t, n, form, at.word) else {
@@ -224,7 +224,7 @@ fn write_fields(
         put_offset(out, p, q - start);
         p += 4;
         let n = table.look(f);
-        let s = if is_leaf(n.kind) {
+        let s = if n.kind.is_leaf() {
             put_leaf(out, q, n, form, at)
         } else {
             write_item(out, q, table, f, form, at)

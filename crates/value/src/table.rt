@@ -5,7 +5,6 @@ ghost use Rattle.layout.specs.Table.{count};
 ghost use Rattle.layout.specs.Tree.{node_of};
 ghost use Rattle.layout.specs.Steps.{Known};
 ghost use Rattle.value.specs.Held.{known_prop};
-ghost use Rattle.layout.specs.Kinds.{is_leaf};
 
 use layout::{Kind, Node};
 use standard::words::{four_at, word_at};
@@ -20,17 +19,6 @@ pub(crate) struct Table<'a> {
     pub types: usize,
     ghost known: { Known lens.now layout.now types } by { known_prop lens.now layout.now types },
     ghost some: { 1 ≤ types },
-}
-
-// A leaf names no other type.
-// kept: message says the same. It is one expression, and a call into another crate would be no plainer.
-pub(crate) fn is_leaf(kind: Kind) -> bool
-    ensures { result ≡ is_leaf kind }
-{
-    !matches!(
-        kind,
-        Kind::Container | Kind::Union | Kind::List | Kind::Vector
-    )
 }
 
 impl<'a> Table<'a> {
