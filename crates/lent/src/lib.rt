@@ -13,7 +13,7 @@ use standard::{Refusal, Refused};
 pub fn set<T: BitfieldBehaviour>(b: &mut Bitfield<T>, i: usize, value: bool) -> Result<(), Refusal>
     ensures { left b.new result ≡ field_set T.fits b.old i value }
 {
-    *b = b.set(i, value).map_err(|e| e.refusal)?;
+    *b = b.set(i, value)?;
     Ok(())
 }
 
@@ -22,7 +22,7 @@ pub fn set<T: BitfieldBehaviour>(b: &mut Bitfield<T>, i: usize, value: bool) -> 
 pub fn not_inplace<T: BitfieldBehaviour>(b: &mut Bitfield<T>) -> Result<(), Refusal>
     ensures { left b.new result ≡ field_not T.fits b.old }
 {
-    *b = b.not().map_err(|e| e.refusal)?;
+    *b = b.not()?;
     Ok(())
 }
 
@@ -34,7 +34,7 @@ pub fn difference_inplace<T: BitfieldBehaviour>(
 ) -> Result<(), Refusal>
     ensures { left b.new result ≡ field_difference T.fits b.old other }
 {
-    *b = b.difference(other).map_err(|e| e.refusal)?;
+    *b = b.difference(other)?;
     Ok(())
 }
 

@@ -108,6 +108,15 @@ pub struct Refused<S> {
     pub refusal: Refusal,
 }
 
+// What is wrong, without the state: `?` gives it where the caller keeps the state.
+impl<S: Drop> From<Refused<S>> for Refusal {
+    ghost from_gives = { λ r e. e ≡ r.refusal };
+
+    fn from(refused: Refused<S>) -> Refusal {
+        refused.refusal
+    }
+}
+
 // What stands for an item in the fixed portion of what holds it: so many bytes of its own, or an offset.
 // kept: an enum of its own and no Option<usize>, which is no plainer: fixed and variable are the SSZ standard's words for the two sizes.
 #[derive(Clone, Copy, Debug, PartialEq, Eq)]
