@@ -22,16 +22,23 @@ impl<T: BitfieldBehaviour> Bitfield<T> {
         }
     }
 
+    // What a refusal gives back: the old bitfield.
+    pub(crate) fn refused(self, refusal: Refusal) -> Refused<Self>
+        ensures { result ≡ record { state = self; refusal = refusal } }
+    {
+        Refused {
+            state: self,
+            refusal,
+        }
+    }
+
     // The bits that both have.
     #[tactic(auto, unfolding(crate::specs::Bitfields::field_intersection))]
     pub fn intersection(self, other: Self) -> Result<Self, Refused<Self>>
         ensures { result ≡ field_intersection T.fits self other }
     {
-        let refused = |refusal| Refused {
-            state: self,
-            refusal,
-        };
-        self.both_tested(&other).map_err(refused)?;
+        self.both_tested(&other)
+            .map_err(|refusal| self.refused(refusal))?;
         Ok(self.in_both(&other))
     }
 
@@ -40,11 +47,8 @@ impl<T: BitfieldBehaviour> Bitfield<T> {
     pub fn union(self, other: Self) -> Result<Self, Refused<Self>>
         ensures { result ≡ field_union T.fits self other }
     {
-        let refused = |refusal| Refused {
-            state: self,
-            refusal,
-        };
-        self.both_tested(&other).map_err(refused)?;
+        self.both_tested(&other)
+            .map_err(|refusal| self.refused(refusal))?;
         Ok(self.in_either(&other))
     }
 
@@ -53,11 +57,8 @@ impl<T: BitfieldBehaviour> Bitfield<T> {
     pub fn difference(self, other: Self) -> Result<Self, Refused<Self>>
         ensures { result ≡ field_difference T.fits self other }
     {
-        let refused = |refusal| Refused {
-            state: self,
-            refusal,
-        };
-        self.both_tested(&other).map_err(refused)?;
+        self.both_tested(&other)
+            .map_err(|refusal| self.refused(refusal))?;
         Ok(self.taken_from(&other))
     }
 
@@ -75,12 +76,8 @@ impl<T: BitfieldBehaviour> Bitfield<T> {
     pub fn set(self, i: usize, value: bool) -> Result<Self, Refused<Self>>
         ensures { result ≡ field_set T.fits self i value }
     {
-        let refused = |refusal| Refused {
-            state: self,
-            refusal,
-        };
-        self.tested().map_err(refused)?;
-        inside_told(i, self.len).map_err(refused)?;
+        self.tested().map_err(|refusal| self.refused(refusal))?;
+        inside_told(i, self.len).map_err(|refusal| self.refused(refusal))?;
         Ok(self.changed(i, value))
     }
 
@@ -126,11 +123,7 @@ impl<T: BitfieldBehaviour> Bitfield<T> {
     pub fn not(self) -> Result<Self, Refused<Self>>
         ensures { result ≡ field_not T.fits self }
     {
-        let refused = |refusal| Refused {
-            state: self,
-            refusal,
-        };
-        self.tested().map_err(refused)?;
+        self.tested().map_err(|refusal| self.refused(refusal))?;
         Ok(self.complement())
     }
 
@@ -139,12 +132,8 @@ impl<T: BitfieldBehaviour> Bitfield<T> {
     pub fn shift_up(self, k: usize) -> Result<Self, Refused<Self>>
         ensures { result ≡ field_shift_up T.fits self k }
     {
-        let refused = |refusal| Refused {
-            state: self,
-            refusal,
-        };
-        self.tested().map_err(refused)?;
-        up_to_told(k, self.len).map_err(refused)?;
+        self.tested().map_err(|refusal| self.refused(refusal))?;
+        up_to_told(k, self.len).map_err(|refusal| self.refused(refusal))?;
         Ok(self.upward(k))
     }
 }

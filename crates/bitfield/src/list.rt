@@ -46,13 +46,9 @@ impl Bitfield<Variable> {
     pub fn resize(self, m: usize) -> Result<Self, Refused<Self>>
         ensures { result ≡ list_resize self m }
     {
-        let refused = |refusal| Refused {
-            state: self,
-            refusal,
-        };
-        self.tested().map_err(refused)?;
-        limit_told(m).map_err(refused)?;
-        not_below_told(m, self.n).map_err(refused)?;
+        self.tested().map_err(|refusal| self.refused(refusal))?;
+        limit_told(m).map_err(|refusal| self.refused(refusal))?;
+        not_below_told(m, self.n).map_err(|refusal| self.refused(refusal))?;
         Ok(self.wider(m))
     }
 
@@ -61,11 +57,7 @@ impl Bitfield<Variable> {
     pub fn clone_zeroed(self) -> Result<Self, Refused<Self>>
         ensures { result ≡ list_clone_zeroed self }
     {
-        let refused = |refusal| Refused {
-            state: self,
-            refusal,
-        };
-        self.tested().map_err(refused)?;
+        self.tested().map_err(|refusal| self.refused(refusal))?;
         Ok(Self::zeros(self.len, self.n))
     }
 }
