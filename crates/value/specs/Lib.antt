@@ -2,4 +2,3 @@ pub mod Walk
 pub mod Write
 pub mod Steps
 pub mod Stores
-pub mod Held

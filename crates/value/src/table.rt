@@ -4,7 +4,7 @@ ghost use Rattle.standard.specs.Bytes.{word_at};
 ghost use Rattle.layout.specs.Table.{count};
 ghost use Rattle.layout.specs.Tree.{node_of};
 ghost use Rattle.layout.specs.Steps.{Known};
-ghost use Rattle.value.specs.Held.{known_prop};
+ghost use Rattle.message.specs.Held.{known_prop};
 
 use layout::{Kind, Node};
 use standard::words::{four_at, word_at};
