@@ -76,9 +76,11 @@ impl<T: BitfieldBehaviour> Bitfield<T> {
     pub fn set(self, i: usize, value: bool) -> Result<Self, Refused<Self>>
         ensures { result ≡ field_set T.fits self i value }
     {
-        self.tested().map_err(|refusal| self.refused(refusal))?;
-        inside_told(i, self.len).map_err(|refusal| self.refused(refusal))?;
-        Ok(self.changed(i, value))
+        // Two tests with one way out: a way out for each copies the field for each.
+        match self.tested().and_then(|()| inside_told(i, self.len)) {
+            Ok(()) => Ok(self.changed(i, value)),
+            Err(refusal) => Err(self.refused(refusal)),
+        }
     }
 
     // Bit i.

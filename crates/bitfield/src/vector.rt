@@ -22,7 +22,7 @@ impl Bitfield<Fixed> {
     pub fn new(n: usize) -> Result<Self, Refusal>
         ensures { result ≡ vector_new n }
     {
-        limit_told(n)?;
+        limit_told(n)?; // the length is the limit
         Ok(Self::zeros(n, n))
     }
 

@@ -242,7 +242,11 @@ impl SszDecoder {
         if index >= self.count || index >= MAX_ITEMS {
             return Err(Refusal::BadState);
         }
-        if self.ends[index] < self.starts[index] || self.ends[index] > len {
+        // The arrays as locals, here and in `item`: read out of `self`, the compiler copies the whole record first.
+        let starts = self.starts;
+        let ends = self.ends;
+        let end = ends[index];
+        if end < starts[index] || end > len {
             return Err(Refusal::BadState);
         }
         Ok(())
@@ -255,7 +259,11 @@ impl SszDecoder {
         ensures { result.now ≡ item_of self index bytes.now }
     {
         match self.item_told(index, bytes.len()) {
-            Ok(()) => &bytes[self.starts[index]..self.ends[index]],
+            Ok(()) => {
+                let starts = self.starts;
+                let ends = self.ends;
+                &bytes[starts[index]..ends[index]]
+            }
             Err(_) => &bytes[..0],
         }
     }

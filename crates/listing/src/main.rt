@@ -6,7 +6,6 @@ mod print;
 ghost use Rattle.std.specs.Prelude.{◌≤◌, length};
 
 use message::list;
-use print::Listing;
 use std::io::Read;
 use std::rt::Files;
 use std::{fs, io};
@@ -42,7 +41,7 @@ fn read_layout(rt: &impl Files, b: &mut [u8]) -> usize
 fn answer(rt: &impl Print, layout: &[u8], message: &[u8]) -> io::Result<()> {
     let mut records = [0u8; 48000];
     match list(layout, message, &mut records) {
-        Ok(n) => rt.print(Listing(&records[..12 * n])),
+        Ok(n) => print::listing(rt, &records[..12 * n]),
         Err(e) => print::refusal(rt, e),
     }
 }

@@ -1,23 +1,42 @@
-// The lines that are printed. The library formats each value into a buffer on the stack, and writes that each time it is full.
+// The lines that are printed. Those of a listing are made in a buffer that is written each time it has no room for another line, so that
+// each write ends with a line.
+use arrayvec::ArrayString;
 use message::RefusedAt;
 use standard::Numbers;
 use standard::words::word_at;
+use std::fmt::Write;
 use std::{fmt, io};
 
-// A listing, as its records of three words: a line for each, with type, start and end.
-#[derive(Clone, Copy)]
-pub(crate) struct Listing<'a>(pub(crate) &'a [u8]);
+// Three numbers, each with the byte behind it, take at most so many bytes.
+const LINE: usize = 63;
+// Room for many lines.
+const ROOM: usize = 4096;
 
-impl fmt::Display for Listing<'_> {
+// A record of three words, as a line with type, start and end.
+#[derive(Clone, Copy)]
+struct Record<'a>(&'a [u8]);
+
+impl fmt::Display for Record<'_> {
     fn fmt<W: fmt::Write>(&self, f: &mut fmt::Formatter<W>) -> fmt::Result {
-        for record in self.0.chunks_exact(12) {
-            let kind = word_at(record, 0);
-            let start = word_at(record, 1);
-            let end = word_at(record, 2);
-            writeln!(f, "{kind} {start} {end}")?;
-        }
-        Ok(())
+        let kind = word_at(self.0, 0);
+        let start = word_at(self.0, 1);
+        let end = word_at(self.0, 2);
+        writeln!(f, "{kind} {start} {end}")
     }
+}
+
+// A line for each record.
+pub(crate) fn listing(rt: &impl Print, records: &[u8]) -> io::Result<()> {
+    let mut text = ArrayString::<ROOM>::new();
+    for record in records.chunks_exact(12) {
+        if text.len() > ROOM - LINE {
+            rt.write_all(text.as_bytes())?;
+            text.clear();
+        }
+        let line = Record(record);
+        write!(text, "{line}").map_err(|_| io::Error::other("a line takes more than its room"))?;
+    }
+    rt.write_all(text.as_bytes())
 }
 
 // The line of a refusal: number, a, b, and the type and the start of its item.

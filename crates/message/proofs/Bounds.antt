@@ -299,6 +299,12 @@ mutual
       (λ i f. option_in os k b t s d c l.1 (omega arith) f)
       e
 
+pub fields_in :
+    (ts : Tys) (b : List ℕ) (p s d k : ℕ) (c : Counts) → LegalAll ts → depth_all ts ≤ d → InRange (heads ts) b p 0
+    → next (heads ts) b p + k ≡ length b → read_fields ts b p s ≡ Ok c
+    → Within c (d * (portion (heads ts) + k)) (portion (heads ts) + k)
+fields_in ts = row_in ts (all_in ts)
+
 -- The bodies of an item are no longer than the item.
 pub bytes-bound : (t : Ty) (b : List ℕ) (s : ℕ) (c : Counts) → LegalTy t → read_item t b s ≡ Ok c → c.bytes ≤ length b
 bytes-bound t b s c l e = (item_in t b s (depth t) c l (omega arith) e).2

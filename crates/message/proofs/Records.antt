@@ -103,3 +103,7 @@ mutual
       rw (i, q.2) (omega (arith, listed-length o (drop 1 b) (s + 1) q.0 q.1)))
       (λ i f. rw i (option-listed os k b t s c f))
       e
+
+pub fields-listed :
+    (ts : Tys) (b : List ℕ) (p s : ℕ) (c : Counts) → read_fields ts b p s ≡ Ok c → length (list_fields_lem ts b p s) ≡ 12 * c.records
+fields-listed ts = row_listed ts (all_listed ts)

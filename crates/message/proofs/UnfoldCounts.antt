@@ -111,6 +111,11 @@ mutual
       (λ i f. rw i (option-counted os k b t s c f))
       e
 
+pub fields-counted :
+    (ts : Tys) (b : List ℕ) (p s : ℕ) (c : Counts) → read_fields ts b p s ≡ Ok c
+    → (length (words_fields ts b p) ≡ c.words) × (length (bytes_fields ts b p) ≡ c.bytes)
+fields-counted ts = row-counted ts (all-counted ts)
+
 pub words-counted : (t : Ty) (b : List ℕ) (s : ℕ) (c : Counts) → read_item t b s ≡ Ok c → length (unfold_words t b) ≡ c.words
 words-counted t b s c e = (form-counted t b s c e).0
 

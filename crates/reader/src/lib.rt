@@ -1,6 +1,7 @@
 // A reader over the lent bytes, as SszDecoder of decode.rs of ethereum_ssz 0.10.4 is: it holds the bytes, where the items lie in them, and
 // the number of the next item. The source's name stands for the ranges themselves here, in crate `decode`. The functions over a reader
-// leave the work to `step_after` and `SszDecoder::item`.
+// leave the work to `step_after` and `SszDecoder::item`. They are laid into their callers: as calls they copy the ranges, over a kilobyte,
+// several times.
 #![tactic(auto)]
 
 ghost use Rattle.std.specs.Prelude.{◌≡◌};
@@ -26,6 +27,7 @@ pub struct Taken<'a> {
 
 // The work, on numbers: the number behind a next item that there is, or the same number beside a refusal.
 #[tactic(auto, using(decode::proofs::Items::item_fine))]
+#[inline(always)]
 pub fn step_after(ranges: SszDecoder, next: usize, len: usize) -> Result<usize, Refused<usize>>
     ensures { result ≡ step_after_lem ranges next len }
 {
@@ -39,6 +41,7 @@ pub fn step_after(ranges: SszDecoder, next: usize, len: usize) -> Result<usize, 
 }
 
 // A reader of a built state, from a number on: 0 reads all.
+#[inline(always)]
 pub fn new<'a>(bytes: &'a [u8], ranges: SszDecoder, next: usize) -> SszReader<'a>
     ensures { result ≡ reader_at bytes.entry ranges next }
 {
@@ -50,6 +53,7 @@ pub fn new<'a>(bytes: &'a [u8], ranges: SszDecoder, next: usize) -> SszReader<'a
 }
 
 // The next item and the reader that comes after it; past the last one 23, and the reader as it was.
+#[inline(always)]
 pub fn decode_next<'a>(r: SszReader<'a>) -> Result<Taken<'a>, Refused<SszReader<'a>>>
     ensures { Decoded r.entry result }
 {

@@ -1,9 +1,9 @@
 // A record as a question and the answer that it expects.
 ghost use Rattle.std.specs.Prelude.{◌<◌};
 
-use cases::{head_matches, is_formed, number, part};
+use cases::{head_matches, is_formed, number, part, refusal_matches};
 use message::RefusedAt;
-use standard::Numbers;
+use standard::{Numbers, Refusal};
 
 // The numbers of a success.
 const FINE: Numbers = Numbers {
@@ -73,17 +73,28 @@ impl<'a> Case<'a> {
         head_matches(self.head(), FINE, 0, 0)
     }
 
-    // Whether the expected head is that of this refusal, and there are no values from the i-th on.
-    pub(crate) fn is_refusal<E: Into<RefusedAt>>(self, refusal: E, i: usize) -> bool
+    // Whether there are no expected values from the i-th on.
+    fn has_no_values(self, i: usize) -> bool
         requires { i < 8 }
     {
-        let e: RefusedAt = refusal.into();
+        (i..self.values).all(|k| self.value(k).is_empty())
+    }
+
+    // Whether the expected head is that of this refusal, and there are no values from the i-th on.
+    pub(crate) fn is_refusal<E: Into<Refusal>>(self, refusal: E, i: usize) -> bool
+        requires { i < 8 }
+    {
+        refusal_matches(self.head(), refusal.into()) && self.has_no_values(i)
+    }
+
+    // The same of a message's refusal, which has the type and the start of its item; it has no values at all.
+    fn is_refusal_at(self, e: RefusedAt) -> bool {
         head_matches(self.head(), e.refusal.numbers(), e.type_number, e.start)
-            && (i..self.values).all(|k| self.value(k).is_empty())
+            && self.has_no_values(0)
     }
 
     // Whether the answer is the expected one: a success whose values are these, or a refusal, which has none.
-    pub(crate) fn has<T: Drop, E: Into<RefusedAt>, F: Fn(T) -> bool>(
+    pub(crate) fn has<T: Drop, E: Into<Refusal>, F: Fn(T) -> bool>(
         self,
         answer: Result<T, E>,
         are_values: F,
@@ -93,6 +104,20 @@ impl<'a> Case<'a> {
         match answer {
             Ok(values) => self.is_fine() && are_values(values),
             Err(e) => self.is_refusal(e, 0),
+        }
+    }
+
+    // The same of a message's answer.
+    pub(crate) fn has_at<T: Drop, F: Fn(T) -> bool>(
+        self,
+        answer: Result<T, RefusedAt>,
+        are_values: F,
+    ) -> bool
+        requires { F.IsAlwaysCallable are_values }
+    {
+        match answer {
+            Ok(values) => self.is_fine() && are_values(values),
+            Err(e) => self.is_refusal_at(e),
         }
     }
 }

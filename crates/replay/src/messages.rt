@@ -16,7 +16,7 @@ pub(crate) fn layout_check(b: &[u8]) -> Option<bool> {
 pub(crate) fn check(b: &[u8]) -> Option<bool> {
     let case = Case::new(b, 2, 3, 0)?;
     let answer = message::check(case.part(0), case.part(1));
-    Some(case.has(answer, |counts| {
+    Some(case.has_at(answer, |counts| {
         is_number(case.value(0), counts.records)
             && is_number(case.value(1), counts.words)
             && is_number(case.value(2), counts.bytes)
@@ -28,7 +28,7 @@ pub(crate) fn listing(b: &[u8], room: &mut Room) -> Option<bool> {
     let case = Case::new(b, 3, 1, 1)?;
     let records = lend(&mut room.first, case.part(2));
     let answer = message::list(case.part(0), case.part(1), records);
-    Some(case.has(answer, |n| is_number(case.value(0), n)) && *records == *case.buffer(0))
+    Some(case.has_at(answer, |n| is_number(case.value(0), n)) && *records == *case.buffer(0))
 }
 
 // 73: layout, message, contents buffer, bodies buffer. Contents words, body bytes, contents buffer, bodies buffer.
@@ -37,7 +37,7 @@ pub(crate) fn unfolding(b: &[u8], room: &mut Room) -> Option<bool> {
     let contents = lend_words(&mut room.words, case.part(2))?;
     let bodies = lend(&mut room.first, case.part(3));
     let answer = message::unfold(case.part(0), case.part(1), contents, bodies);
-    let is_answer = case.has(answer, |sizes| {
+    let is_answer = case.has_at(answer, |sizes| {
         is_number(case.value(0), sizes.words) && is_number(case.value(1), sizes.bytes)
     });
     Some(is_answer && has_words(case.buffer(0), contents) && *bodies == *case.buffer(1))

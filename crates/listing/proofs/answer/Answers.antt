@@ -9,5 +9,5 @@ overflow_mul-records g c = omega (arith, records-within _ _ _ _ _ c.in-Ok.ensure
 pub slice_bounds-records-end : goal.slice_bounds-records-end
 slice_bounds-records-end g c = omega (arith, records-within _ _ _ _ _ c.in-Ok.ensures.value refl)
 
-pub slice_bounds-print-end : goal.slice_bounds-print-end
-slice_bounds-print-end g c = simp length-take (omega (arith, records-within _ _ _ _ _ c.in-Ok.ensures.value refl))
+pub slice_bounds-listing-end : goal.slice_bounds-listing-end
+slice_bounds-listing-end g c = simp length-take (omega (arith, records-within _ _ _ _ _ c.in-Ok.ensures.value refl))
