@@ -79,6 +79,7 @@ fn body_at(b: &[u8], p: usize) -> &[u8]
 
 // The record's i-th part, from 0; no bytes where the record has none. The walk ends with the bytes, however great i is: from there on no
 // step moves it, and no part has bytes.
+#[inline(always)]
 pub fn part(b: &[u8], i: usize) -> &[u8]
     ensures { result.now ≡ part_of b.now i }
 {

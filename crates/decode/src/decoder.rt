@@ -1,5 +1,7 @@
 // The builder and the reader, as SszDecoderBuilder and SszDecoder of decode.rs have them: plain data by value, over lent bytes.
-ghost use Rattle.std.specs.Prelude.{◌≡◌, ◌+◌, ◌≤◌, ◌<◌, length};
+ghost use Rattle.std.specs.Prelude.{◌≡◌, ◌+◌, ◌≤◌, ◌<◌, length, get_or, MatchOption};
+ghost use Rattle.std.specs.declared.result.Result.TheVariants.{Ok, Err};
+ghost use Rattle.standard.specs.declared.Refusal.TheVariants.{BadState};
 ghost use Rattle.standard.specs.Types.{width};
 ghost use Rattle.decode.specs.Builder.{fresh};
 ghost use Rattle.decode.specs.Held.{new, start_of, end_of, put, zeros, recall, walk, arrived, recalled, Come, allowed, register_item, head_for};
@@ -126,7 +128,8 @@ impl SszDecoderBuilder {
         }
     }
 
-    // What a refusal gives back: the old state.
+    // What a refusal gives back: the old state. A call of its own: laid in, the state is copied on the good way too.
+    #[inline(never)]
     fn refused(self, refusal: Refusal) -> Refused<Self>
         ensures { result ≡ record { state = self; refusal = refusal } }
     {
@@ -234,22 +237,40 @@ impl SszDecoderBuilder {
 }
 
 impl SszDecoder {
-    // Whether bytes of this length have the item: past the last, or where its range is not one of theirs, it is 23.
+    // The two numbers of an entry. The record is copied for them, over a kilobyte: once, by the references, and not before it is known that
+    // there is an entry, by the function.
+    fn entry(self, index: usize) -> (usize, usize)
+        requires { index < 64 }
+        ensures { result ≡ (get_or self.starts index 0, get_or self.ends index 0) }
+    {
+        let starts = &self.starts;
+        let ends = &self.ends;
+        (starts[index], ends[index])
+    }
+
+    // Where the item starts and ends in bytes of this length; nowhere past the last, or where its range is not one of theirs.
     #[tactic(auto, unfolding(crate::specs::Reader::item_told_lem))]
+    fn range(self, index: usize, len: usize) -> Option<(usize, usize)>
+        ensures { MatchOption result (item_told_lem self index len ≡ Err BadState) (λ r. (item_told_lem self index len ≡ Ok tt) × (r ≡ (get_or self.starts index 0, get_or self.ends index 0))) }
+    {
+        if index >= self.count || index >= MAX_ITEMS {
+            return None;
+        }
+        let (start, end) = self.entry(index);
+        if end < start || end > len {
+            return None;
+        }
+        Some((start, end))
+    }
+
+    // Whether bytes of this length have the item: past the last, or where its range is not one of theirs, it is 23.
     pub fn item_told(self, index: usize, len: usize) -> Result<(), Refusal>
         ensures { result ≡ item_told_lem self index len }
     {
-        if index >= self.count || index >= MAX_ITEMS {
-            return Err(Refusal::BadState);
+        match self.range(index, len) {
+            Some(_) => Ok(()),
+            None => Err(Refusal::BadState),
         }
-        // The arrays as locals, here and in `item`: read out of `self`, the compiler copies the whole record first.
-        let starts = self.starts;
-        let ends = self.ends;
-        let end = ends[index];
-        if end < starts[index] || end > len {
-            return Err(Refusal::BadState);
-        }
-        Ok(())
     }
 
     // The item, as a part of the caller's own bytes; the empty part at their start where `item_told` refuses.
@@ -258,13 +279,9 @@ impl SszDecoder {
     pub fn item<'a>(self, index: usize, bytes: &'a [u8]) -> &'a [u8]
         ensures { result.now ≡ item_of self index bytes.now }
     {
-        match self.item_told(index, bytes.len()) {
-            Ok(()) => {
-                let starts = self.starts;
-                let ends = self.ends;
-                &bytes[starts[index]..ends[index]]
-            }
-            Err(_) => &bytes[..0],
+        match self.range(index, bytes.len()) {
+            Some((start, end)) => &bytes[start..end],
+            None => &bytes[..0],
         }
     }
 }

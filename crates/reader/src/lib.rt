@@ -1,7 +1,7 @@
 // A reader over the lent bytes, as SszDecoder of decode.rs of ethereum_ssz 0.10.4 is: it holds the bytes, where the items lie in them, and
 // the number of the next item. The source's name stands for the ranges themselves here, in crate `decode`. The functions over a reader
 // leave the work to `step_after` and `SszDecoder::item`. They are laid into their callers: as calls they copy the ranges, over a kilobyte,
-// several times.
+// several times. `unmoved` alone is a call: laid in, each good answer is copied number by number for the sake of the refusal.
 #![tactic(auto)]
 
 ghost use Rattle.std.specs.Prelude.{◌≡◌};
@@ -9,7 +9,7 @@ ghost use Rattle.decode.specs.Reader.{item_of};
 ghost use Rattle.reader.specs.Walked.{step_after_lem, reader_at, Decoded, item_next, reader_after};
 
 use decode::decoder::SszDecoder;
-use standard::Refused;
+use standard::{Refusal, Refused};
 
 #[derive(Clone, Copy, Debug, PartialEq, Eq)]
 pub struct SszReader<'a> {
@@ -52,6 +52,14 @@ pub fn new<'a>(bytes: &'a [u8], ranges: SszDecoder, next: usize) -> SszReader<'a
     }
 }
 
+// What a refusal gives back: the reader as it was.
+#[inline(never)]
+fn unmoved<'a>(r: SszReader<'a>, refusal: Refusal) -> Refused<SszReader<'a>>
+    ensures { result ≡ record { state = r.entry; refusal = refusal } }
+{
+    Refused { state: r, refusal }
+}
+
 // The next item and the reader that comes after it; past the last one 23, and the reader as it was.
 #[inline(always)]
 pub fn decode_next<'a>(r: SszReader<'a>) -> Result<Taken<'a>, Refused<SszReader<'a>>>
@@ -64,10 +72,18 @@ pub fn decode_next<'a>(r: SszReader<'a>) -> Result<Taken<'a>, Refused<SszReader<
             item: ranges.item(r.next, bytes),
             rest: new(bytes, ranges, next),
         }),
-        Err(refused) => Err(Refused {
-            state: r,
-            refusal: refused.refusal,
-        }),
+        Err(refused) => Err(unmoved(r, refused.refusal)),
+    }
+}
+
+// The next item; the empty part where there is none.
+#[inline(always)]
+fn next_item<'a>(r: SszReader<'a>) -> &'a [u8]
+    ensures { result.now ≡ item_next r.entry }
+{
+    match decode_next(r) {
+        Ok(taken) => taken.item,
+        Err(_) => &r.bytes[..0],
     }
 }
 
@@ -76,10 +92,7 @@ pub fn decode_next<'a>(r: SszReader<'a>) -> Result<Taken<'a>, Refused<SszReader<
 pub fn item_after<'a>(bytes: &'a [u8], ranges: SszDecoder, skip: usize) -> &'a [u8]
     ensures { result.now ≡ item_of ranges skip bytes.now }
 {
-    match decode_next(new(bytes, ranges, skip)) {
-        Ok(taken) => taken.item,
-        Err(_) => &bytes[..0],
-    }
+    next_item(new(bytes, ranges, skip))
 }
 
 // The item behind the one that is behind so many, by a reader that goes on: the second step is one of the reader that the first leaves.
@@ -87,12 +100,8 @@ pub fn item_after<'a>(bytes: &'a [u8], ranges: SszDecoder, skip: usize) -> &'a [
 pub fn item_then<'a>(bytes: &'a [u8], ranges: SszDecoder, skip: usize) -> &'a [u8]
     ensures { result.now ≡ item_next (reader_after (reader_at bytes.entry ranges skip)) }
 {
-    let rest = match decode_next(new(bytes, ranges, skip)) {
-        Ok(taken) => taken.rest,
-        Err(refused) => refused.state,
-    };
-    match decode_next(rest) {
-        Ok(taken) => taken.item,
-        Err(_) => &bytes[..0],
+    match decode_next(new(bytes, ranges, skip)) {
+        Ok(taken) => next_item(taken.rest),
+        Err(refused) => next_item(refused.state),
     }
 }

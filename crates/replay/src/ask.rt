@@ -1,4 +1,5 @@
-// A record's question put to the library.
+// A record's question put to the library. Each operation is marked as a call of its own: laid into one function, each would pay for the
+// room of all, and that of bitfields is cleared.
 use crate::bits::Operation;
 use crate::room::Room;
 use crate::{bits, builder, encoder, messages, offsets};

@@ -80,6 +80,7 @@ fn is_ran(case: Case<'_>, ran: Ran) -> bool {
 }
 
 // 50: bytes, registrations. How many were accepted, ranges. Both ways to register are asked.
+#[inline(never)]
 pub(crate) fn build(b: &[u8]) -> Option<bool> {
     let case = Case::new(b, 2, 2, 0)?;
     let bytes = case.part(0);
@@ -111,18 +112,21 @@ fn decoder_of(row: &[u8]) -> Option<SszDecoder> {
 }
 
 // 51: bytes, ranges, item number. The item.
+#[inline(never)]
 pub(crate) fn item(b: &[u8]) -> Option<bool> {
     let case = Case::new(b, 3, 1, 0)?;
     let bytes = case.part(0);
     let decoder = decoder_of(case.part(1))?;
     let index = case.number(2)?;
     let expected = case.value(0);
-    let answer = decoder.item_told(index, bytes.len());
-    let is_walked = match answer {
-        Ok(()) => walked::hands_out(decoder, index, bytes, expected),
-        Err(_) => walked::refuses(decoder, index, bytes, case.head()),
-    };
-    Some(is_walked && case.has(answer, |()| decoder.item(index, bytes) == expected))
+    Some(match decoder.item_told(index, bytes.len()) {
+        Ok(()) => {
+            case.is_fine()
+                && decoder.item(index, bytes) == expected
+                && walked::hands_out(decoder, index, bytes, expected)
+        }
+        Err(e) => case.is_refusal(e, 0) && walked::refuses(decoder, index, bytes, case.head()),
+    })
 }
 
 // The row's first 64 numbers.
@@ -146,16 +150,33 @@ fn builder_of(row: &[u8]) -> Option<SszDecoderBuilder> {
     })
 }
 
+// Whether these are the row's first numbers, as far as it goes.
+fn are_numbers(row: &[u8], numbers: &[usize; 64]) -> bool {
+    row.chunks_exact(8)
+        .zip(numbers)
+        .all(|(bytes, number)| number_at(bytes, 0) == *number)
+}
+
+// Whether the part is just this state: `builder_of`, without the copies.
+fn is_builder(row: &[u8], state: &SszDecoderBuilder) -> bool {
+    row.len() == BUILDER
+        && number_at(row, 0) == state.count
+        && number_at(row, 1) == state.pos
+        && are_numbers(&row[16..528], &state.starts)
+        && are_numbers(&row[528..], &state.ends)
+}
+
 // Whether a registration gives the expected state, beside a refusal the old one.
 fn is_registered(case: Case<'_>, answer: Registered) -> bool {
     let is_state = match answer {
-        Ok(state) => case.is_fine() && builder_of(case.value(0)) == Some(state),
-        Err(e) => case.is_refusal(e.refusal, 1) && builder_of(case.value(0)) == Some(e.state),
+        Ok(state) => case.is_fine() && is_builder(case.value(0), &state),
+        Err(e) => case.is_refusal(e.refusal, 1) && is_builder(case.value(0), &e.state),
     };
     is_state && case.value(1).is_empty()
 }
 
 // 52: bytes, state, registration or nothing for the end. State, ranges. Both ways to register are asked.
+#[inline(never)]
 pub(crate) fn builder(b: &[u8]) -> Option<bool> {
     let case = Case::new(b, 3, 2, 0)?;
     let bytes = case.part(0);

@@ -13,6 +13,7 @@ const FINE: Numbers = Numbers {
 };
 
 // The question's parts, the head, then the results: values, which a refusal does not have, and behind them the buffers that were lent.
+// Its functions are laid into the operations: where these know how many parts there are, a walk to a part is no loop.
 #[derive(Clone, Copy)]
 pub(crate) struct Case<'a> {
     record: &'a [u8],
@@ -23,6 +24,7 @@ pub(crate) struct Case<'a> {
 
 impl<'a> Case<'a> {
     // The record, where it has just so many parts of each.
+    #[inline(always)]
     pub(crate) fn new(
         record: &'a [u8],
         question: usize,
@@ -40,16 +42,19 @@ impl<'a> Case<'a> {
     }
 
     // The question's i-th part, from 0.
+    #[inline(always)]
     pub(crate) fn part(self, i: usize) -> &'a [u8] {
         part(self.record, i)
     }
 
     // The number that this part says.
+    #[inline(always)]
     pub(crate) fn number(self, i: usize) -> Option<usize> {
         number(self.part(i))
     }
 
     // The i-th expected value.
+    #[inline(always)]
     pub(crate) fn value(self, i: usize) -> &'a [u8]
         requires { i < 8 }
     {
@@ -57,6 +62,7 @@ impl<'a> Case<'a> {
     }
 
     // The i-th expected buffer.
+    #[inline(always)]
     pub(crate) fn buffer(self, i: usize) -> &'a [u8]
         requires { i < 8 }
     {
@@ -64,23 +70,32 @@ impl<'a> Case<'a> {
     }
 
     // The expected head.
+    #[inline(always)]
     pub(crate) fn head(self) -> &'a [u8] {
         part(self.record, self.question)
     }
 
     // Whether the expected head is that of a success.
+    #[inline(always)]
     pub(crate) fn is_fine(self) -> bool {
         head_matches(self.head(), FINE, 0, 0)
     }
 
     // Whether there are no expected values from the i-th on.
+    #[inline(always)]
     fn has_no_values(self, i: usize) -> bool
         requires { i < 8 }
     {
-        (i..self.values).all(|k| self.value(k).is_empty())
+        for k in i..self.values {
+            if !self.value(k).is_empty() {
+                return false;
+            }
+        }
+        true
     }
 
     // Whether the expected head is that of this refusal, and there are no values from the i-th on.
+    #[inline(always)]
     pub(crate) fn is_refusal<E: Into<Refusal>>(self, refusal: E, i: usize) -> bool
         requires { i < 8 }
     {
@@ -88,12 +103,14 @@ impl<'a> Case<'a> {
     }
 
     // The same of a message's refusal, which has the type and the start of its item; it has no values at all.
+    #[inline(always)]
     fn is_refusal_at(self, e: RefusedAt) -> bool {
         head_matches(self.head(), e.refusal.numbers(), e.type_number, e.start)
             && self.has_no_values(0)
     }
 
     // Whether the answer is the expected one: a success whose values are these, or a refusal, which has none.
+    #[inline(always)]
     pub(crate) fn has<T: Drop, E: Into<Refusal>, F: Fn(T) -> bool>(
         self,
         answer: Result<T, E>,
@@ -108,6 +125,7 @@ impl<'a> Case<'a> {
     }
 
     // The same of a message's answer.
+    #[inline(always)]
     pub(crate) fn has_at<T: Drop, F: Fn(T) -> bool>(
         self,
         answer: Result<T, RefusedAt>,

@@ -70,6 +70,7 @@ fn append_all(size: usize, items: &[u8], fixed: &mut [u8], variable: &mut [u8]) 
 
 // 60: fixed size, items, fixed buffer, variable buffer. How many items were accepted, whole length, fixed buffer, variable
 // buffer. The number accepted stands beside a refusal too.
+#[inline(never)]
 pub(crate) fn encode(b: &[u8], room: &mut Room) -> Option<bool> {
     let case = Case::new(b, 4, 2, 2)?;
     let fixed = lend(&mut room.first, case.part(2));
@@ -104,24 +105,27 @@ fn only_item(items: &[u8]) -> Option<Item<'_>> {
 }
 
 // 61: state, item or nothing for the end, fixed buffer, variable buffer. State, whole length, fixed buffer, variable buffer.
+#[inline(never)]
 pub(crate) fn encoder(b: &[u8], room: &mut Room) -> Option<bool> {
     let case = Case::new(b, 4, 2, 2)?;
     let state = encoder_of(case.part(0))?;
     let fixed = lend(&mut room.first, case.part(2));
     let variable = lend(&mut room.second, case.part(3));
     let is_answer = if case.part(1).is_empty() {
-        let answer = state.finalize(fixed, variable);
-        case.has(
-            answer,
-            |n| case.value(0).is_empty() && is_number(case.value(1), n),
-        )
+        match state.finalize(fixed, variable) {
+            Ok(n) => case.is_fine() && case.value(0).is_empty() && is_number(case.value(1), n),
+            Err(e) => case.is_refusal(e, 0),
+        }
     } else {
         let item = only_item(case.part(1))?;
-        let answer = state.append_parameterized(item.is_fixed, item.body, fixed, variable);
-        case.has(
-            answer,
-            |next| encoder_of(case.value(0)) == Some(next) && case.value(1).is_empty(),
-        )
+        match state.append_parameterized(item.is_fixed, item.body, fixed, variable) {
+            Ok(next) => {
+                case.is_fine()
+                    && encoder_of(case.value(0)) == Some(next)
+                    && case.value(1).is_empty()
+            }
+            Err(e) => case.is_refusal(e, 0),
+        }
     };
     Some(is_answer && *fixed == *case.buffer(0) && *variable == *case.buffer(1))
 }

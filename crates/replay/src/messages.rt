@@ -6,6 +6,7 @@ use crate::room::{Room, has_words, lend, lend_words};
 use cases::is_number;
 
 // 70: layout. Nothing but the head.
+#[inline(never)]
 pub(crate) fn layout_check(b: &[u8]) -> Option<bool> {
     let case = Case::new(b, 1, 0, 0)?;
     let answer = layout::layout_check(case.part(0));
@@ -13,6 +14,7 @@ pub(crate) fn layout_check(b: &[u8]) -> Option<bool> {
 }
 
 // 71: layout, message. Records, contents words, body bytes.
+#[inline(never)]
 pub(crate) fn check(b: &[u8]) -> Option<bool> {
     let case = Case::new(b, 2, 3, 0)?;
     let answer = message::check(case.part(0), case.part(1));
@@ -24,6 +26,7 @@ pub(crate) fn check(b: &[u8]) -> Option<bool> {
 }
 
 // 72: layout, message, buffer. Records, buffer.
+#[inline(never)]
 pub(crate) fn listing(b: &[u8], room: &mut Room) -> Option<bool> {
     let case = Case::new(b, 3, 1, 1)?;
     let records = lend(&mut room.first, case.part(2));
@@ -32,6 +35,7 @@ pub(crate) fn listing(b: &[u8], room: &mut Room) -> Option<bool> {
 }
 
 // 73: layout, message, contents buffer, bodies buffer. Contents words, body bytes, contents buffer, bodies buffer.
+#[inline(never)]
 pub(crate) fn unfolding(b: &[u8], room: &mut Room) -> Option<bool> {
     let case = Case::new(b, 4, 2, 2)?;
     let contents = lend_words(&mut room.words, case.part(2))?;
@@ -44,6 +48,7 @@ pub(crate) fn unfolding(b: &[u8], room: &mut Room) -> Option<bool> {
 }
 
 // 74: layout, contents, bodies, buffer. Length, buffer.
+#[inline(never)]
 pub(crate) fn writing(b: &[u8], room: &mut Room) -> Option<bool> {
     let case = Case::new(b, 4, 1, 1)?;
     let contents = lend_words(&mut room.words, case.part(1))?;

@@ -3,6 +3,7 @@ use crate::case::Case;
 use cases::{is_number, number};
 
 // 1: bytes. Offset.
+#[inline(never)]
 pub(crate) fn read_offset(b: &[u8]) -> Option<bool> {
     let case = Case::new(b, 1, 1, 0)?;
     let answer = decode::read_offset(case.part(0));
@@ -10,6 +11,7 @@ pub(crate) fn read_offset(b: &[u8]) -> Option<bool> {
 }
 
 // 2: length. Four bytes.
+#[inline(never)]
 pub(crate) fn encode_length(b: &[u8]) -> Option<bool> {
     let case = Case::new(b, 1, 1, 0)?;
     let answer = encode::encode_length(case.number(0)?);
@@ -26,6 +28,7 @@ fn optional(part: &[u8]) -> Option<Option<usize>> {
 }
 
 // 3: offset, previous offset or nothing, number of bytes, number of fixed bytes or nothing. Offset.
+#[inline(never)]
 pub(crate) fn sanitize_offset(b: &[u8]) -> Option<bool> {
     let case = Case::new(b, 4, 1, 0)?;
     let previous = optional(case.part(1))?;
@@ -35,6 +38,7 @@ pub(crate) fn sanitize_offset(b: &[u8]) -> Option<bool> {
 }
 
 // 4: bytes. Selector, body.
+#[inline(never)]
 pub(crate) fn split_union_bytes(b: &[u8]) -> Option<bool> {
     let case = Case::new(b, 1, 2, 0)?;
     let body = decode::union_body(case.part(0));
