@@ -237,8 +237,8 @@ impl SszDecoderBuilder {
 }
 
 impl SszDecoder {
-    // The two numbers of an entry. The record is copied for them, over a kilobyte: once, by the references, and not before it is known that
-    // there is an entry, by the function.
+    // The two numbers of an entry. To read them copies both arrays, a kilobyte: as a call by value, and by references, once, and only where
+    // there is an entry.
     fn entry(self, index: usize) -> (usize, usize)
         requires { index < 64 }
         ensures { result ≡ (get_or self.starts index 0, get_or self.ends index 0) }

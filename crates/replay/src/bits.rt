@@ -105,6 +105,19 @@ fn is_told(case: Case<'_>, answer: Result<bool, Refusal>) -> bool {
     }
 }
 
+// Asks a held bitfield, the first part of the question, which has so many parts.
+#[inline(never)]
+fn of_held<T: BitfieldBehaviour, F: Fn(Case<'_>, Bitfield<T>) -> Option<bool>>(
+    b: &[u8],
+    questions: usize,
+    is_answer: F,
+) -> Option<bool>
+    requires { (questions < 8) × F.IsAlwaysCallable is_answer }
+{
+    let case = Case::new(b, questions, 1, 0)?;
+    is_answer(case, held(case.part(0))?)
+}
+
 // 10: bits, N. Held.
 #[inline(never)]
 pub(crate) fn with_capacity(b: &[u8]) -> Option<bool> {
@@ -116,19 +129,17 @@ pub(crate) fn with_capacity(b: &[u8]) -> Option<bool> {
 }
 
 // 16: held, M. Held.
-#[inline(never)]
 pub(crate) fn resize(b: &[u8]) -> Option<bool> {
-    let case = Case::new(b, 2, 1, 0)?;
-    let field: BitList = held(case.part(0))?;
-    Some(is_changed(case, field.resize(case.number(1)?)))
+    of_held(b, 2, |case, field: BitList| {
+        Some(is_changed(case, field.resize(case.number(1)?)))
+    })
 }
 
 // 17: held. Held.
-#[inline(never)]
 pub(crate) fn clone_zeroed(b: &[u8]) -> Option<bool> {
-    let case = Case::new(b, 1, 1, 0)?;
-    let field: BitList = held(case.part(0))?;
-    Some(is_changed(case, field.clone_zeroed()))
+    of_held(b, 1, |case, field: BitList| {
+        Some(is_changed(case, field.clone_zeroed()))
+    })
 }
 
 // 30: N. Held.
@@ -163,19 +174,6 @@ pub(crate) fn into_bytes<
     let out = lend(&mut room.first, case.part(1));
     let answer = write(field, out);
     Some(case.has(answer, |n| is_number(case.value(0), n)) && *out == *case.buffer(0))
-}
-
-// Asks a held bitfield, the first part of the question, which has so many parts.
-#[inline(never)]
-fn of_held<T: BitfieldBehaviour, F: Fn(Case<'_>, Bitfield<T>) -> Option<bool>>(
-    b: &[u8],
-    questions: usize,
-    is_answer: F,
-) -> Option<bool>
-    requires { (questions < 8) × F.IsAlwaysCallable is_answer }
-{
-    let case = Case::new(b, questions, 1, 0)?;
-    is_answer(case, held(case.part(0))?)
 }
 
 // 13, 14, 15, 23: held, held. 18: held, i, 0 or 1. 19, 25: held, number. 20, 21, 22, 24: held. Those that change a bitfield of the
